@@ -15,7 +15,7 @@ use Rattle.run_rules.specs.Respanned.{decls_with}
 use Rattle.run_rules.specs.Sites.{MarkRef, Where, Site, part_span, where_is}
 use Rattle.run_rules.specs.Steps.{At, same_here, change_nth}
 use Rattle.run_rules.specs.Run.{Standing, Logged, Next, here_of, origin_of}
-use Rattle.run_rules.proofs.SpliceLaws.RunLaws.FoundSpans.{Placed}
+use Rattle.order_runs.proofs.FoundSpans.{Placed}
 use Rattle.constant_steps.specs.StepLaws.DeclStands.{changed}
 use Rattle.order_runs.specs.CycleRuns.StepCycles.PackagesAlike.{import_key}
 use Rattle.order_runs.proofs.CycleRuns.StepCycles.StepAlike.{one-changed, both-changed}

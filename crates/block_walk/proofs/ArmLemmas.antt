@@ -24,7 +24,7 @@ use Rattle.operand_modes.specs.OperandAnswers.Known.{Stands}
 use Rattle.operand_modes.proofs.OperandAnswers.KeptLemmas.{keeps_on, keeps_self}
 use Rattle.control_steps.specs.declared.returns.Body.{Body}
 use Rattle.control_steps.specs.LocalBlocks.Places.{IsPlace, IsWithin}
-use Rattle.assignment_steps.proofs.DeclaredBlocks.BlockLemmas.{within_on, within_self}
+use Rattle.statement_walk.proofs.BlockLemmas.{within_on, within_self}
 use Rattle.jump_rules.specs.declared.around.Around.{Around}
 use Rattle.jump_rules.specs.declared.used_locals.pending.PendingName.{PendingName}
 use Rattle.jump_rules.specs.UsedLocals.Used.{Used, and_names}
@@ -37,7 +37,7 @@ use Rattle.block_walk.specs.declared.arms.OpenArm.{OpenArm}
 use Rattle.block_walk.specs.Answers.{GivesEnds, GivesLeft, GivesTest, IsBodyPlace, StaysAround, behind}
 use Rattle.block_walk.specs.Arms.{ArmValue, ArmsRead, AreArmsRead, AreOpen, none_open, one_open, GivesArm, GivesOpen, IsArm, arm_before, arms_onto, if_answer, innermost_first, opened}
 use Rattle.block_walk.specs.Walked.{AreWalkedArms, AreWalkedStmts, IsHeader, size_arms, size_stmts}
-use Rattle.expr_walk.specs.Walked as expression
+use Rattle.statement_walk.specs.Walked as expression
 use Rattle.block_walk.proofs.EndLemmas.{left_none, none_only}
 use Rattle.block_walk.proofs.LoopLemmas.{header_declares, two_tests, used_then}
 use Rattle.block_walk.proofs.PlaceSteps.{there_in}

@@ -25,7 +25,7 @@ use Rattle.operand_modes.specs.OperandAnswers.Known.{Stands}
 use Rattle.operand_modes.proofs.OperandAnswers.KeptLemmas.{keeps_on, keeps_self}
 use Rattle.control_steps.specs.declared.returns.Body.{Body}
 use Rattle.control_steps.specs.LocalBlocks.Places.{IsWithin}
-use Rattle.assignment_steps.proofs.DeclaredBlocks.BlockLemmas.{within_on, within_self}
+use Rattle.statement_walk.proofs.BlockLemmas.{within_on, within_self}
 use Rattle.jump_rules.specs.declared.around.Around.{Around}
 use Rattle.jump_rules.specs.declared.used_locals.pending.PendingName.{PendingName}
 use Rattle.jump_rules.specs.UsedLocals.Used.{Used, and_names}

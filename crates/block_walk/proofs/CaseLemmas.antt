@@ -37,14 +37,14 @@ use Rattle.control_steps.specs.RightSides.Values.{AreValuesIfOk, GivesValuesAlik
 use Rattle.control_steps.specs.SwitchSteps.Tags.{as_operand}
 use Rattle.control_steps.proofs.LocalBlocks.PlaceLemmas.{places_are_environments}
 use Rattle.control_steps.proofs.LocalBlocks.SeenNames.{all_seen, bound_seen}
-use Rattle.expr_walk.proofs.WalkArms.ExprArms.{at}
+use Rattle.statement_walk.proofs.ExprArms.{at}
 use Rattle.jump_rules.specs.declared.around.Around.{Around}
 use Rattle.jump_rules.specs.declared.used_locals.pending.PendingName.{PendingName}
 use Rattle.jump_rules.specs.UsedLocals.Used.{Used, and_names}
 use Rattle.jump_rules.specs.UsedLocals.Walked.{IsWalked}
 use Rattle.jump_rules.proofs.UsedLocals.ScopeLaws.{blocks_begin}
 use Rattle.jump_rules.proofs.UsedLocals.UsedLemmas.{names_append}
-use Rattle.expr_walk.specs.Walked.{AreAllWalked}
+use Rattle.statement_walk.specs.Walked.{AreAllWalked}
 use Rattle.statement_walk.specs.declared.range_steps.case_steps.seen.CasesSeen.{CasesSeen}
 use Rattle.statement_walk.specs.RangeSteps.CaseSteps.Cases.{choice_after, with_case}
 use Rattle.statement_walk.proofs.RangeSteps.CaseSteps.ValueLemmas.{values_alike, values_kept}

@@ -21,7 +21,7 @@ use Rattle.operand_modes.specs.CheckerTables.Ready.{Keeps}
 use Rattle.control_steps.specs.LocalBlocks.Places.{IsPlace}
 use Rattle.control_steps.proofs.LocalBlocks.PlaceLemmas.{places_are_environments}
 use Rattle.control_steps.proofs.LocalBlocks.SeenNames.{parts_seen}
-use Rattle.expr_walk.proofs.WalkArms.ExprArms.{at}
+use Rattle.statement_walk.proofs.ExprArms.{at}
 use Rattle.jump_rules.specs.declared.used_locals.pending.PendingName.{PendingName}
 use Rattle.jump_rules.specs.UsedLocals.Used.{Used}
 use Rattle.statement_walk.specs.SimpleWalk.Simple.{IsSimple}

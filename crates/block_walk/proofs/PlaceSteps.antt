@@ -17,8 +17,8 @@ use Rattle.control_steps.specs.LocalBlocks.Places.{IsPlace}
 use Rattle.control_steps.proofs.LocalBlocks.PlaceLemmas.{blocks_begin, places_are_environments}
 use Rattle.jump_rules.specs.declared.around.Around.{Around}
 use Rattle.jump_rules.specs.Labels.{IsAround}
-use Rattle.expr_walk.specs.Walked.{IsWalked}
-use Rattle.expr_walk.proofs.WalkArms.ExprArms.{at}
+use Rattle.statement_walk.specs.Walked.{IsWalked}
+use Rattle.statement_walk.proofs.ExprArms.{at}
 use Rattle.statement_walk.proofs.SimpleWalk.ConstantGroups.MemberLemmas.{place_kept}
 use Rattle.statement_walk.proofs.SimpleWalk.SimpleLemmas.{body_kept}
 use Rattle.statement_walk.proofs.SeenUses.{used_seen}

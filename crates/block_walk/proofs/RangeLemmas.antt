@@ -28,12 +28,12 @@ use Rattle.control_steps.specs.LocalBlocks.Places.{IsPlace, in_block_of}
 use Rattle.control_steps.proofs.LocalBlocks.PlaceLemmas.{places_are_environments}
 use Rattle.control_steps.proofs.LocalBlocks.SeenNames.{parts_seen}
 use Rattle.go_tree.specs.declared.const_eval.consts.Const.{Const}
-use Rattle.assignment_steps.specs.SpecSteps.Specs.{GivesVariables}
-use Rattle.assignment_steps.specs.declared.targets.TargetList.{TargetList}
-use Rattle.assignment_steps.specs.Targets.{AreTargetsIfOk, GivesTargets}
-use Rattle.expr_walk.specs.Walked.{AreAllWalked}
-use Rattle.expr_walk.specs.Walked as expression
-use Rattle.expr_walk.proofs.WalkArms.ExprArms.{at}
+use Rattle.statement_walk.specs.Specs.{GivesVariables}
+use Rattle.statement_walk.specs.TargetList.{TargetList}
+use Rattle.statement_walk.specs.Targets.{AreTargetsIfOk, GivesTargets}
+use Rattle.statement_walk.specs.Walked.{AreAllWalked}
+use Rattle.statement_walk.specs.Walked as expression
+use Rattle.statement_walk.proofs.ExprArms.{at}
 use Rattle.statement_walk.proofs.SimpleWalk.ConstantGroups.MemberLemmas.{place_kept}
 use Rattle.statement_walk.proofs.SimpleWalk.SeenStatements.{targets_seen}
 use Rattle.jump_rules.specs.declared.used_locals.pending.PendingName.{PendingName}

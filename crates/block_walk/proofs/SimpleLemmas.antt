@@ -15,13 +15,13 @@ use Rattle.type_table.specs.declared.operand_rules.values.Refusal.TheVariants.{N
 use Rattle.operand_modes.specs.declared.checker_tables.tables.Tables.{Tables}
 use Rattle.operand_modes.specs.CheckerTables.Ready.{Keeps}
 use Rattle.operand_modes.specs.OperandAnswers.Known.{Stands}
-use Rattle.assignment_steps.proofs.DeclaredBlocks.BlockLemmas.{within_self}
+use Rattle.statement_walk.proofs.BlockLemmas.{within_self}
 use Rattle.control_steps.specs.declared.returns.Body.{Body}
 use Rattle.control_steps.specs.Ends.{EndsAs}
 use Rattle.control_steps.specs.LocalBlocks.Places.{IsPlace, IsWithin, in_block_of}
 use Rattle.control_steps.proofs.LocalBlocks.PlaceLemmas.{places_are_environments}
-use Rattle.expr_walk.specs.Walked.{AreAllWalked, IsWalked}
-use Rattle.expr_walk.proofs.WalkArms.ExprArms.{at}
+use Rattle.statement_walk.specs.Walked.{AreAllWalked, IsWalked}
+use Rattle.statement_walk.proofs.ExprArms.{at}
 use Rattle.jump_rules.specs.declared.around.Around.{Around}
 use Rattle.jump_rules.specs.declared.used_locals.pending.PendingName.{PendingName}
 use Rattle.jump_rules.specs.UsedLocals.Used.{Used, and_names}

@@ -1,3 +1,4 @@
+pub use Rattle.statement_walk.specs.Walked as ExprWalkWalked
 pub mod Walked
 pub mod Answers
 pub mod Headers

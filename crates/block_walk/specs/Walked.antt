@@ -5,7 +5,7 @@ use Rattle.go_tree.specs.Tree.{Expr, ident, Stmt, const_decl, var_decl, define, 
 use Rattle.go_tree.specs.Tree.{Stmts, no_stmts, stmt_and, StmtOption, no_stmt, some_stmt, BlockOption, no_block}
 use Rattle.go_tree.specs.Tree.{some_block, Arms, no_arms, arm, RangeLeft, nothing, assigns, defines, Cases, no_cases}
 use Rattle.go_tree.specs.Tree.{case}
-use Rattle.expr_walk.specs.Walked.{AreAllWalked, IsWalked, IsWalkedOption}
+use Rattle.statement_walk.specs.Walked.{AreAllWalked, IsWalked, IsWalkedOption}
 use Rattle.statement_walk.specs.SimpleWalk.Simple.{IsSimple}
 use Rattle.statement_walk.specs.SimpleWalk.ConstantGroups.Groups.{AreWalkedSpecs}
 

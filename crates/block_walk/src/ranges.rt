@@ -9,7 +9,7 @@ ghost use Rattle.go_tree.specs.GoTypes.Typing as go;
 ghost use Rattle.operand_modes.specs.CheckerTables.Ready.{Keeps};
 ghost use Rattle.operand_modes.specs.OperandAnswers.Known.{Stands};
 ghost use Rattle.control_steps.specs.LocalBlocks.Places.{IsPlace, IsWithin};
-ghost use Rattle.expr_walk.specs.Walked.{AreAllWalked, IsWalked};
+ghost use Rattle.statement_walk.specs.Walked.{AreAllWalked, IsWalked};
 ghost use Rattle.jump_rules.specs.declared.used_locals.pending.PendingName.{PendingName};
 ghost use Rattle.jump_rules.specs.UsedLocals.Used.{used_of};
 ghost use Rattle.statement_walk.specs.Parts.{AreHere, GivesRead};
@@ -17,13 +17,13 @@ ghost use Rattle.block_walk.specs.Ranges.{range_clause};
 ghost use Rattle.block_walk.specs.Walked.{IsWalkedLeft};
 
 use crate::simple_uses::use_left;
-use assignment_steps::declare_entities;
 use control_steps::LocalBlock;
-use expr_walk::expr;
 use go_tree::{Expr, ExprList, NameAtList, RangeLeft};
 use jump_rules::{PendingNames, UsedNames};
 use operand_modes::checker_tables::Tables;
-use statement_walk::{assigns, range_variables, ranges_over, targets, use_expr};
+use statement_walk::{
+    assigns, declare_entities, expr, range_variables, ranges_over, targets, use_expr,
+};
 use std::alloc::Global;
 use type_table::operand_rules::Refusal;
 use typed_names::{Blocks, Scope};

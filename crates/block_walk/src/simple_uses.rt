@@ -7,7 +7,7 @@ ghost use Rattle.go_tree.specs.GoTypes.Typing as go;
 ghost use Rattle.typed_names.specs.Scopes.{env_at};
 ghost use Rattle.operand_modes.specs.CheckerTables.Ready.{Keeps};
 ghost use Rattle.operand_modes.specs.OperandAnswers.Known.{Stands};
-ghost use Rattle.expr_walk.specs.Walked.{AreAllWalked, IsWalked};
+ghost use Rattle.statement_walk.specs.Walked.{AreAllWalked, IsWalked};
 ghost use Rattle.jump_rules.specs.UsedLocals.Used.{and_names, used_of};
 ghost use Rattle.statement_walk.specs.SimpleWalk.Simple.{IsSimple};
 ghost use Rattle.block_walk.specs.Answers.{side_uses, target_uses};

@@ -15,7 +15,7 @@ ghost use Rattle.operator_rules.specs.AccessRules.Functions.{AreTypes};
 ghost use Rattle.operand_modes.specs.CheckerTables.Ready.{Keeps};
 ghost use Rattle.operand_modes.specs.OperandAnswers.Known.{Stands};
 ghost use Rattle.control_steps.specs.RightSides.Values.{SameValue};
-ghost use Rattle.expr_walk.specs.Walked.{AreAllWalked, IsWalkedOption};
+ghost use Rattle.statement_walk.specs.Walked.{AreAllWalked, IsWalkedOption};
 ghost use Rattle.jump_rules.specs.UsedLocals.Used.{and_names, used_of};
 ghost use Rattle.block_walk.specs.Answers.{GivesEnds, IsBodyPlace, StaysAround};
 ghost use Rattle.block_walk.specs.Cases.{GivesCase, GivesTag, IsTagIfOk};

@@ -22,7 +22,7 @@ use Rattle.operand_modes.specs.declared.checker_tables.tables.Tables.{Tables}
 use Rattle.operand_modes.specs.CheckerTables.Ready.{AreReady, Keeps}
 use Rattle.operand_modes.specs.OperandAnswers.Known.{Stands}
 use Rattle.operand_modes.proofs.OperandAnswers.KeptLemmas.{env_kept, keeps_on, keeps_self}
-use Rattle.initial_values.specs.ValueBlocks.Values.{AreThere}
+use Rattle.collected.specs.Values.{AreThere}
 use Rattle.printing_files.specs.Decls.{is_plain, is_printer}
 use Rattle.checked_modules.specs.RefusedBodies.Functions.{first_function, function_in}
 use Rattle.checked_modules.specs.RefusedBodies.Worlds.{FindsTheSame}

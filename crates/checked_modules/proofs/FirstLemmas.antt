@@ -23,7 +23,7 @@ use Rattle.declared_types.specs.Members.{SameMembers}
 use Rattle.declared_types.proofs.Found.{member_read}
 use Rattle.package_blocks.specs.Imports.{views}
 use Rattle.package_blocks.proofs.HeaderLemmas.{append_none, map_append}
-use Rattle.header_order.specs.FirstRefusals.Laws.{bodies_before}
+use Rattle.collected.specs.Laws.{bodies_before}
 use Rattle.checked_modules.specs.RefusedBodies.Functions.{first_function, first_of_files, place_in}
 use Rattle.checked_modules.specs.RefusedBodies.Laws.{FirstBodiesByFiles}
 use Rattle.checked_modules.specs.FilePlaces.Around.{all_around, files_around}

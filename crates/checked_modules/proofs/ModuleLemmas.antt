@@ -25,9 +25,9 @@ use Rattle.declared_types.proofs.Found.{world_kept}
 use Rattle.package_blocks.specs.FuncHeaders.NameRoles.{SameTypes}
 use Rattle.package_blocks.proofs.FuncHeaders.MethodsAside.{methods_aside}
 use Rattle.package_blocks.proofs.FuncHeaders.SameTypeLaws.{types_on}
-use Rattle.header_order.specs.Files.{NumbersApart}
-use Rattle.header_order.specs.FirstRefusals.Declarations.{refused_declaration}
-use Rattle.header_order.specs.FirstRefusals.Laws.{BodiesComeAfter}
+use Rattle.collected.specs.Files.{NumbersApart}
+use Rattle.collected.specs.Declarations.{refused_declaration}
+use Rattle.collected.specs.Laws.{BodiesComeAfter}
 use Rattle.collected.specs.Collected.{AreDeclarations}
 use Rattle.collected.specs.declared.declarations.Collected.{Collected}
 use Rattle.printing_files.specs.Decls.{is_plain}

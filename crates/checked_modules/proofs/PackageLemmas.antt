@@ -10,10 +10,10 @@ use Rattle.go_tree.specs.Tree.{no_exprs}
 use Rattle.go_tree.specs.GoTypes.Entities.{World}
 use Rattle.go_tree.specs.GoTypes.Programs.{SourceFile, SourcePackage, Program, Headed, constants, block_names, file_block, headed}
 use Rattle.typed_in_place.specs.ProgramsAlike.{OneByOne, no_more, and_more}
-use Rattle.header_order.specs.Files.{NumbersApart}
-use Rattle.header_order.specs.FirstImports.Firsts.{AllUsed}
-use Rattle.header_order.specs.FirstRefusals.Files.{file_numbers, files_from}
-use Rattle.header_order.specs.RefusedImports.Laws.{HasPackage, UsesAreOfFiles}
+use Rattle.collected.specs.Files.{NumbersApart}
+use Rattle.collected.specs.Firsts.{AllUsed}
+use Rattle.collected.specs.FirstRefusalsFiles.{file_numbers, files_from}
+use Rattle.collected.specs.RefusedImportsLaws.{HasPackage, UsesAreOfFiles}
 use Rattle.checked_modules.specs.FilePlaces.Around.{FileAround, all_around, files_around}
 use Rattle.checked_modules.specs.Uses.{AreUsesOf}
 

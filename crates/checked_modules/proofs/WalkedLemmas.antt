@@ -8,7 +8,7 @@ use Rattle.go_tree.specs.Tree.{Expr, ident, int_lit, selector, call, Exprs, no_e
 use Rattle.go_tree.specs.File.{Func}
 use Rattle.go_tree.specs.ConstEval.Literals.{integer_value}
 use Rattle.type_table.specs.OperandRules.Folding.{is_literal_kind}
-use Rattle.expr_walk.specs.Walked.{AreAllWalked, IsLiteralOf, IsWalked}
+use Rattle.block_walk.specs.ExprWalkWalked.{AreAllWalked, IsLiteralOf, IsWalked}
 use Rattle.block_walk.specs.Walked.{AreWalkedStmts, IsWalkedStmt}
 use Rattle.go_tree.specs.ConstEval.Exact.{number}
 use Rattle.printing_files.specs.Decls.{are_printing, is_function, is_nothing, is_printer, is_printing}

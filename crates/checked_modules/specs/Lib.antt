@@ -1,3 +1,6 @@
+pub use Rattle.collected.specs.RefusedPlace
+pub use Rattle.collected.specs.Declarations
+pub use Rattle.collected.specs.ValueHeaders.SpelledDecls
 pub mod Bodies
 pub mod Uses
 pub mod Firsts

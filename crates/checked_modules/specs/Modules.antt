@@ -11,9 +11,9 @@ use Rattle.package_blocks.specs.declared.headers.PackageHeader.{PackageHeader}
 use Rattle.package_blocks.specs.Headers.{AreHeaders, listed_of}
 use Rattle.package_blocks.specs.FuncHeaders.NameRoles.{SameTypes}
 use Rattle.package_blocks.specs.FuncHeaders.Functions.{program_of}
-use Rattle.header_order.specs.declared.kinds.RefusedHeaders.{RefusedHeaders}
-use Rattle.header_order.specs.Kinds.{AreRefused}
-use Rattle.header_order.specs.FirstImports.Firsts.{HaveNames}
+use Rattle.collected.specs.RefusedHeaders.{RefusedHeaders}
+use Rattle.collected.specs.Kinds.{AreRefused}
+use Rattle.collected.specs.Firsts.{HaveNames}
 use Rattle.checked_modules.specs.declared.file_places.files.FilePlace.{FilePlace}
 use Rattle.checked_modules.specs.FilePlaces.Around.{all_around}
 use Rattle.checked_modules.specs.FilePlaces.Places.{AreFiles}

@@ -6,7 +6,7 @@ ghost use Rattle.go_tree.specs.FileView.{decl_of, func_of};
 ghost use Rattle.typed_names.specs.Scopes.{env_at};
 ghost use Rattle.operand_modes.specs.CheckerTables.Ready.{AreReady, Keeps};
 ghost use Rattle.operand_modes.specs.OperandAnswers.Known.{Stands};
-ghost use Rattle.initial_values.specs.ValueBlocks.Values.{AreThere};
+ghost use Rattle.collected.specs.Values.{AreThere};
 ghost use Rattle.printing_files.specs.Decls.{is_plain, is_printer};
 ghost use Rattle.file_names.specs.Imports.{FindsPackages};
 ghost use Rattle.checked_modules.specs.Bodies.{ArePlain, FindsAll, FindsIn, FindsThere, first_decl, is_typed_at};

@@ -9,13 +9,13 @@ ghost use Rattle.pkg_graph.specs.declared.packages.Package.{Package as Home};
 ghost use Rattle.type_table.specs.TypeRelations.Environment.{Environment};
 ghost use Rattle.typed_names.specs.Meanings.{world_at};
 ghost use Rattle.declared_types.specs.Members.{SameMembers};
-ghost use Rattle.header_order.specs.FirstRefusals.Declarations.{refusal_of};
+ghost use Rattle.collected.specs.Declarations.{refusal_of};
 ghost use Rattle.checked_modules.specs.FilePlaces.Programs.{package_at, program_at};
 ghost use Rattle.checked_modules.specs.Firsts.{bodies_of, file_count, first_place, is_function, lacks_function};
 ghost use Rattle.checked_modules.specs.Firsts.{package_of, place_in_packages};
 
+use collected::RefusedPlace;
 use go_tree::{Name, Span};
-use header_order::RefusedPlace;
 use pkg_graph::{Package, SourceTree};
 use typed_names::{Blocks, Entity};
 

@@ -10,4 +10,5 @@ mod modules;
 pub mod refused_bodies;
 mod uses;
 
+pub use collected::{RefusedPlace, read_values_are_spelled};
 pub use modules::first_refused;

@@ -7,7 +7,7 @@ ghost use Rattle.package_blocks.specs.Collected.{AreOrdered};
 ghost use Rattle.package_blocks.specs.Imports.{views};
 ghost use Rattle.package_blocks.specs.FuncHeaders.Functions.{program_of};
 ghost use Rattle.operand_modes.specs.CheckerTables.Ready.{AreReady};
-ghost use Rattle.header_order.specs.FirstRefusals.Declarations.{refusal_of, refused_declaration};
+ghost use Rattle.collected.specs.Declarations.{refusal_of, refused_declaration};
 ghost use Rattle.collected.specs.ValueHeaders.SpelledDecls.{PackagesAreSpelled};
 ghost use Rattle.checked_modules.specs.RefusedBodies.PrintedPackages.Packages.{print_only};
 ghost use Rattle.checked_modules.specs.Modules.{AreKnown};
@@ -17,12 +17,11 @@ use crate::file_places::{FilePlace, file_places};
 use crate::firsts::first_of_packages;
 use crate::refused_bodies::{first_bodies_by_files, tables_tell_of_printers};
 use crate::uses::names_used;
-use collected::{Collected, collect};
-use go_tree::NoMemory;
-use header_order::{
-    RefusedHeaders, RefusedPlace, blocks_have_names, bodies_come_after, counts_of_modules,
-    first_refused_declaration, first_refused_imports, uses_are_of_files,
+use collected::{
+    Collected, RefusedHeaders, RefusedPlace, blocks_have_names, bodies_come_after, collect,
+    counts_of_modules, first_refused_declaration, first_refused_imports, uses_are_of_files,
 };
+use go_tree::NoMemory;
 use operand_modes::checker_tables::Tables;
 use package_blocks::PackageHeader;
 use pkg_graph::{Package, one_order_at_most};

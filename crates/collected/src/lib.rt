@@ -11,5 +11,11 @@ mod types;
 mod value_headers;
 
 pub use declarations::{Collected, collect};
+pub use header_order::{
+    RefusedHeaders, RefusedPlace, blocks_have_names, bodies_come_after, counts_of_modules,
+    first_refused_declaration, first_refused_headers, first_refused_imports, headers_by_files,
+    uses_are_of_files,
+};
+pub use initial_values::value_place;
 pub use package_values::{DeclaredValues, declare_values};
 pub use value_headers::{declare_header, is_value, read_values_are_spelled};

@@ -23,10 +23,9 @@ ghost use Rattle.collected.specs.Types.{NothingIsKnown, TypesAreFound};
 
 use declared_types::{TypeHeader, find_aliases};
 use defined_types::types_declared;
-use finite_types::{TypeTests, refuse_types};
+use finite_types::{TypeTests, define_types, refuse_types};
 use go_tree::NoMemory;
 use header_order::refused_types;
-use named_types::define_types;
 use operand_modes::checker_tables::Tables;
 use operator_rules::BasicTypes;
 use package_blocks::{PackageHeader, type_headers};

@@ -18,9 +18,8 @@ ghost use Rattle.run_rules.specs.Texts.{FileText};
 ghost use Rattle.constant_edits.specs.Edits.{added_by, blank_told, edit_told, first_word, name_text};
 ghost use Rattle.constant_edits.specs.Edits.{IsFormEdit, IsStep};
 
-use constant_forms::{ConstantForm, NamedPackage};
+use constant_forms::{ConstantForm, NamedPackage, settle_scanned};
 use go_tree::{Comment, FileTree, MAX_FILE_BYTES, Name, NoMemory, Span, Text, Token};
-use import_edit::settle_scanned;
 use run_rules::import_rules::NewImport;
 use std::alloc::Global;
 use text_edits::{Edit, Edits};

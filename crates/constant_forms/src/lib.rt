@@ -7,6 +7,7 @@ mod packages;
 mod reduced;
 mod uses;
 
+pub use import_edit::settle_scanned;
 pub use obstacles::Obstacle;
 pub use packages::NamedPackage;
 pub use reduced::{ConstantForm, ReducedConstant, reduced_constant};

@@ -20,7 +20,7 @@ use Rattle.go_tree.specs.GoTypes.Programs.{spec_of, Header, Headed, header_names
 use Rattle.go_tree.specs.GoTypes.Collect.{type_entity, spec_type, alias_entity, refused_world, aliased_world}
 use Rattle.type_table.specs.TypeRelations.Environment as types
 use Rattle.type_table.specs.TypeRelations.Environment.{env_type}
-use Rattle.universe_block.specs.declared.block.PredeclaredEntity.TheVariants as predeclared
+use Rattle.typed_names.specs.PredeclaredEntity.TheVariants as predeclared
 use Rattle.typed_names.specs.declared.entities.Entity.{Entity}
 use Rattle.typed_names.specs.declared.entities.Entity.TheVariants.{Variable, Constant, TypeName, Function, Package, Predeclared, Refused}
 use Rattle.typed_names.specs.declared.scopes.Scope.{Scope}

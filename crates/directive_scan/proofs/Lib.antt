@@ -1,3 +1,5 @@
+pub use Rattle.go_scan.proofs.PieceLemmas
+pub use Rattle.go_scan.proofs.Cuts
 mod MarkChecks
 pub mod AroundLaws
 pub mod LineLaws

@@ -23,9 +23,9 @@ use Rattle.type_table.proofs.ComparableTypes.FlagLaws.{all_mapped, got_flag, set
 use Rattle.type_table.proofs.ComparableTypes.NamesEnd.{and_both}
 use Rattle.defined_types.specs.declared.declared.DeclaredType.{DeclaredType}
 use Rattle.defined_types.specs.DeclaredTypes.{AreDeclared, declared_of}
-use Rattle.value_rounds.specs.UnderlyingTypes.Chains as number
-use Rattle.value_rounds.specs.UnderlyingTypes.Chains.{under_number}
-use Rattle.value_rounds.proofs.UnderlyingTypes.ChainLaws.{under_by_number}
+use Rattle.named_types.specs.Chains as number
+use Rattle.named_types.specs.Chains.{under_number}
+use Rattle.named_types.proofs.ChainLaws.{under_by_number}
 use Rattle.named_types.specs.Steps.{number_at}
 use Rattle.named_types.proofs.ChainSteps as chain
 use Rattle.finite_types.specs.Finite.{AreFinite, is_finite_at}

@@ -21,7 +21,7 @@ use Rattle.fix_run.specs.PlannedModules.Folders.{AreFolder, AreOfFolder, ascend}
 use Rattle.fix_run.specs.PlannedModules.Laws.{ListedFilesAreFolders}
 use Rattle.fix_run.proofs.PlannedModules.Folders.{and_both, both}
 use Rattle.run_rules.specs.Inlining.{are_by_path}
-use Rattle.run_rules.specs.SpliceLaws.ImportSplices.AddedFile.{is_byte}
+use Rattle.splice_laws.specs.ImportSplices.AddedFile.{is_byte}
 use Rattle.source_files.specs.declared.files.SourceFile.{SourceFile}
 use Rattle.fix_run.specs.Files.{folder_of, source_of}
 use Rattle.fix_run.proofs.ReadLemmas.{numbered_file, sources_are, sources_from}

@@ -1,3 +1,9 @@
+pub use Rattle.go_read.specs.SpellsWeight
+pub use Rattle.go_read.specs.SpellsTypes
+pub use Rattle.go_read.specs.SpellsSpans
+pub use Rattle.go_read.specs.SpellsFiles
+pub use Rattle.go_read.specs.Reading
+pub use Rattle.go_read.specs.Goals
 pub mod Layouts
 pub mod TypeLayout
 pub mod Parens

@@ -11,8 +11,8 @@ use Rattle.run_rules.specs.declared.import_rules.new_import.NewImport.{NewImport
 use Rattle.run_rules.specs.ImportRules.Laid.{Laid}
 use Rattle.run_rules.specs.ImportRules.Settled.{settled}
 use Rattle.run_rules.proofs.ImportRules.SettledOrder.{settled_within}
-use Rattle.run_rules.specs.SpliceLaws.ImportSplices.ImportPlaces.ReadFiles.{SpellsImportsOf, ReadsImportsOf}
-use Rattle.run_rules.proofs.SpliceLaws.ImportSplices.ImportPlaces.FilesLaid.{imports_laid}
+use Rattle.splice_laws.specs.ImportSplices.ImportPlaces.ReadFiles.{SpellsImportsOf, ReadsImportsOf}
+use Rattle.splice_laws.proofs.ImportSplices.ImportPlaces.FilesLaid.{imports_laid}
 
 module _ (text : List ℕ) (tokens : List Token) (comments : List Comment) (file : File Span) (s : IsSource text tokens comments file) where
   own_imports : SpellsImportsOf tokens file

@@ -1,3 +1,4 @@
+pub use Rattle.typed_in_place.specs.SameFacts
 pub mod Values
 pub mod Mentions
 pub mod Here

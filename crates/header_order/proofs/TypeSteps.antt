@@ -19,7 +19,7 @@ use Rattle.defined_types.specs.DeclaredTypes.{AreDeclared, declared_of}
 use Rattle.defined_types.proofs.TypeSteps.{are_same}
 use Rattle.package_blocks.specs.declared.headers.PackageHeader.{PackageHeader}
 use Rattle.package_blocks.specs.Headers.{AreHeaders, no_headers, a_header, IsHeader, listed_of}
-use Rattle.finite_types.specs.RefusedTypes.Refusals.{TypesAreKnown}
+use Rattle.refused_headers.specs.Refusals.{TypesAreKnown}
 use Rattle.refused_headers.specs.Refused.{refuses_type}
 use Rattle.refused_headers.proofs.Refuses.{refuses_same}
 use Rattle.package_blocks.specs.FuncHeaders.Functions.{numbers_where}

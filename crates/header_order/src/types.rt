@@ -11,14 +11,13 @@ ghost use Rattle.typed_names.specs.TypeExprs.Grown.{TypesGrown};
 ghost use Rattle.declared_types.specs.Steps.{KnowsPlaces};
 ghost use Rattle.defined_types.specs.DeclaredTypes.{declared_of};
 ghost use Rattle.package_blocks.specs.Headers.{AreHeaders, listed_of};
-ghost use Rattle.finite_types.specs.RefusedTypes.Refusals.{AreTested, TypesAreKnown};
+ghost use Rattle.refused_headers.specs.Refusals.{AreTested, TypesAreKnown};
 ghost use Rattle.refused_headers.specs.Refused.{refuses_type};
 ghost use Rattle.package_blocks.specs.FuncHeaders.Functions.{numbers_where};
 
-use finite_types::TypeTests;
 use go_tree::NoMemory;
 use package_blocks::PackageHeader;
-use refused_headers::is_refused_type;
+use refused_headers::{TypeTests, is_refused_type};
 use std::alloc::Global;
 use type_table::type_relations::Env;
 use typed_names::{Blocks, Scope};

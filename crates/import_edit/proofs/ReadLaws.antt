@@ -9,8 +9,8 @@ use Rattle.go_scan.proofs.Cuts.{tokens_once}
 use Rattle.run_rules.specs.declared.import_rules.new_import.NewImport.{NewImport}
 use Rattle.run_rules.specs.ImportRules.Laid.{Laid}
 use Rattle.run_rules.specs.ImportRules.Settled.{settled}
-use Rattle.run_rules.specs.SpliceLaws.ImportSplices.ImportPlaces.ReadFiles.{SpellsImportsOf, ReadsImportsOf}
-use Rattle.run_rules.proofs.SpliceLaws.ImportSplices.ImportPlaces.FilesLaid.{imports_laid}
+use Rattle.splice_laws.specs.ImportSplices.ImportPlaces.ReadFiles.{SpellsImportsOf, ReadsImportsOf}
+use Rattle.splice_laws.proofs.ImportSplices.ImportPlaces.FilesLaid.{imports_laid}
 
 pub read_laid : (text : List ℕ) (tokens : List Token) (comments : List Comment) (file : File Span) → ReadsImportsOf text file → TokensOf text tokens comments → Laid text tokens file
 read_laid text tokens comments file r t =

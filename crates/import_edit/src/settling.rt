@@ -8,7 +8,7 @@ ghost use Rattle.go_tree.specs.GoWords.Tokens.{TokensOf};
 ghost use Rattle.text_edits.specs.Order.{InOrder};
 ghost use Rattle.run_rules.specs.ImportRules.Laid.{CommentsAscend, Laid};
 ghost use Rattle.run_rules.specs.ImportRules.Settled.{removal, settled};
-ghost use Rattle.run_rules.specs.SpliceLaws.ImportSplices.ImportPlaces.ReadFiles.{ReadsImportsOf};
+ghost use Rattle.splice_laws.specs.ImportSplices.ImportPlaces.ReadFiles.{ReadsImportsOf};
 
 use crate::added::{adds_to_group, group_insertion, insertion_before, last_closing, push_removals};
 use crate::order::in_order;

@@ -1,3 +1,4 @@
+pub use Rattle.expr_walk.proofs.WalkArms.ExprArms
 pub mod BodilessLemmas
 pub mod WalkedLemmas
 pub mod ConstantLemmas

@@ -1,3 +1,4 @@
+pub use Rattle.expr_walk.specs.Walked
 pub mod Spelled
 pub mod Steps
 pub mod ValueEntities

@@ -12,9 +12,9 @@ use Rattle.run_rules.specs.Cycles.{is_recursive}
 use Rattle.run_rules.specs.Steps.{At}
 use Rattle.run_rules.specs.Run.{Standing, Logged, Next, Run, ends, goes_on, as_read}
 use Rattle.run_rules.specs.Inlining.{ModuleReads, standing_as_read}
-use Rattle.run_rules.specs.SpliceLaws.RunLaws.Reading.{ProgramReads, FileAt, OnePathEach}
-use Rattle.run_rules.proofs.SpliceLaws.RunLaws.RunsRead.{modules_read, next_reads, next_paths}
-use Rattle.run_rules.proofs.SpliceLaws.RunLaws.PathsOwn.{paths_own}
+use Rattle.splice_laws.specs.RunLaws.Reading.{ProgramReads, FileAt, OnePathEach}
+use Rattle.splice_laws.proofs.RunLaws.RunsRead.{modules_read, next_reads, next_paths}
+use Rattle.splice_laws.proofs.RunLaws.PathsOwn.{paths_own}
 use Rattle.order_runs.specs.CycleRuns.Linked.{Linked, SettlesFile}
 use Rattle.order_runs.proofs.CycleRuns.OrderedSteps.Modules.{package-at}
 use Rattle.order_runs.proofs.CycleRuns.Runs.{step-linked, writes-of, one-step}

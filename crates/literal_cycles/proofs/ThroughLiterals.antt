@@ -42,7 +42,7 @@ use Rattle.literal_cycles.proofs.LiteralLed.{form_calls}
 use Rattle.literal_cycles.proofs.SitesOut.{stands_so}
 use Rattle.literal_cycles.proofs.NothingAdded.{same_where, same_packages}
 use Rattle.constant_steps.specs.PlainUse.{AllTheUse}
-use Rattle.run_rules.specs.SpliceLaws.RunLaws.Reading.{ProgramReads}
+use Rattle.splice_laws.specs.RunLaws.Reading.{ProgramReads}
 use Rattle.order_runs.proofs.RunSteps.UsesAlone.{stands-alone}
 use Rattle.go_tree.proofs.GoTypes.Agreeing.{some_same}
 

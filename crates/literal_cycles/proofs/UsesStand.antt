@@ -10,7 +10,7 @@ use Rattle.run_rules.specs.Sites.{MarkRef, is_among_marks, Where, inlinable, is_
 use Rattle.run_rules.specs.Cycles.{function_marks, leads_to}
 use Rattle.run_rules.specs.Steps.{At}
 use Rattle.run_rules.specs.Run.{Standing, Logged, Next, here_of}
-use Rattle.run_rules.proofs.SpliceLaws.RunLaws.FoundSpans.{Placed}
+use Rattle.splice_laws.proofs.RunLaws.FoundSpans.{Placed}
 use Rattle.go_tree.specs.declared.spans.Span.{Span}
 use Rattle.order_runs.specs.CycleLaws.PutCalls.{mark_there}
 use Rattle.order_runs.proofs.CycleLaws.Walked.{led, app, type-led}

@@ -16,7 +16,7 @@ use Rattle.run_rules.specs.Cycles.{leads_to, is_recursive}
 use Rattle.run_rules.specs.Texts.{FileText}
 use Rattle.run_rules.specs.Run.{Standing, Logged, Next, Run}
 use Rattle.run_rules.specs.Inlining.{ModuleReads, standing_as_read}
-use Rattle.run_rules.specs.SpliceLaws.RunLaws.Reading.{ProgramReads}
+use Rattle.splice_laws.specs.RunLaws.Reading.{ProgramReads}
 use Rattle.order_runs.specs.CycleLaws.PutCalls.{called_among}
 use Rattle.order_runs.specs.CycleRuns.Linked.{Linked, SettlesFile}
 use Rattle.literal_cycles.specs.FormCycles.Bodies.{StandsInFunction}

@@ -1,3 +1,4 @@
+pub use Rattle.constant_steps.proofs.PlaceMeanings.PlacesMean
 pub mod MembersMeant
 pub mod ConstantsAlone
 pub mod Sited

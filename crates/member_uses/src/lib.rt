@@ -7,6 +7,7 @@ mod parts;
 pub mod possible_uses;
 mod uses;
 
+pub use constant_steps::form_imports::steps_settle_imports;
 pub use laws::{marked_members_are_sites, members_stay};
 pub use names::FileScopes;
 pub use parts::member_uses;

@@ -1,2 +1,3 @@
+pub use Rattle.value_rounds.specs.UnderlyingTypes.Chains
 pub mod Defining
 pub mod Steps

@@ -1,2 +1,3 @@
+pub use Rattle.go_parse.specs.Sources
 pub mod Limits
 pub mod Files

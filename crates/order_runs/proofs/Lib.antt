@@ -1,3 +1,4 @@
+pub use Rattle.splice_laws.proofs.RunLaws.FoundSpans
 pub mod Likened
 pub mod RunOrders
 pub mod OrderedSteps

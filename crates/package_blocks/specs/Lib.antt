@@ -1,3 +1,4 @@
+pub use Rattle.run_rules.specs.Programs
 pub mod Names
 pub mod Headers
 pub mod Imports

@@ -13,7 +13,7 @@ use Rattle.constant_steps.specs.PlaceMeanings.Parts.{IsScoped, AllScoped}
 use Rattle.member_uses.specs.PossibleUses.Among.{Keyed}
 use Rattle.constant_steps.specs.PlainUse.{IsSimple, AllSimple}
 use Rattle.printed_constants.specs.TypedParts.StandingUses.ImportUses.Parts.{EachSeen}
-use Rattle.printed_constants.specs.Printed.{IsFlat, a_name, a_number, a_selection, AllFlat, no_operands, and_operand, IsPrint, an_operand, a_call, PrintStmts, no_prints, and_print, FlatConstants, no_constants, and_constant, IsPrinted, some_constants, a_function}
+use Rattle.run_rules.specs.Printed.{IsFlat, a_name, a_number, a_selection, AllFlat, no_operands, and_operand, IsPrint, an_operand, a_call, PrintStmts, no_prints, and_print, FlatConstants, no_constants, and_constant, IsPrinted, some_constants, a_function}
 
 module _ {S : Type 0} where
   pub data PrintedPart : Seen S → Type 0 where

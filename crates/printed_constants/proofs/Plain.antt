@@ -4,15 +4,15 @@ use Rattle.std.specs.Prelude.{slice_get}
 use Rattle.go_tree.specs.Tree.{Expr, Exprs, Stmts, ValueSpecs}
 use Rattle.go_tree.specs.File.{Decl}
 use Rattle.pkg_graph.specs.Package.{SourceTree, Package}
-use Rattle.run_rules.specs.SpliceLaws.Dots.{ExprDots, ExprsDots, StmtsDots, SpecsDots, DeclDots, DeclsDots}
-use Rattle.run_rules.specs.SpliceLaws.ImportSplices.TypedDots.TypedDots.{AnyExpr}
-use Rattle.run_rules.specs.SpliceLaws.ImportSplices.TypedDots.Unspread.{UnspreadRest}
+use Rattle.splice_laws.specs.Dots.{ExprDots, ExprsDots, StmtsDots, SpecsDots, DeclDots, DeclsDots}
+use Rattle.splice_laws.specs.ImportSplices.TypedDots.TypedDots.{AnyExpr}
+use Rattle.splice_laws.specs.ImportSplices.TypedDots.Unspread.{UnspreadRest}
 use Rattle.constant_steps.specs.Alone.{SingleSpecs, PlainDecl, PlainDecls, PlainFiles, constants_alone, no_decls, and_decl, no_files, and_file}
 use Rattle.constant_steps.specs.Alone as alone
 use Rattle.run_rules.specs.Programs.{linked_file}
 use Rattle.run_rules.specs.Sites.{Where}
 use Rattle.constant_steps.specs.WrittenLiteral.UnspreadForms.UnspreadForms.{UnspreadFiles, UnspreadPackages}
-use Rattle.printed_constants.specs.Printed.{IsFlat, a_name, a_number, a_selection, AllFlat, no_operands, and_operand, IsPrint, an_operand, a_call, PrintStmts, no_prints, and_print, FlatConstants, no_constants, and_constant, IsPrinted, some_constants, a_function, ArePrinted}
+use Rattle.run_rules.specs.Printed.{IsFlat, a_name, a_number, a_selection, AllFlat, no_operands, and_operand, IsPrint, an_operand, a_call, PrintStmts, no_prints, and_print, FlatConstants, no_constants, and_constant, IsPrinted, some_constants, a_function, ArePrinted}
 
 module _ {S : Type 0} where
   -- ---- specs

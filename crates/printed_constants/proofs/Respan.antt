@@ -6,7 +6,7 @@ use Rattle.go_tree.specs.declared.exprs.Rest.TheVariants.{Plain, Whole, Packed, 
 use Rattle.go_tree.specs.Tree.{Param, Expr, ident, int_lit, rune_lit, str_lit, composite, selector, index, slice, call, func_lit, type_operand, unary, binary, star, Exprs, no_exprs, expr_and, const_decl, var_decl, empty, eval, step, assign, define, return_, break_, continue_, inner, if_, for_, range_, switch, defer, label, Stmts, no_stmts, stmt_and, ValueSpecs, no_specs, spec}
 use Rattle.go_tree.specs.File.{Receiver, Decl, values, types, func}
 use Rattle.run_rules.specs.Respanned.{expr_with, exprs_with, stmts_with, specs_with, param_with, receiver_with, decl_with}
-use Rattle.printed_constants.specs.Printed.{IsFlat, a_name, a_number, a_selection, AllFlat, no_operands, and_operand, IsPrint, an_operand, a_call, PrintStmts, no_prints, and_print, FlatConstants, no_constants, and_constant, IsPrinted, some_constants, a_function}
+use Rattle.run_rules.specs.Printed.{IsFlat, a_name, a_number, a_selection, AllFlat, no_operands, and_operand, IsPrint, an_operand, a_call, PrintStmts, no_prints, and_print, FlatConstants, no_constants, and_constant, IsPrinted, some_constants, a_function}
 
 none_before : {A B : Type 0} (f : A → B) (o : Option A) → option_map f o ≡ None → o ≡ None
 none_before f None e = refl

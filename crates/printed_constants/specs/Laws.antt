@@ -18,7 +18,7 @@ use Rattle.run_rules.specs.Sites.{MarkRef, Where}
 use Rattle.run_rules.specs.Steps.{At}
 use Rattle.run_rules.specs.Texts.{FileText}
 use Rattle.constant_steps.specs.WrittenLiteral.UnspreadForms.UnspreadForms.{UnspreadPackages}
-use Rattle.printed_constants.specs.Printed.{IsFlat, IsPrinted, ArePrinted}
+use Rattle.run_rules.specs.Printed.{IsFlat, IsPrinted, ArePrinted}
 
 -- The parts of such a declaration are scoped, in whatever file.
 abbrev pub PrintedPartsAreScoped : Type 0

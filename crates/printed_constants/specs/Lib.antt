@@ -1,4 +1,5 @@
-pub mod Printed
+pub use Rattle.constant_edits.specs.Edits
+pub use Rattle.put_names.specs.Uses
 pub mod Laws
 pub mod PrintedUses
 pub mod StandingForms

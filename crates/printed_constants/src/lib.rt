@@ -18,6 +18,7 @@ mod standing_forms;
 pub mod typed_parts;
 mod used_imports;
 
+pub use constant_edits::step_edits;
 pub use counted_names::{printed_files_have_few_names, printed_steps_avoid_few_names};
 pub use declared_members::constants_name_members;
 pub use form_names::forms_name_no_blank;

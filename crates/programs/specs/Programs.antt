@@ -11,8 +11,8 @@ use Rattle.run_rules.specs.Sites.{MarkRef, Where, is_among_marks, where_is}
 use Rattle.run_rules.specs.Respanned.{decl_with, file_with, packages_with}
 use Rattle.run_rules.specs.Steps.{At}
 use Rattle.run_rules.specs.Run.{Standing, here_of, module_file_size, texts_size}
-use Rattle.run_rules.specs.SpliceLaws.RunLaws.Reading.{OnePathEach}
-use Rattle.constant_steps.specs.FormImports.ImportLaws.Steps.{names_standing}
+use Rattle.splice_laws.specs.RunLaws.Reading.{OnePathEach}
+use Rattle.member_uses.specs.Steps.{names_standing}
 use Rattle.member_uses.specs.Uses.{Names}
 use Rattle.member_uses.specs.Laws.{AllConstants, Knows}
 use Rattle.file_names.specs.Imports.{FindsPackages}

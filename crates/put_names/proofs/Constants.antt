@@ -17,9 +17,9 @@ use Rattle.run_rules.specs.Run.{Standing, Logged, Next, here_of, is_commented}
 use Rattle.run_rules.specs.Sites.{MarkRef, Where, Inlinable, a_constant, an_alias, aliased, part_span, constant_in_spec, less, nth_constant, inlinable_in, where_is, inlinable, outer_meaning}
 use Rattle.run_rules.specs.Steps.{At, same_here, Found}
 use Rattle.run_rules.specs.Surroundings.{other, Place, inner_slot, in_slot}
-use Rattle.run_rules.specs.SpliceLaws.RunLaws.Reading.{FileReads, ProgramReads}
-use Rattle.run_rules.specs.SpliceLaws.ImportSplices.FormSplices.Laws.{MakesForm}
-use Rattle.run_rules.proofs.SpliceLaws.ImportSplices.FormSplices.FormsFound.{step-makes-form}
+use Rattle.splice_laws.specs.RunLaws.Reading.{FileReads, ProgramReads}
+use Rattle.splice_laws.specs.ImportSplices.FormSplices.Laws.{MakesForm}
+use Rattle.splice_laws.proofs.ImportSplices.FormSplices.FormsFound.{step-makes-form}
 use Rattle.put_nodes.specs.SpelledNames.{AreNames}
 use Rattle.put_names.specs.WrittenNames.NamedPackages.{AreOfPackages}
 use Rattle.put_nodes.specs.Swapped.{FormedDecl}

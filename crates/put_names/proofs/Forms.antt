@@ -17,8 +17,8 @@ use Rattle.run_rules.specs.Run.{Standing, is_commented}
 use Rattle.run_rules.specs.Sites.{MarkRef, Where, Inlinable, Site, part_span, mark_of, where_is, inlinable}
 use Rattle.run_rules.specs.Steps.{At, same_here, Found}
 use Rattle.run_rules.specs.Surroundings.{Place}
-use Rattle.run_rules.specs.SpliceLaws.RunLaws.Reading.{FileAt}
-use Rattle.run_rules.specs.SpliceLaws.ImportSplices.FormSplices.Laws.{MakesForm}
+use Rattle.splice_laws.specs.RunLaws.Reading.{FileAt}
+use Rattle.splice_laws.specs.ImportSplices.FormSplices.Laws.{MakesForm}
 use Rattle.put_names.specs.WrittenNames.NamedPackages.{AreOfPackages}
 use Rattle.put_names.proofs.Unnamed.{none_unnamed, none_unnamed_two}
 use Rattle.put_nodes.specs.SpelledNames.{IsNameExpr, a_name_alone, a_qualified_name, AreNames}

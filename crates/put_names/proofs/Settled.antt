@@ -2,7 +2,7 @@
 use Rattle.std.proofs.Common.{List}
 use Rattle.go_tree.specs.FileBare.{bare_file}
 use Rattle.order_runs.specs.CycleRuns.Linked.{WritesFile, SettlesFile}
-use Rattle.run_rules.specs.SpliceLaws.ImportSplices.AddedFile.{AreWritable}
+use Rattle.splice_laws.specs.ImportSplices.AddedFile.{AreWritable}
 use Rattle.order_runs.specs.CycleRuns.KeptImports.Files.{RemovesNoNames}
 use Rattle.order_runs.specs.CycleRuns.OrderCycles.NewNames.{FewNames}
 use Rattle.order_runs.specs.CycleRuns.OrderedSteps.Ranks.{AddsLedTo}
@@ -10,8 +10,8 @@ use Rattle.run_rules.specs.Laws.{file_found}
 use Rattle.run_rules.specs.Naming.{imports_added}
 use Rattle.run_rules.specs.Run.{Standing, Logged, Next}
 use Rattle.run_rules.specs.Sites.{MarkRef}
-use Rattle.run_rules.specs.SpliceLaws.RunLaws.Reading.{ProgramReads}
-use Rattle.run_rules.specs.SpliceLaws.Dots.{UndottedFile}
+use Rattle.splice_laws.specs.RunLaws.Reading.{ProgramReads}
+use Rattle.splice_laws.specs.Dots.{UndottedFile}
 use Rattle.put_nodes.specs.SpelledNames.{AreNames}
 use Rattle.put_names.specs.WrittenNames.NamedPackages.{AreOfPackages}
 use Rattle.put_names.proofs.WrittenNames.StepNames.{step_names, step_imports}

@@ -19,12 +19,12 @@ use Rattle.run_rules.specs.Sites.{MarkRef, Part, part_span, mark_of, outer, not_
 use Rattle.run_rules.specs.Steps.{At, same_here}
 use Rattle.run_rules.specs.Surroundings.{Place, Seen, seen}
 use Rattle.run_rules.specs.Texts.{FileText}
-use Rattle.run_rules.specs.SpliceLaws.RunLaws.Reading.{FileReads, FileAt, ProgramReads}
-use Rattle.run_rules.proofs.SpliceLaws.RunLaws.FoundSpans.{Placed, FoundIn, found_in}
-use Rattle.run_rules.specs.SpliceLaws.Dots.{UndottedFile}
-use Rattle.run_rules.specs.SpliceLaws.Swaps.{Swap, FileIn}
-use Rattle.run_rules.specs.SpliceLaws.ImportSplices.FormSplices.Laws.{MakesForm}
-use Rattle.run_rules.proofs.SpliceLaws.ImportSplices.FormSplices.FormsFound.{step-makes-form}
+use Rattle.splice_laws.specs.RunLaws.Reading.{FileReads, FileAt, ProgramReads}
+use Rattle.splice_laws.proofs.RunLaws.FoundSpans.{Placed, FoundIn, found_in}
+use Rattle.splice_laws.specs.Dots.{UndottedFile}
+use Rattle.splice_laws.specs.Swaps.{Swap, FileIn}
+use Rattle.splice_laws.specs.ImportSplices.FormSplices.Laws.{MakesForm}
+use Rattle.splice_laws.proofs.ImportSplices.FormSplices.FormsFound.{step-makes-form}
 use Rattle.constant_steps.specs.PlaceMeanings.Agreement.{BlockIsLocal}
 use Rattle.constant_steps.specs.PlaceMeanings.Parts.{AtPart, AtParts}
 use Rattle.constant_steps.proofs.PlaceMeanings.PlacesMean.{blocks_local}

@@ -5,10 +5,10 @@ use Rattle.go_tree.specs.FileBare.{bare_file}
 use Rattle.run_rules.specs.Laws.{file_found}
 use Rattle.run_rules.specs.Run.{Standing, Logged, Next}
 use Rattle.run_rules.specs.Sites.{MarkRef}
-use Rattle.run_rules.specs.SpliceLaws.RunLaws.Reading.{ProgramReads}
-use Rattle.run_rules.specs.SpliceLaws.Dots.{UndottedFile}
+use Rattle.splice_laws.specs.RunLaws.Reading.{ProgramReads}
+use Rattle.splice_laws.specs.Dots.{UndottedFile}
 use Rattle.order_runs.specs.CycleRuns.Linked.{SettlesFile}
-use Rattle.run_rules.specs.SpliceLaws.ImportSplices.AddedFile.{AreWritable}
+use Rattle.splice_laws.specs.ImportSplices.AddedFile.{AreWritable}
 use Rattle.order_runs.specs.CycleRuns.KeptImports.Files.{PutsNode, RemovesNoNames}
 use Rattle.order_runs.specs.CycleRuns.OrderCycles.NewNames.{NamesByPath, FewNames}
 use Rattle.order_runs.specs.CycleRuns.OrderedSteps.Ranks.{AddsLedTo}

@@ -22,9 +22,9 @@ use Rattle.run_rules.specs.Surroundings.{Slot, is_bracketed}
 use Rattle.run_rules.specs.FormTrees.{Form, as_expr}
 use Rattle.run_rules.specs.Respanned.{expr_with}
 use Rattle.run_rules.specs.Texts.{FileText, is_space_or_tab, indent_at, form_layout, spelling_before, first_spelling, needs_blank, form_edit}
-use Rattle.run_rules.specs.SpliceLaws.Swaps.{an_operand, a_callee}
-use Rattle.run_rules.specs.SpliceLaws.Forms.{takes_parens, new_layout}
-use Rattle.run_rules.specs.SpliceLaws.Splice.{first_word, lead, splice}
+use Rattle.splice_laws.specs.Swaps.{an_operand, a_callee}
+use Rattle.splice_laws.specs.Forms.{takes_parens, new_layout}
+use Rattle.splice_laws.specs.Splice.{first_word, lead, splice}
 use Rattle.put_nodes.specs.SpelledNames.{IsNameExpr, a_name_alone, a_qualified_name}
 
 -- ---- tests

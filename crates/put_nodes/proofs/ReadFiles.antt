@@ -14,9 +14,9 @@ use Rattle.go_layout.specs.LayoutLaws.Real.{AreReal}
 use Rattle.go_layout.proofs.LayoutLaws.FormedTrees.{stmt_formed}
 use Rattle.go_layout.proofs.LayoutLaws.FormedTypes.{type_formed}
 use Rattle.go_layout.proofs.LayoutLaws.RealTokens.{tokens_real}
-use Rattle.run_rules.specs.SpliceLaws.Swaps.{Swap, DeclIn, DeclsIn, in_this_decl, in_later_decls, FileIn, in_decls}
-use Rattle.run_rules.proofs.SpliceLaws.Grafts.{Within, here, later, drop}
-use Rattle.run_rules.proofs.SpliceLaws.Pasts.{sig_past, type_spec_past, receiver_past, imports_past, top_past}
+use Rattle.splice_laws.specs.Swaps.{Swap, DeclIn, DeclsIn, in_this_decl, in_later_decls, FileIn, in_decls}
+use Rattle.splice_laws.proofs.Grafts.{Within, here, later, drop}
+use Rattle.splice_laws.proofs.Pasts.{sig_past, type_spec_past, receiver_past, imports_past, top_past}
 use Rattle.pkg_graph.specs.Package.{Package}
 use Rattle.run_rules.specs.Inlining.{ReadsAs}
 use Rattle.run_rules.specs.Programs.{decl_seen}

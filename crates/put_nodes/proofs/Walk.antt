@@ -24,7 +24,7 @@ use Rattle.run_rules.specs.Surroundings.{Use, whole, stored, updated, called, de
 use Rattle.run_rules.specs.Places.{type_seen, written_seen, params_seen, sig_seen, old_seen, after_arms, expr_seen, all_seen, option_seen, elems_seen, key_seen, value_seen, stmt_seen, stmts_seen, first_seen, block_seen, arms_seen, cases_seen, constants_seen, variables_seen}
 use Rattle.run_rules.specs.Programs.{top_place, body_place, constants_at_top, variables_at_top, types_at_top, receiver_seen, decl_seen}
 use Rattle.run_rules.specs.Respanned.{name_with, type_with, type_option_with, sig_with, expr_with, exprs_with, expr_option_with, elems_with, value_with, stmt_with, stmts_with, stmt_option_with, arms_with, cases_with, specs_with, receiver_with, decl_with}
-use Rattle.run_rules.specs.SpliceLaws.Swaps.{Swap, an_operand, a_callee, a_deferred, OperandIn, this_operand, inside_operand, CalleeIn, this_callee, inside_callee, PartOfExpr, in_literal_type, in_elems, in_func_body, in_signature, in_type_operand, in_selected, in_indexed, in_index, in_sliced, in_low, in_high, in_called, in_args, in_unary, in_star, in_left, in_right, OptionIn, in_option, ExprsIn, in_first_expr, in_later_exprs, ElemsIn, in_key, in_value, in_later_elems, ValueIn, in_plain, in_braced, SimpleIn, in_eval, in_step, in_assigned, in_assign, in_define, PartIn, in_part, PartOfStmt, in_simple, in_const, in_var, in_return, in_block, in_arms, in_else, in_for_first, in_for_test, in_for_post, in_for_body, in_range_left, in_range, in_range_body, in_switch_first, in_tag, in_cases, in_deferred, in_deferred_args, this_deferred, in_label, StmtsIn, inside_stmt, in_later_stmts, ArmsIn, in_arm_first, in_arm_test, in_arm_body, in_later_arms, CasesIn, in_case, in_case_body, in_later_cases, SpecsIn, in_spec_values, in_later_specs, DeclIn, in_constants, in_variables, in_function}
+use Rattle.splice_laws.specs.Swaps.{Swap, an_operand, a_callee, a_deferred, OperandIn, this_operand, inside_operand, CalleeIn, this_callee, inside_callee, PartOfExpr, in_literal_type, in_elems, in_func_body, in_signature, in_type_operand, in_selected, in_indexed, in_index, in_sliced, in_low, in_high, in_called, in_args, in_unary, in_star, in_left, in_right, OptionIn, in_option, ExprsIn, in_first_expr, in_later_exprs, ElemsIn, in_key, in_value, in_later_elems, ValueIn, in_plain, in_braced, SimpleIn, in_eval, in_step, in_assigned, in_assign, in_define, PartIn, in_part, PartOfStmt, in_simple, in_const, in_var, in_return, in_block, in_arms, in_else, in_for_first, in_for_test, in_for_post, in_for_body, in_range_left, in_range, in_range_body, in_switch_first, in_tag, in_cases, in_deferred, in_deferred_args, this_deferred, in_label, StmtsIn, inside_stmt, in_later_stmts, ArmsIn, in_arm_first, in_arm_test, in_arm_body, in_later_arms, CasesIn, in_case, in_case_body, in_later_cases, SpecsIn, in_spec_values, in_later_specs, DeclIn, in_constants, in_variables, in_function}
 use Rattle.put_nodes.specs.Swapped.{StandsAs, as_operand, as_callee, as_deferred, IsOldName, old_name, FormedDecl, IsSwapped, MayBeSwapped, is_node, SeenSwapped, AllSwapped}
 use Rattle.put_nodes.specs.Swapped as swapped
 

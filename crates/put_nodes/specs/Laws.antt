@@ -13,8 +13,8 @@ use Rattle.run_rules.specs.Programs.{decl_seen}
 use Rattle.run_rules.specs.Respanned.{file_with}
 use Rattle.run_rules.specs.Surroundings.{Use, Place}
 use Rattle.run_rules.specs.Texts.{FileText}
-use Rattle.run_rules.specs.SpliceLaws.Dots.{UndottedFile}
-use Rattle.run_rules.specs.SpliceLaws.Swaps.{FileIn}
+use Rattle.splice_laws.specs.Dots.{UndottedFile}
+use Rattle.splice_laws.specs.Swaps.{FileIn}
 use Rattle.put_nodes.specs.SpelledNames.{IsNameExpr}
 use Rattle.put_nodes.specs.Put.{FormIsPut, IsSomeName}
 use Rattle.put_nodes.specs.Swapped.{IsOldName, MayBeSwapped, AllSwapped}

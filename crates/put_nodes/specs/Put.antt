@@ -6,10 +6,10 @@ use Rattle.go_tree.specs.File.{File}
 use Rattle.run_rules.specs.Surroundings.{Slot}
 use Rattle.run_rules.specs.FormTrees.{Form}
 use Rattle.run_rules.specs.Texts.{FileText, form_edit}
-use Rattle.run_rules.specs.SpliceLaws.Swaps.{Swap}
-use Rattle.run_rules.specs.SpliceLaws.Fits.{swap_mark}
-use Rattle.run_rules.specs.SpliceLaws.Forms.{new_layout}
-use Rattle.run_rules.specs.SpliceLaws.Splice.{splice, IsPut}
+use Rattle.splice_laws.specs.Swaps.{Swap}
+use Rattle.splice_laws.specs.Fits.{swap_mark}
+use Rattle.splice_laws.specs.Forms.{new_layout}
+use Rattle.splice_laws.specs.Splice.{splice, IsPut}
 
 -- The form's edit lays out another node in the place of a node of the file.
 pub record FormIsPut {S : Type 0} (t : FileText) (file : File Span) (z : S) (range : Span) (s : Slot) (form : Form S)

@@ -9,7 +9,7 @@ use Rattle.go_tree.specs.GoTypes.Entities.{is_declared_here}
 use Rattle.run_rules.specs.Surroundings.{Use, called, deferred_call, Slot, a_slot, Place, Seen, seen, seen_type}
 use Rattle.run_rules.specs.Surroundings.{seen_stmt}
 use Rattle.run_rules.specs.Respanned.{expr_with}
-use Rattle.run_rules.specs.SpliceLaws.Swaps.{Swap, an_operand, a_callee, a_deferred}
+use Rattle.splice_laws.specs.Swaps.{Swap, an_operand, a_callee, a_deferred}
 
 -- What is swapped where an expression stands in a slot and is used so: an operand of the slot's level, which stands in
 -- a header where the slot does; what is called; or the call of a `defer`. In parentheses a slot stands in no header,

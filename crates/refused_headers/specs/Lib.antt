@@ -1,1 +1,2 @@
+pub use Rattle.finite_types.specs.RefusedTypes.Refusals
 pub mod Refused

@@ -3,4 +3,5 @@
 
 mod types;
 
+pub use finite_types::TypeTests;
 pub use types::is_refused_type;

@@ -5,8 +5,8 @@ use Rattle.go_tree.specs.declared.spans.Span.{Span}
 use Rattle.go_tree.specs.File.{File}
 use Rattle.go_tree.specs.FileView.{file_of}
 use Rattle.go_tree.specs.GoWords.Tokens.{TokensOf}
-use Rattle.go_parse.specs.Sources.{IsSupported}
-use Rattle.run_rules.specs.SpliceLaws.ImportSplices.AddedFile.{AreWritable}
+use Rattle.next_file.specs.Sources.{IsSupported}
+use Rattle.splice_laws.specs.ImportSplices.AddedFile.{AreWritable}
 use Rattle.pkg_graph.specs.Reads.{Source}
 use Rattle.run_rules.specs.Sites.{MarkRef}
 use Rattle.run_rules.specs.Naming.{imports_added}
@@ -15,7 +15,7 @@ use Rattle.run_rules.specs.Texts.{FileText}
 use Rattle.run_rules.specs.Steps.{At, Found}
 use Rattle.run_rules.specs.Run.{Standing, Logged, passed, the_limits}
 use Rattle.run_rules.specs.Inlining.{standing_as_read}
-use Rattle.run_rules.proofs.SpliceLaws.RunLaws.FilesKept.{runs_are_inlinings}
+use Rattle.splice_laws.proofs.RunLaws.FilesKept.{runs_are_inlinings}
 use Rattle.next_file.specs.declared.limits.Progress.{Progress}
 use Rattle.next_file.specs.Limits.{ComesNext, told}
 use Rattle.next_file.specs.Files.{text_of}

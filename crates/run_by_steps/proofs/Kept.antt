@@ -3,7 +3,7 @@ use Rattle.std.proofs.Common.{◌≡◌, ◌∙◌, refl, sym, ap, subst, ℕ, z
 use Rattle.std.specs.Prelude.{slice_get}
 use Rattle.std.proofs.lemmas.Option.{same_Some}
 use Rattle.go_tree.specs.declared.spans.Span.{Span}
-use Rattle.go_parse.specs.Sources.{IsSupported}
+use Rattle.next_file.specs.Sources.{IsSupported}
 use Rattle.pkg_graph.specs.Package.{SourceTree, Package}
 use Rattle.pkg_graph.specs.Reads.{Source}
 use Rattle.run_rules.specs.Sites.{MarkRef}
@@ -14,10 +14,10 @@ use Rattle.run_rules.specs.Respanned.{source_with, package_with, packages_with}
 use Rattle.run_rules.specs.Steps.{At}
 use Rattle.run_rules.specs.Run.{Standing, Logged, Limits, Next, as_read, with_text, the_limits}
 use Rattle.run_rules.specs.Inlining.{ReadsAs, Reaches, begins, steps_on, standing_as_read}
-use Rattle.run_rules.specs.SpliceLaws.RunLaws.Laws.{OneTextEach}
-use Rattle.run_rules.specs.SpliceLaws.RunLaws.Reading.{ProgramReads, FileAt, OnePathEach}
-use Rattle.run_rules.proofs.SpliceLaws.RunLaws.PathsOwn.{paths_own}
-use Rattle.run_rules.proofs.SpliceLaws.RunLaws.RunsRead.{found_reads, next_reads, next_paths, modules_read}
+use Rattle.splice_laws.specs.RunLaws.Laws.{OneTextEach}
+use Rattle.splice_laws.specs.RunLaws.Reading.{ProgramReads, FileAt, OnePathEach}
+use Rattle.splice_laws.proofs.RunLaws.PathsOwn.{paths_own}
+use Rattle.splice_laws.proofs.RunLaws.RunsRead.{found_reads, next_reads, next_paths, modules_read}
 use Rattle.run_by_steps.proofs.NextPrograms.Supported.{steps_keep_words}
 use Rattle.run_by_steps.specs.WrittenImports.Laws.{AreNamed}
 use Rattle.run_by_steps.proofs.WrittenImports.ReadNames.{read_packages_are_named, changed_named}

@@ -9,7 +9,7 @@ use Rattle.run_rules.specs.Reduced.{Reduced, becomes, kept, reduced}
 use Rattle.run_rules.specs.Run.{Standing, Logged, Next, is_commented}
 use Rattle.run_rules.specs.Sites.{MarkRef, Site, sites}
 use Rattle.run_rules.specs.Steps.{At, same_here, Found, found_by, first_found}
-use Rattle.run_rules.specs.SpliceLaws.RunLaws.Reading.{ProgramReads}
+use Rattle.splice_laws.specs.RunLaws.Reading.{ProgramReads}
 use Rattle.run_order.specs.Order.{span_of, ComesBefore, StandsBefore, package_before, file_before, end_before, IsAgain, StandsBehind, IsOneAgain, UsesAscend, AllFollow, NoneBecomes, IsFirstFree}
 use Rattle.run_order.proofs.UsesInOrder.{uses-ascend}
 

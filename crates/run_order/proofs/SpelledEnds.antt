@@ -9,8 +9,8 @@ use Rattle.go_read.specs.SpellsTypes.{Lexemes}
 use Rattle.go_read.specs.SpellsSpans.{start_of, span_to}
 use Rattle.go_read.specs.Spells.{SpellsBare, SpellsExpr, SpellsOperand, SpellsOption, SpellsExprs, SpellsArgs, SpellsElems, SpellsElem, SpellsValue, SpellsSimple, SpellsPart, SpellsFirst, SpellsStmt, SpellsBlock, SpellsStmts, SpellsIf, SpellsArm, SpellsLeft, SpellsCases, SpellsDecl, SpellsSpecs, SpellsSpec, ident_rule, int_rule, rune_rule, text_rule, composite_rule, func_rule, type_rule, selector_rule, index_rule, slice_rule, call_rule, unary_rule, star_rule, binary_rule, bare_rule, parens_rule, operand_rule, no_expr_rule, some_expr_rule, last_expr_rule, more_exprs_rule, no_args_rule, args_rule, comma_args_rule, rest_args_rule, comma_rest_args_rule, no_elems_rule, last_elem_rule, more_elems_rule, value_rule, keyed_rule, plain_rule, braced_rule, eval_rule, increment_rule, decrement_rule, assign_rule, define_rule, no_part_rule, part_rule, no_first_rule, first_rule, empty_rule, simple_rule, const_rule, var_rule, return_rule, return_values_rule, break_rule, break_label_rule, continue_rule, continue_label_rule, block_rule, if_rule, while_rule, for_rule, range_rule, switch_rule, defer_rule, label_rule, braces_rule, no_stmts_rule, last_stmt_rule, more_stmts_rule, only_arm_rule, else_rule, else_if_rule, arm_rule, no_left_rule, assigns_rule, defines_rule, no_cases_rule, case_rule, default_rule, single_rule, group_rule, no_specs_rule, last_spec_rule, more_specs_rule, repeated_rule, typed_var_rule, values_rule, typed_values_rule}
 use Rattle.go_read.specs.SpellsFiles.{SpellsTypeSpec, SpellsTypeSpecs, SpellsReceiver, SpellsTop, SpellsTops, SpellsFront, type_spec_rule, alias_spec_rule, no_type_specs_rule, last_type_spec_rule, more_type_specs_rule, receiver_rule, pointer_receiver_rule, named_receiver_rule, named_pointer_receiver_rule, top_const_rule, top_var_rule, top_type_rule, top_type_group_rule, top_func_rule, top_method_rule, no_tops_rule, more_tops_rule, front_rule}
-use Rattle.run_rules.proofs.SpliceLaws.Grafts.{Within, here, later, drop, both_within}
-use Rattle.run_rules.proofs.SpliceLaws.Pasts.{type_past, names_past, sig_past, literal_past, operand_past, expr_past, bare_past, option_past, exprs_past, elems_past, elem_past, value_past, part_past, first_past, stmt_past, block_past, stmts_past, if_past, arm_past, left_past, cases_past, decl_past, specs_past, spec_past, type_spec_past, type_specs_past, receiver_past, top_past, imports_past}
+use Rattle.splice_laws.proofs.Grafts.{Within, here, later, drop, both_within}
+use Rattle.splice_laws.proofs.Pasts.{type_past, names_past, sig_past, literal_past, operand_past, expr_past, bare_past, option_past, exprs_past, elems_past, elem_past, value_past, part_past, first_past, stmt_past, block_past, stmts_past, if_past, arm_past, left_past, cases_past, decl_past, specs_past, spec_past, type_spec_past, type_specs_past, receiver_past, top_past, imports_past}
 use Rattle.order_runs.proofs.RunSteps.TokenPlaces.{Full, full, le-le, itself, full-within, starts-up}
 use Rattle.order_runs.proofs.RunSteps.SpanPlaces.{One, Two}
 use Rattle.run_order.proofs.EndPlaces.{Ends, Closed, OneType, ExprIn, OpIn, ExprsIn, OptionIn, ElemsIn, KeyIn, ValueIn, StmtIn, StmtsIn, BodyIn, FirstIn, BlockIn, LeftIn, ArmsIn, ArmIn, CasesIn, SpecsIn, ValuesIn, TypesIn, DeclIn, DeclsIn}

@@ -7,9 +7,9 @@ use Rattle.go_tree.specs.GoWords.Tokens.{TokensOf}
 use Rattle.go_tree.specs.GoWords.Terminals.{Terminal, Lexeme, lex, semicolon, lexemes}
 use Rattle.go_read.specs.SpellsTypes.{Lexemes}
 use Rattle.go_read.specs.SpellsSpans.{start_of, span_to}
-use Rattle.run_rules.proofs.SpliceLaws.Grafts.{Within, here, later, drop}
-use Rattle.run_rules.proofs.SpliceLaws.ImportSplices.ImportPlaces.TokensStand.{tokens_stand}
-use Rattle.run_rules.proofs.SpliceLaws.ImportSplices.ImportPlaces.ImportsStand.{Lie, all_lie, end_before, end_is}
+use Rattle.splice_laws.proofs.Grafts.{Within, here, later, drop}
+use Rattle.splice_laws.proofs.ImportSplices.ImportPlaces.TokensStand.{tokens_stand}
+use Rattle.splice_laws.proofs.ImportSplices.ImportPlaces.ImportsStand.{Lie, all_lie, end_before, end_is}
 use Rattle.order_runs.proofs.RunSteps.TokenPlaces.{Behind, Rises, Full, full, behind-of, More, more, le-le, itself, full-within, rises-within, more-at, starts-up, ends-by, tokens-rise, step-up}
 use Rattle.order_runs.proofs.RunSteps.TokenPlaces as places
 use Rattle.order_runs.proofs.RunSteps.SpanPlaces.{One, Two, one-in, wider}

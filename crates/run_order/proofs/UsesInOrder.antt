@@ -11,7 +11,7 @@ use Rattle.run_rules.specs.Respanned.{decl_with, decls_with}
 use Rattle.run_rules.specs.Run.{Standing, here_of}
 use Rattle.run_rules.specs.Sites.{MarkRef, Where, Part, an_expr, a_type_part, Site, named_in, expr_mark, type_mark, site_by, type_sites, sites_among, decls_sites, files_sites, packages_sites, sites}
 use Rattle.run_rules.specs.Steps.{At}
-use Rattle.run_rules.specs.SpliceLaws.RunLaws.Reading.{FileReads, FileAt, ProgramReads}
+use Rattle.splice_laws.specs.RunLaws.Reading.{FileReads, FileAt, ProgramReads}
 use Rattle.order_runs.proofs.ImportRuns.Listed.{AllListed, order-listed}
 use Rattle.run_order.specs.Order.{span_of, IsOneOf, ComesBefore, StandsBefore, package_before, file_before, end_before, StandsBehind, IsOneAgain, UsesAscend}
 use Rattle.run_order.proofs.EndPlaces.{DeclIn, DeclsIn}

@@ -9,7 +9,7 @@ use Rattle.run_rules.specs.Texts.{FileText}
 use Rattle.run_rules.specs.Programs.{dependency_order}
 use Rattle.run_rules.specs.Run.{Standing, Logged, Next, Run}
 use Rattle.run_rules.specs.Sites.{MarkRef, sites}
-use Rattle.run_rules.specs.SpliceLaws.RunLaws.Reading.{ProgramReads}
+use Rattle.splice_laws.specs.RunLaws.Reading.{ProgramReads}
 use Rattle.run_order.specs.Order.{UsesAscend, IsFirstFree, FilesByPath}
 
 -- The uses of a program whose files read from their texts are listed in their order: packages in dependency order,

@@ -7,8 +7,8 @@ use Rattle.go_tree.specs.declared.tokens.Comment.{Comment}
 use Rattle.go_tree.specs.declared.tokens.TokenKind.{TokenKind}
 use Rattle.go_tree.specs.Tree.{NameAt, TypeExpr, Param, Sig, Stmts}
 use Rattle.go_tree.specs.File.{ImportSpec, ImportDecl, TypeSpec, Receiver, Decl, func, File}
-use Rattle.go_read.specs.SpellsTypes.{Lexemes}
-use Rattle.go_read.specs.Goals.{Reader}
+use Rattle.go_layout.specs.SpellsTypes.{Lexemes}
+use Rattle.go_layout.specs.Goals.{Reader}
 use Rattle.run_rules.specs.ImportRules.Removed.{same_span}
 use Rattle.pkg_graph.specs.Package.{SourceTree, Package}
 use Rattle.go_tree.specs.GoTypes.Answers.{given, meets}
@@ -23,7 +23,7 @@ use Rattle.run_rules.specs.Steps.{At, Found, first_step, text_after, lies_in}
 
 -- what tokens are read as
 abbrev pub read_at : {S : Type 0} → (Lexemes → Lexemes → S) → Reader S
-read_at mark = Rattle.go_read.specs.Reading.at mark
+read_at mark = Rattle.go_layout.specs.Reading.at mark
 
 abbrev pub at : ℕ → ℕ → Span
 at a b = record { start = a; end = b }

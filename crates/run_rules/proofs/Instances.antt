@@ -5,9 +5,9 @@ use Rattle.go_tree.specs.declared.spans.Span.{Span}
 use Rattle.go_tree.specs.declared.tokens.Token.{Token}
 use Rattle.go_tree.specs.File.{File}
 use Rattle.go_tree.specs.GoWords.Terminals.{lexemes}
-use Rattle.go_read.specs.SpellsSpans.{span_to}
-use Rattle.go_read.specs.Goals.{read_front}
-use Rattle.go_read.proofs.Whole.{file_spelled}
+use Rattle.go_layout.specs.SpellsSpans.{span_to}
+use Rattle.go_layout.specs.Goals.{read_front}
+use Rattle.go_layout.proofs.Whole.{file_spelled}
 use Rattle.text_edits.specs.declared.edit.Edit.{Edit}
 use Rattle.text_edits.specs.Applied.{Ascend, applied}
 use Rattle.run_rules.specs.ImportRules.Removed.{is_semicolon}

@@ -8,10 +8,10 @@ use Rattle.go_tree.specs.declared.operators.BinOp.TheVariants.{Add, Gt}
 use Rattle.go_tree.specs.Tree.{named, ident, int_lit, call, binary, no_exprs, expr_and, const_decl, var_decl, eval, assign, define, return_, if_, defer, no_stmts, stmt_and, no_stmt, no_block, no_arms, arm, no_specs, spec}
 use Rattle.go_tree.specs.File.{File, values, types}
 use Rattle.run_rules.proofs.CaseTools.{at, nm, tok, note, param, sig, tspec, fn, pack, source, mark, Module}
-use Rattle.go_read.specs.SpellsSpans.{span_to}
+use Rattle.go_layout.specs.SpellsSpans.{span_to}
 use Rattle.go_tree.specs.GoWords.Terminals.{lexemes}
-use Rattle.go_read.specs.Goals.{read_front}
-use Rattle.go_read.proofs.Texts.{reading}
+use Rattle.go_layout.specs.Goals.{read_front}
+use Rattle.go_layout.proofs.Texts.{reading}
 use Rattle.run_rules.proofs.CaseTools.{read_at}
 use Rattle.std.specs.Prelude.{map, Option}
 use Rattle.run_rules.specs.ImportRules.Removed.{same_span}

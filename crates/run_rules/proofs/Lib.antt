@@ -42,4 +42,3 @@ mod CasesOfEvaluation
 mod CasesOfFaults
 mod CasesOfImports
 pub mod ImportRules
-pub mod SpliceLaws

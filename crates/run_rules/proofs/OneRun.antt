@@ -5,9 +5,9 @@ use Rattle.go_tree.specs.declared.spans.Span.{Span}
 use Rattle.go_tree.specs.declared.tokens.Token.{Token}
 use Rattle.go_tree.specs.File.{File}
 use Rattle.go_tree.specs.GoWords.Tokens.{TokensOf}
-use Rattle.go_scan.proofs.Cuts.{tokens_once}
-use Rattle.go_read.specs.SpellsFiles.{SpellsFile}
-use Rattle.go_read.proofs.Whole as read
+use Rattle.directive_scan.proofs.Cuts.{tokens_once}
+use Rattle.go_layout.specs.SpellsFiles.{SpellsFile}
+use Rattle.go_layout.proofs.Whole as read
 use Rattle.text_edits.specs.Applied.{applied}
 use Rattle.pkg_graph.specs.Package.{Package}
 use Rattle.pkg_graph.specs.Reads.{Source}

@@ -9,11 +9,11 @@ use Rattle.go_tree.specs.Tree.{named, slice_type, struct_type, no_fields, field,
 use Rattle.go_tree.specs.File.{File, values, types}
 use Rattle.run_rules.specs.FormTrees.{ConstForm, TypeForm, ExprForm, BlockForm}
 use Rattle.run_rules.proofs.CaseTools.{at, nm, tok, note, param, sig, imp, imps, tspec, fn, pack, source, mark, Module}
-use Rattle.go_read.specs.SpellsSpans.{span_to}
+use Rattle.go_layout.specs.SpellsSpans.{span_to}
 use Rattle.go_tree.specs.GoWords.Terminals.{lexemes}
 use Rattle.go_tree.specs.GoWords.Tokens.Pieces.{keyword_spellings}
-use Rattle.go_read.specs.Goals.{read_front}
-use Rattle.go_read.proofs.Texts.{reading}
+use Rattle.go_layout.specs.Goals.{read_front}
+use Rattle.go_layout.proofs.Texts.{reading}
 use Rattle.run_rules.proofs.CaseTools.{read_at}
 use Rattle.directive_scan.specs.Lines.{is_inline}
 use Rattle.pkg_graph.specs.ModuleFiles.Internal.{passes}
@@ -24,7 +24,7 @@ use Rattle.run_rules.specs.Steps.{At}
 use Rattle.run_rules.specs.Marks.{marks_of}
 use Rattle.run_rules.specs.Run.{Standing, Logged, as_read, Next, step_in, goes_on, ends, the_limits}
 use Rattle.run_rules.specs.Run as run
-use Rattle.go_read.proofs.Whole.{file_spelled}
+use Rattle.go_layout.proofs.Whole.{file_spelled}
 use Rattle.std.specs.Fmt.{digits}
 use Rattle.run_rules.specs.Inlining.{standing_as_read, begins, steps_on, IsInlining}
 use Rattle.run_rules.proofs.CaseTools.{from, nmf}
@@ -36,8 +36,8 @@ use Rattle.ucd_category.specs.GeneralCategoryRows.{general_category_rows}
 use Rattle.ucd_table.specs.Rows.{value_in}
 use Rattle.go_tree.specs.GoWords.Tokens.{tokens_from, comments_from}
 use Rattle.go_tree.specs.GoWords.Tokens.Characters.{is_letter, is_digit}
-use Rattle.go_scan.specs.Automaton.{next_of, longest_from}
-use Rattle.go_scan.specs.Pieces.{piece_of, lexeme_of}
+use Rattle.directive_scan.specs.Automaton.{next_of, longest_from}
+use Rattle.directive_scan.specs.Pieces.{piece_of, lexeme_of}
 use Rattle.run_rules.proofs.TokensFound.{tokens_by}
 
 -- A library of three packages and its callers: seven steps, and the report in its order.

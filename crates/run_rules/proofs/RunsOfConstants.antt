@@ -10,11 +10,11 @@ use Rattle.go_tree.specs.declared.operators.BinOp.TheVariants.{Add}
 use Rattle.go_tree.specs.Tree.{ident, int_lit, call, binary, no_exprs, expr_and, const_decl, eval, define, no_stmts, stmt_and, no_specs, spec}
 use Rattle.go_tree.specs.File.{File, values}
 use Rattle.run_rules.proofs.CaseTools.{at, nm, tok, note, sig, fn, pack, source, mark, Module}
-use Rattle.go_read.specs.SpellsSpans.{span_to}
+use Rattle.go_layout.specs.SpellsSpans.{span_to}
 use Rattle.go_tree.specs.GoWords.Terminals.{lexemes}
 use Rattle.go_tree.specs.GoWords.Tokens.Pieces.{keyword_spellings}
-use Rattle.go_read.specs.Goals.{read_front}
-use Rattle.go_read.proofs.Texts.{reading}
+use Rattle.go_layout.specs.Goals.{read_front}
+use Rattle.go_layout.proofs.Texts.{reading}
 use Rattle.run_rules.proofs.CaseTools.{read_at}
 use Rattle.directive_scan.specs.Lines.{is_inline}
 use Rattle.pkg_graph.specs.ModuleFiles.Internal.{passes}
@@ -25,7 +25,7 @@ use Rattle.run_rules.specs.Marks.{marks_of}
 use Rattle.run_rules.specs.Run.{Standing, Next, step_in, goes_on, ends, the_limits}
 use Rattle.run_rules.specs.Run.{Steps}
 use Rattle.run_rules.specs.Run as run
-use Rattle.go_read.proofs.Whole.{file_spelled}
+use Rattle.go_layout.proofs.Whole.{file_spelled}
 use Rattle.std.specs.Fmt.{digits}
 use Rattle.run_rules.specs.Inlining.{standing_as_read, begins, steps_on, IsInlining, IsTooLarge}
 use Rattle.run_rules.proofs.CaseTools.{from, nmf}
@@ -37,8 +37,8 @@ use Rattle.ucd_category.specs.GeneralCategoryRows.{general_category_rows}
 use Rattle.ucd_table.specs.Rows.{value_in}
 use Rattle.go_tree.specs.GoWords.Tokens.{tokens_from, comments_from}
 use Rattle.go_tree.specs.GoWords.Tokens.Characters.{is_letter, is_digit}
-use Rattle.go_scan.specs.Automaton.{next_of, longest_from}
-use Rattle.go_scan.specs.Pieces.{piece_of, lexeme_of}
+use Rattle.directive_scan.specs.Automaton.{next_of, longest_from}
+use Rattle.directive_scan.specs.Pieces.{piece_of, lexeme_of}
 use Rattle.run_rules.proofs.TokensFound.{tokens_by}
 
 -- A run of one step.

@@ -8,10 +8,10 @@ use Rattle.go_tree.specs.declared.operators.BinOp.TheVariants.{Mul}
 use Rattle.go_tree.specs.Tree.{named, ident, int_lit, str_lit, selector, call, binary, no_exprs, expr_and, eval, define, return_, no_stmts, stmt_and}
 use Rattle.go_tree.specs.File.{File}
 use Rattle.run_rules.proofs.CaseTools.{at, nm, tok, note, param, sig, imp, imps, fn, pack, source, mark, Module}
-use Rattle.go_read.specs.SpellsSpans.{span_to}
+use Rattle.go_layout.specs.SpellsSpans.{span_to}
 use Rattle.go_tree.specs.GoWords.Terminals.{lexemes}
-use Rattle.go_read.specs.Goals.{read_front}
-use Rattle.go_read.proofs.Texts.{reading}
+use Rattle.go_layout.specs.Goals.{read_front}
+use Rattle.go_layout.proofs.Texts.{reading}
 use Rattle.run_rules.proofs.CaseTools.{read_at}
 use Rattle.go_tree.specs.GoWords.Tokens.Pieces.{keyword_spellings}
 use Rattle.directive_scan.specs.Lines.{is_inline}
@@ -22,7 +22,7 @@ use Rattle.run_rules.specs.Steps.{At}
 use Rattle.run_rules.specs.Marks.{marks_of}
 use Rattle.run_rules.specs.Run.{Standing, Next, step_in, goes_on, ends, the_limits}
 use Rattle.run_rules.specs.Run as run
-use Rattle.go_read.proofs.Whole.{file_spelled}
+use Rattle.go_layout.proofs.Whole.{file_spelled}
 use Rattle.std.specs.Fmt.{digits}
 use Rattle.run_rules.specs.Inlining.{standing_as_read, begins, steps_on, IsInlining}
 use Rattle.run_rules.proofs.CaseTools.{from, nmf}
@@ -34,8 +34,8 @@ use Rattle.ucd_category.specs.GeneralCategoryRows.{general_category_rows}
 use Rattle.ucd_table.specs.Rows.{value_in}
 use Rattle.go_tree.specs.GoWords.Tokens.{tokens_from, comments_from}
 use Rattle.go_tree.specs.GoWords.Tokens.Characters.{is_letter, is_digit}
-use Rattle.go_scan.specs.Automaton.{next_of, longest_from}
-use Rattle.go_scan.specs.Pieces.{piece_of, lexeme_of}
+use Rattle.directive_scan.specs.Automaton.{next_of, longest_from}
+use Rattle.directive_scan.specs.Pieces.{piece_of, lexeme_of}
 use Rattle.run_rules.proofs.TokensFound.{tokens_by}
 
 -- An argument that acts is evaluated once, and first.

@@ -10,10 +10,10 @@ use Rattle.go_tree.specs.File.{File, values}
 use Rattle.run_rules.specs.FormTrees.{ConstForm}
 use Rattle.run_rules.specs.Obstacles.{Shadowed, Repeated}
 use Rattle.run_rules.proofs.CaseTools.{at, nm, tok, note, sig, fn, pack, source, mark, Module, is_typed, first_change, step_of, kept_uses}
-use Rattle.go_read.specs.SpellsSpans.{span_to}
+use Rattle.go_layout.specs.SpellsSpans.{span_to}
 use Rattle.go_tree.specs.GoWords.Terminals.{lexemes}
-use Rattle.go_read.specs.Goals.{read_front}
-use Rattle.go_read.proofs.Texts.{reading}
+use Rattle.go_layout.specs.Goals.{read_front}
+use Rattle.go_layout.proofs.Texts.{reading}
 use Rattle.run_rules.proofs.CaseTools.{read_at}
 
 -- A marked constant becomes the constant that it names.

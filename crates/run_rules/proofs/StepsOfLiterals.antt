@@ -11,10 +11,10 @@ use Rattle.run_rules.specs.FormTrees.{ExprForm, LiteralForm}
 use Rattle.run_rules.specs.Obstacles.{Recursive}
 use Rattle.run_rules.specs.Cycles.{is_recursive}
 use Rattle.run_rules.proofs.CaseTools.{at, nm, tok, note, param, sig, fn, pack, source, mark, Module, is_typed, first_change, step_of, kept_uses}
-use Rattle.go_read.specs.SpellsSpans.{span_to}
+use Rattle.go_layout.specs.SpellsSpans.{span_to}
 use Rattle.go_tree.specs.GoWords.Terminals.{lexemes}
-use Rattle.go_read.specs.Goals.{read_front}
-use Rattle.go_read.proofs.Texts.{reading}
+use Rattle.go_layout.specs.Goals.{read_front}
+use Rattle.go_layout.proofs.Texts.{reading}
 use Rattle.run_rules.proofs.CaseTools.{read_at}
 
 -- A constant that gives a constant fault is bound.

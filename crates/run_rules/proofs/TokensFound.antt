@@ -7,8 +7,8 @@ use Rattle.go_tree.specs.declared.tokens.Token.{Token}
 use Rattle.go_tree.specs.declared.tokens.Comment.{Comment}
 use Rattle.go_tree.specs.GoWords.Tokens.{TokensOf, tokens_from, comments_from, after_mark, mark_size}
 use Rattle.go_tree.specs.GoWords.Tokens.Pieces.{PieceKind, Piece, CutsTo}
-use Rattle.go_scan.specs.Pieces.{piece_of, Exact}
-use Rattle.go_scan.proofs.PieceLemmas.{piece_exact}
+use Rattle.directive_scan.specs.Pieces.{piece_of, Exact}
+use Rattle.directive_scan.proofs.PieceLemmas.{piece_exact}
 use Rattle.go_tree.specs.GoTypes.Answers.{given}
 
 abbrev the_piece : PieceKind × ℕ → List ℕ → Piece

@@ -1,3 +1,7 @@
+pub use Rattle.directive_scan.specs.declared.mark_types.Verdict
+pub use Rattle.directive_scan.specs.declared.mark_types.MarkKind
+pub use Rattle.directive_scan.specs.declared.mark_types.BadReason
+pub use Rattle.directive_scan.specs.Items
 pub mod Surroundings
 pub mod Places
 pub mod Rewriting
@@ -24,4 +28,4 @@ pub mod Report
 pub mod Inlining
 pub mod Laws
 pub mod ImportRules
-pub mod SpliceLaws
+pub mod Printed

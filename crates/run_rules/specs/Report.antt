@@ -2,7 +2,7 @@
 -- read (golang.org/x/tools, analyzer inline, for what is reported; the lines are this project's own).
 use Rattle.std.specs.Prelude.{ℕ, ◌+◌, Bool, bytes_eq, nat_le, List, [], ◌∷◌, ◌++◌, map, take, Some}
 use Rattle.std.specs.Prelude.{None, if◌then◌else◌, codes, decimal}
-use Rattle.text_places.specs.Lines.{lines_before, column_after}
+use Rattle.directive_scan.specs.TextPlacesLines.{lines_before, column_after}
 use Rattle.pkg_graph.specs.ModuleFiles.Pieces.{comes_before}
 use Rattle.directive_scan.specs.declared.mark_types.BadReason.{BadReason}
 use Rattle.directive_scan.specs.declared.mark_types.BadReason.TheVariants.{NotNamedConstant, NotAlias, NothingMarked}

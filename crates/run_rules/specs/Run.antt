@@ -6,8 +6,8 @@ use Rattle.std.specs.Prelude.{slice_get}
 use Rattle.std.specs.List.{list_any}
 use Rattle.go_tree.specs.declared.spans.Span.{Span}
 use Rattle.go_tree.specs.File.{File}
-use Rattle.go_read.specs.SpellsFiles.{SpellsFile}
-use Rattle.go_read.specs.SpellsWeight.{weights_of}
+use Rattle.go_layout.specs.SpellsFiles.{SpellsFile}
+use Rattle.go_layout.specs.SpellsWeight.{weights_of}
 use Rattle.text_edits.specs.declared.edit.Edit.{Edit}
 use Rattle.text_edits.specs.Applied.{applied}
 use Rattle.text_edits.specs.Joined.{joined}

@@ -4,7 +4,6 @@
 
 pub mod import_rules;
 mod laws;
-pub mod splice_laws;
 
 pub use laws::{
     edits_of_steps_stand_apart, ended_runs_keep_all_uses, names_found_are_needed,

@@ -1,3 +1,6 @@
+pub use Rattle.assignment_steps.proofs.DeclaredBlocks.BlockLemmas
+pub use Rattle.expr_walk.proofs.WalkArms.ExprArms
+pub use Rattle.expr_walk.proofs.Parts
 pub mod RangeSteps
 pub mod SimpleWalk
 pub mod DeclaredLemmas

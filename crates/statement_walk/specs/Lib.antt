@@ -1,3 +1,7 @@
+pub use Rattle.assignment_steps.specs.declared.targets.TargetList
+pub use Rattle.assignment_steps.specs.Targets
+pub use Rattle.assignment_steps.specs.SpecSteps.Specs
+pub use Rattle.expr_walk.specs.Walked
 pub mod RangeSteps
 pub mod SimpleWalk
 pub mod DeclaredVariables

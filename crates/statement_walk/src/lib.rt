@@ -17,7 +17,9 @@ mod uses;
 mod values;
 mod variables;
 
+pub use assignment_steps::declare_entities;
 pub use constants::{constant_group, constant_part};
+pub use expr_walk::{all_exprs, expr};
 pub use function_literals::{
     end_params, find_in_all, find_literals, literal_body, literal_operand, literals_refuse,
     param_part, signature,

@@ -7,7 +7,7 @@ use Rattle.pkg_graph.specs.Reads.{Source}
 use Rattle.programs.specs.Kept.{text_with}
 use Rattle.programs.specs.Programs.{IsProgramOf}
 use Rattle.programs.specs.declared.state.Program.{Program}
-use Rattle.run_rules.specs.SpliceLaws.RunLaws.Reading.{ProgramReads}
+use Rattle.splice_laws.specs.RunLaws.Reading.{ProgramReads}
 use Rattle.run_rules.specs.Run.{Standing, Logged, Next}
 use Rattle.run_rules.specs.Sites.{MarkRef, Where}
 use Rattle.run_rules.specs.Steps.{At}

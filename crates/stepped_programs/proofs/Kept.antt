@@ -15,7 +15,7 @@ use Rattle.programs.specs.Programs.{AreKeptFiles, IsProgramOf}
 use Rattle.programs.specs.Users.{Known}
 use Rattle.programs.specs.declared.state.PackageFiles.{PackageFiles}
 use Rattle.programs.specs.declared.state.Program.{Program}
-use Rattle.run_rules.proofs.SpliceLaws.RunLaws.RunsRead.{texts_new}
+use Rattle.splice_laws.proofs.RunLaws.RunsRead.{texts_new}
 use Rattle.run_rules.specs.Inlining.{ReadsAs}
 use Rattle.run_rules.specs.Marks.{text_at}
 use Rattle.run_rules.specs.Respanned.{file_with}

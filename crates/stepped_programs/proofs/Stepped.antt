@@ -18,8 +18,8 @@ use Rattle.programs.specs.declared.state.PackageFiles.{PackageFiles}
 use Rattle.programs.specs.declared.state.Program.{Program}
 use Rattle.run_by_steps.specs.RunProgress.Laws.{are_paths_apart}
 use Rattle.run_by_steps.proofs.RunProgress.Counts.{totals_follow}
-use Rattle.run_rules.specs.SpliceLaws.RunLaws.Reading.{ProgramReads, OnePathEach}
-use Rattle.run_rules.proofs.SpliceLaws.RunLaws.RunsRead.{steps_keep_reading}
+use Rattle.splice_laws.specs.RunLaws.Reading.{ProgramReads, OnePathEach}
+use Rattle.splice_laws.proofs.RunLaws.RunsRead.{steps_keep_reading}
 use Rattle.run_rules.specs.Programs.{dependency_order}
 use Rattle.run_rules.specs.Respanned.{packages_with}
 use Rattle.run_rules.specs.Run.{Standing, Logged, Next, here_of, module_file_size, texts_size}

@@ -9,7 +9,7 @@ use Rattle.go_tree.specs.ScopeNames.Scopes.{expr_span}
 use Rattle.run_rules.specs.ImportRules.Removed.{same_span}
 use Rattle.go_tree.specs.GoTypes.Answers.{meets}
 use Rattle.constant_forms.specs.Views.{name_expr}
-use Rattle.run_rules.proofs.SpliceLaws.ImportSplices.FormSplices.FormsFound.{step-makes-form}
+use Rattle.splice_laws.proofs.ImportSplices.FormSplices.FormsFound.{step-makes-form}
 use Rattle.stepped_programs.proofs.LoadedPrograms.Images.{at_image}
 use Rattle.printed_constants.proofs.TypedParts.MarkedRuns.PutForms.FirstUses.{file_reads}
 use Rattle.member_uses.proofs.Stays.{candidate_with}
@@ -18,7 +18,7 @@ use Rattle.member_uses.specs.PossibleUses.Laws.{PartsAreAmongAll}
 use Rattle.member_uses.specs.PossibleUses.Parts.{after_expr, parts_of}
 use Rattle.programs.specs.PartOrigins.Laws.{decls_origins}
 use Rattle.programs.proofs.PartOrigins.Gathered.{mapped_twice}
-use Rattle.run_rules.specs.SpliceLaws.RunLaws.Reading.{ProgramReads}
+use Rattle.splice_laws.specs.RunLaws.Reading.{ProgramReads}
 use Rattle.run_rules.specs.FormTrees.{Form}
 use Rattle.run_rules.specs.Respanned.{expr_with, decl_with}
 use Rattle.run_rules.specs.Run.{Standing, Logged, Next, here_of, origin_of}

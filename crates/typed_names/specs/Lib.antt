@@ -1,3 +1,4 @@
+pub use Rattle.universe_block.specs.declared.block.PredeclaredEntity
 pub mod Meanings
 pub mod Locals
 pub mod Scopes

@@ -10,7 +10,7 @@ use Rattle.go_tree.specs.GoTypes.Programs.{Headed, header_names, Program, headed
 use Rattle.go_tree.specs.GoTypes.TypeDeclarations.{DeclaredTypes}
 use Rattle.go_tree.specs.GoTypes.Collect.{good_entity, declared_by, types_declared, typed_world, valued_world}
 use Rattle.pkg_graph.specs.declared.packages.Package.{Package}
-use Rattle.run_rules.specs.Programs.{in_dependency_order}
+use Rattle.package_blocks.specs.Programs.{in_dependency_order}
 use Rattle.typed_in_place.specs.Known.{Clearer, refused_before}
 use Rattle.typed_in_place.proofs.Blocks.{Fits}
 use Rattle.typed_in_place.proofs.Headers.{declared_in, value_phase}

@@ -8,7 +8,7 @@ use Rattle.go_tree.specs.declared.tokens.TokenKind.TheVariants.{Ident, Keyword, 
 use Rattle.go_tree.specs.GoWords.Terminals.{Terminal, ellipsis, lex, lexemes, found_in, operators, keywords, terminal_of}
 use Rattle.go_read.specs.SpellsTypes.{Lexemes}
 use Rattle.go_read.specs.SpellsSpans.{span_to}
-use Rattle.run_rules.proofs.SpliceLaws.ImportSplices.SupportedWords.Spelled.{Passed, here, later}
+use Rattle.splice_laws.proofs.ImportSplices.SupportedWords.Spelled.{Passed, here, later}
 use Rattle.variadic_words.specs.Dots.{is_operator, is_dots}
 use Rattle.variadic_words.specs.Laws.{FilesWithoutDots}
 use Rattle.variadic_words.proofs.Unspread.{front_plain}

@@ -8,11 +8,11 @@ use Rattle.go_read.specs.Spells.{SpellsBare, SpellsExpr, SpellsOperand, SpellsOp
 use Rattle.go_read.specs.SpellsFiles.{SpellsTop, SpellsTops, SpellsFront, top_const_rule, top_var_rule, top_type_rule, top_type_group_rule, top_func_rule, top_method_rule, no_tops_rule, more_tops_rule, front_rule}
 use Rattle.go_tree.specs.declared.spans.Span.{Span}
 use Rattle.go_tree.specs.GoWords.Terminals.{lex, ellipsis}
-use Rattle.run_rules.specs.SpliceLaws.Dots.{ExprDots, ExprsDots, OptionDots, ElemsDots, ValueDots, KeyDots, StmtDots, StmtsDots, PartDots, BlockDots, LeftDots, ArmsDots, CasesDots, SpecsDots, DeclDots, DeclsDots}
-use Rattle.run_rules.specs.SpliceLaws.ImportSplices.TypedDots.TypedDots.{AnyExpr}
-use Rattle.run_rules.specs.SpliceLaws.ImportSplices.TypedDots.Unspread.{UnspreadRest, UnspreadFile}
-use Rattle.run_rules.proofs.SpliceLaws.ImportSplices.SupportedWords.Spelled as words
-use Rattle.run_rules.proofs.SpliceLaws.ImportSplices.SupportedWords.Spelled.{Passed, drop, sign_known}
+use Rattle.splice_laws.specs.Dots.{ExprDots, ExprsDots, OptionDots, ElemsDots, ValueDots, KeyDots, StmtDots, StmtsDots, PartDots, BlockDots, LeftDots, ArmsDots, CasesDots, SpecsDots, DeclDots, DeclsDots}
+use Rattle.splice_laws.specs.ImportSplices.TypedDots.TypedDots.{AnyExpr}
+use Rattle.splice_laws.specs.ImportSplices.TypedDots.Unspread.{UnspreadRest, UnspreadFile}
+use Rattle.splice_laws.proofs.ImportSplices.SupportedWords.Spelled as words
+use Rattle.splice_laws.proofs.ImportSplices.SupportedWords.Spelled.{Passed, drop, sign_known}
 
 -- none of the tokens that are passed is `...`
 module _ {S : Type 0} (mark : Lexemes → Lexemes → S) (whole : Lexemes) (none : (s : Span) (us : Lexemes) → Passed (lex s ellipsis ∷ us) whole → ⊥) where

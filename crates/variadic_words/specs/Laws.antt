@@ -6,7 +6,7 @@ use Rattle.go_tree.specs.declared.spans.Span.{Span}
 use Rattle.go_tree.specs.declared.tokens.Token.{Token}
 use Rattle.go_tree.specs.File.{File}
 use Rattle.go_read.specs.SpellsFiles.{SpellsFile}
-use Rattle.run_rules.specs.SpliceLaws.ImportSplices.TypedDots.Unspread.{UnspreadFile}
+use Rattle.splice_laws.specs.ImportSplices.TypedDots.Unspread.{UnspreadFile}
 use Rattle.variadic_words.specs.Dots.{is_dots}
 
 -- No call of a file without `...` hands on a slice for its last arguments.

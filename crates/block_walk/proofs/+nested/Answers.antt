@@ -8,7 +8,7 @@ use Rattle.go_tree.specs.GoTypes.Jumps.{breaks, breaks_in}
 use Rattle.go_tree.specs.GoTypes.Answers.{given}
 use Rattle.go_tree.specs.GoTypes.Statements.{choice, has_last, is_default, tag_of}
 use Rattle.go_tree.specs.GoTypes.Typing as go
-use Rattle.assignment_steps.proofs.DeclaredBlocks.BlockLemmas.{within_on}
+use Rattle.statement_walk.proofs.BlockLemmas.{within_on}
 use Rattle.control_steps.specs.LocalBlocks.Places.{IsWithin}
 use Rattle.operand_modes.proofs.OperandAnswers.KeptLemmas.{keeps_on, value_on}
 use Rattle.jump_rules.specs.UsedLocals.Used.{and_names, used_of}

@@ -7,8 +7,8 @@ use Rattle.go_tree.specs.GoTypes.Entities.{Entity}
 use Rattle.go_tree.specs.GoTypes.Programs.{Header, SourceFile, Headed, Program, all_headers, block_names, file_block, header_names, header_sound, headed, headed_file, headed_files, headed_package, is_main, names_in}
 use Rattle.typed_in_place.specs.ProgramsAlike.{OneByOne, no_more, and_more}
 use Rattle.package_blocks.proofs.HeaderLemmas.{append_none}
-use Rattle.header_order.specs.Files.{file_counts, first_mark, first_marks, header_count}
-use Rattle.header_order.proofs.FileLemmas.{length_both}
+use Rattle.collected.specs.Files.{file_counts, first_mark, first_marks, header_count}
+use Rattle.collected.proofs.FileLemmas.{length_both}
 use Rattle.checked_modules.specs.FilePlaces.Around.{FileAround, all_around, files_around}
 use Rattle.checked_modules.specs.FilePlaces.Headers.{IsFirstIn, first_numbers}
 

@@ -25,7 +25,7 @@ use Rattle.typed_names.proofs.NameLaws.{means_read, turned}
 use Rattle.declared_types.specs.Headers.{IsFileOf}
 use Rattle.package_blocks.specs.Imports.{views}
 use Rattle.file_names.specs.Imports.{import_in}
-use Rattle.initial_values.specs.ValuePlaces.Places.{IsValuePlace}
+use Rattle.collected.specs.Places.{IsValuePlace}
 use Rattle.checked_modules.specs.FilePlaces.Around.{FileAround, IsPlaceOf}
 use Rattle.checked_modules.specs.FilePlaces.Imports.{IsOwnPlace, names_imported}
 use Rattle.checked_modules.specs.FilePlaces.Trees.{IsTreeOf}

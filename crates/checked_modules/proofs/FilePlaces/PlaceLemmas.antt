@@ -19,10 +19,10 @@ use Rattle.package_blocks.specs.Collected.{AreOrdered}
 use Rattle.package_blocks.specs.Headers.{AreHeaders, IsHeader, a_header, listed_of, no_headers}
 use Rattle.package_blocks.proofs.HeaderLemmas.{append_none}
 use Rattle.package_blocks.specs.FuncHeaders.Functions.{program_of}
-use Rattle.header_order.specs.Files.{counts_of, file_counts, first_marks, total}
-use Rattle.header_order.specs.FirstRefusals.Files.{number_in}
-use Rattle.header_order.specs.Laws.{CountsAreAll, CountsOfModules}
-use Rattle.header_order.proofs.FirstRefusals.PlaceLemmas.{headers_length}
+use Rattle.collected.specs.Files.{counts_of, file_counts, first_marks, total}
+use Rattle.collected.specs.FirstRefusalsFiles.{number_in}
+use Rattle.collected.specs.HeaderOrderLaws.{CountsAreAll, CountsOfModules}
+use Rattle.collected.proofs.FirstRefusalsPlaceLemmas.{headers_length}
 use Rattle.checked_modules.specs.declared.file_places.files.FilePlace.{FilePlace}
 use Rattle.checked_modules.specs.FilePlaces.Around.{FileAround, IsPlaceOf, StandsIn, all_around}
 use Rattle.checked_modules.specs.FilePlaces.Headers.{IsFirstIn, first_numbers}

@@ -2,7 +2,7 @@
 use Rattle.std.specs.Prelude.{◌≡◌, ℕ, true, List, [], length, replicate, Option, Some, None, slice_get}
 use Rattle.go_tree.specs.declared.spans.Span.{Span}
 use Rattle.go_tree.specs.GoTypes.Programs.{Headed, Program, all_headers, headed}
-use Rattle.header_order.specs.Files.{file_counts, first_marks}
+use Rattle.collected.specs.Files.{file_counts, first_marks}
 use Rattle.checked_modules.specs.FilePlaces.Around.{FileAround, StandsIn}
 
 -- by its number among all headers; none where a file declares nothing

@@ -6,7 +6,7 @@ use Rattle.pkg_graph.specs.declared.packages.Package.{Package}
 use Rattle.run_rules.specs.Programs.{linked_imports}
 use Rattle.typed_names.specs.declared.scopes.Scope.{Scope}
 use Rattle.package_blocks.specs.Imports.{views}
-use Rattle.initial_values.specs.ValuePlaces.Places.{IsValuePlace}
+use Rattle.collected.specs.Places.{IsValuePlace}
 use Rattle.checked_modules.specs.FilePlaces.Around.{FileAround, IsPlaceOf}
 use Rattle.checked_modules.specs.FilePlaces.Trees.{IsTreeOf}
 

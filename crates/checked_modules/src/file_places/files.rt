@@ -6,7 +6,7 @@ ghost use Rattle.typed_names.specs.declared.scopes.Scope.{Scope as Place};
 ghost use Rattle.package_blocks.specs.Collected.{AreOrdered};
 ghost use Rattle.package_blocks.specs.Headers.{AreHeaders, listed_of};
 ghost use Rattle.package_blocks.specs.FuncHeaders.Functions.{program_of};
-ghost use Rattle.header_order.specs.FirstRefusals.Files.{number_in};
+ghost use Rattle.collected.specs.FirstRefusalsFiles.{number_in};
 ghost use Rattle.checked_modules.specs.FilePlaces.Around.{all_around};
 ghost use Rattle.checked_modules.specs.FilePlaces.Places.{AreFiles, place_number, place_told, placed};
 

@@ -6,8 +6,8 @@ ghost use Rattle.package_blocks.specs.Collected.{AreOrdered};
 ghost use Rattle.package_blocks.specs.FuncHeaders.Functions.{program_of};
 ghost use Rattle.checked_modules.specs.FilePlaces.Headers.{first_numbers};
 
+use collected::{counts_of_modules, first_refused_headers, headers_by_files};
 use go_tree::NoMemory;
-use header_order::{counts_of_modules, first_refused_headers, headers_by_files};
 use pkg_graph::Package;
 use std::alloc::Global;
 

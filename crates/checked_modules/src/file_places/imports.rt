@@ -4,10 +4,10 @@ ghost use Rattle.std.specs.Prelude.{◌≡◌, map, None, IfOk};
 ghost use Rattle.file_names.specs.Imports.{FindsPackages};
 ghost use Rattle.checked_modules.specs.FilePlaces.Imports.{IsOwnPlace};
 
+use collected::value_place;
 use file_names::{Places, names_of_file};
 use go_tree::scope_names::{ImportName, NameList};
 use go_tree::{FileTree, Name, NoMemory};
-use initial_values::value_place;
 use pkg_graph::Package;
 use std::alloc::Global;
 use typed_names::Scope;

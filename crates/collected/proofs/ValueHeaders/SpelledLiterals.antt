@@ -16,7 +16,7 @@ use Rattle.go_tree.specs.ConstEval.Exact.{Exact, number, text}
 use Rattle.go_tree.specs.ConstEval.Literals.{integer_value, is_text_quote, literal_value}
 use Rattle.type_table.specs.OperandRules.Folding.{is_literal_kind}
 use Rattle.go_layout.specs.LayoutLaws.Formed.{IsToken}
-use Rattle.expr_walk.specs.Walked.{IsLiteralOf}
+use Rattle.initial_values.specs.Walked.{IsLiteralOf}
 
 -- ---- integers
 

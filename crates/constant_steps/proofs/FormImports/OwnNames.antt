@@ -13,7 +13,7 @@ use Rattle.go_tree.specs.GoWords.Terminals.{Terminal, Lexeme, lex, ident, found_
 use Rattle.go_tree.specs.GoWords.Tokens.{tokens_from, tokens_at, inserted, due_after, span_of, size_of}
 use Rattle.go_tree.specs.GoWords.Tokens.Characters.{is_listed}
 use Rattle.go_tree.specs.GoWords.Tokens.Pieces.{PieceKind, blanks, remark, token, Piece, IsPiece, CutsTo}
-use Rattle.run_rules.proofs.SpliceLaws.Rises.{piece_size}
+use Rattle.splice_laws.proofs.Rises.{piece_size}
 use Rattle.go_read.specs.SpellsSpans.{span_to}
 use Rattle.go_read.specs.SpellsFiles.{SpellsFront, front_rule}
 use Rattle.go_tree.specs.ScopeNames.Means.{is_blank}

@@ -8,7 +8,7 @@ use Rattle.go_tree.specs.GoWords.Terminals.{unary_sign, semicolon}
 use Rattle.go_read.specs.SpellsTypes.{Lexemes, SpellsType, SpellsNames, named_rule, qualified_rule, pointer_rule, slice_type_rule, map_type_rule, struct_type_rule, type_parens_rule, last_name_rule, more_names_rule}
 use Rattle.go_read.specs.SpellsSpans.{span_to}
 use Rattle.go_read.specs.Spells.{SpellsLiteralType, SpellsBare, SpellsExpr, SpellsOperand, SpellsExprs, SpellsIf, SpellsArm, SpellsSpec, named_literal_rule, qualified_literal_rule, type_literal_rule, ident_rule, int_rule, rune_rule, text_rule, composite_rule, func_rule, type_rule, selector_rule, index_rule, slice_rule, call_rule, unary_rule, star_rule, binary_rule, bare_rule, parens_rule, operand_rule, last_expr_rule, more_exprs_rule, only_arm_rule, else_rule, else_if_rule, arm_rule, repeated_rule, typed_var_rule, values_rule, typed_values_rule}
-use Rattle.run_rules.proofs.SpliceLaws.Grafts.{here, drop}
+use Rattle.splice_laws.proofs.Grafts.{here, drop}
 use Rattle.constant_steps.proofs.PlaceMeanings.Behinds.{type_by, fields_by, sig_by, names_by, expr_by, operand_by, option_by, exprs_by, args_by, elems_by, first_by, block_by, if_by}
 use Rattle.constant_steps.proofs.PlaceMeanings.Rooms.{Begins, begins, begins_past}
 

@@ -8,8 +8,8 @@ use Rattle.go_read.specs.SpellsTypes.{Lexemes, SpellsType, SpellsFields, SpellsE
 use Rattle.go_read.specs.SpellsSpans.{span_to}
 use Rattle.go_read.specs.Spells.{SpellsLiteralType, SpellsBare, SpellsExpr, SpellsOperand, SpellsOption, SpellsExprs, SpellsArgs, SpellsElems, SpellsElem, SpellsValue, SpellsSimple, SpellsPart, SpellsFirst, SpellsStmt, SpellsBlock, SpellsStmts, SpellsIf, SpellsArm, SpellsLeft, SpellsCases, SpellsDecl, SpellsSpecs, SpellsSpec}
 use Rattle.go_read.specs.SpellsFiles.{SpellsTypeSpec, SpellsTypeSpecs, SpellsReceiver, SpellsTop, SpellsTops}
-use Rattle.run_rules.proofs.SpliceLaws.Grafts.{Within}
-use Rattle.run_rules.proofs.SpliceLaws.Pasts.{type_past, fields_past, entries_past, rest_past, named_past, unnamed_past, params_past, results_past, sig_past, names_past, literal_past, bare_past, expr_past, operand_past, option_past, exprs_past, args_past, elems_past, elem_past, value_past, simple_past, part_past, first_past, stmt_past, block_past, stmts_past, if_past, arm_past, left_past, cases_past, decl_past, specs_past, spec_past, type_spec_past, type_specs_past, receiver_past, top_past, tops_past}
+use Rattle.splice_laws.proofs.Grafts.{Within}
+use Rattle.splice_laws.proofs.Pasts.{type_past, fields_past, entries_past, rest_past, named_past, unnamed_past, params_past, results_past, sig_past, names_past, literal_past, bare_past, expr_past, operand_past, option_past, exprs_past, args_past, elems_past, elem_past, value_past, simple_past, part_past, first_past, stmt_past, block_past, stmts_past, if_past, arm_past, left_past, cases_past, decl_past, specs_past, spec_past, type_spec_past, type_specs_past, receiver_past, top_past, tops_past}
 
 pub type_by : {a0 : TypeExpr Span} {ts r whole : Lexemes} → SpellsType span_to a0 ts r → Within ts whole → Within r whole
 type_by {whole = whole} d a = type_past span_to whole d a

@@ -14,7 +14,7 @@ use Rattle.run_rules.specs.Surroundings.{Place, Seen, alike, value_use, in_const
 use Rattle.run_rules.specs.Places.{written_seen, sig_seen, all_seen, stmts_seen}
 use Rattle.run_rules.specs.Programs.{world, headed_func, params_of, top_place, body_place, constants_at_top, variables_at_top, types_at_top, receiver_seen, func_seen, decl_seen}
 use Rattle.run_rules.specs.Respanned.{stmts_with, exprs_with, specs_with, type_spec_with, receiver_with, func_with, decl_with}
-use Rattle.run_rules.proofs.SpliceLaws.RunLaws.NodeSpans.{AllTypeSpecs, AllReceiver}
+use Rattle.splice_laws.proofs.RunLaws.NodeSpans.{AllTypeSpecs, AllReceiver}
 use Rattle.constant_steps.specs.PlaceMeanings.Parts.{AllScoped, AtParts}
 use Rattle.constant_steps.proofs.PlaceMeanings.Nested.{Lies, NestSpecs, NestDecl, NestDecls}
 use Rattle.constant_steps.proofs.PlaceMeanings.Scoped.{holds, Inside, holds-append, behind_none, names_hold, or_false, From, names_from, inside_from, from_lower, from_both, none_from, one_ended}

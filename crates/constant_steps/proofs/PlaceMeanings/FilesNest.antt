@@ -6,13 +6,13 @@ use Rattle.go_tree.specs.GoWords.Terminals.{lexemes}
 use Rattle.go_read.specs.SpellsTypes.{Lexemes}
 use Rattle.go_read.specs.SpellsSpans.{span_to}
 use Rattle.go_read.specs.SpellsFiles.{SpellsTypeSpec, SpellsTypeSpecs, SpellsReceiver, SpellsTop, type_spec_rule, alias_spec_rule, no_type_specs_rule, last_type_spec_rule, more_type_specs_rule, receiver_rule, pointer_receiver_rule, named_receiver_rule, named_pointer_receiver_rule, top_const_rule, top_var_rule, top_type_rule, top_type_group_rule, top_func_rule, top_method_rule, SpellsTops, SpellsFront, no_tops_rule, more_tops_rule, front_rule}
-use Rattle.run_rules.proofs.SpliceLaws.Grafts.{Within, here, drop}
-use Rattle.run_rules.proofs.SpliceLaws.Pasts.{imports_past}
-use Rattle.run_rules.proofs.SpliceLaws.ImportSplices.ImportPlaces.TokensStand.{tokens_stand}
-use Rattle.run_rules.proofs.SpliceLaws.ImportSplices.ImportPlaces.ImportsStand.{all_lie}
+use Rattle.splice_laws.proofs.Grafts.{Within, here, drop}
+use Rattle.splice_laws.proofs.Pasts.{imports_past}
+use Rattle.splice_laws.proofs.ImportSplices.ImportPlaces.TokensStand.{tokens_stand}
+use Rattle.splice_laws.proofs.ImportSplices.ImportPlaces.ImportsStand.{all_lie}
 use Rattle.run_rules.specs.Texts.{FileText}
 use Rattle.run_rules.specs.Inlining.{ReadsAs}
-use Rattle.run_rules.proofs.SpliceLaws.RunLaws.NodeSpans.{AllType, AllTypeSpecs}
+use Rattle.splice_laws.proofs.RunLaws.NodeSpans.{AllType, AllTypeSpecs}
 use Rattle.constant_steps.proofs.PlaceMeanings.Behinds.{type_by, sig_by, block_by, decl_by, type_spec_by, type_specs_by, receiver_by, top_by, tops_by}
 use Rattle.constant_steps.proofs.PlaceMeanings.TypesLie.{type_lies, sig_lies}
 use Rattle.constant_steps.proofs.PlaceMeanings.PartsNest.{block_nest, decl_nest}

@@ -5,8 +5,8 @@ use Rattle.go_tree.specs.declared.tokens.Token.{Token}
 use Rattle.go_tree.specs.GoWords.Terminals.{Terminal, lex, semicolon}
 use Rattle.go_read.specs.SpellsTypes.{Lexemes}
 use Rattle.go_read.specs.SpellsSpans.{span_to}
-use Rattle.run_rules.proofs.SpliceLaws.Grafts.{Within, here, later, both_within}
-use Rattle.run_rules.proofs.SpliceLaws.ImportSplices.ImportPlaces.ImportsStand.{IsWord, Lie, end_before, end_is}
+use Rattle.splice_laws.proofs.Grafts.{Within, here, later, both_within}
+use Rattle.splice_laws.proofs.ImportSplices.ImportPlaces.ImportsStand.{IsWord, Lie, end_before, end_is}
 use Rattle.constant_steps.proofs.PlaceMeanings.Nested.{Lies}
 
 -- the tokens stand in their order from a byte on; none but an inserted semicolon is empty

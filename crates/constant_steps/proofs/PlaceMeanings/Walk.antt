@@ -22,7 +22,7 @@ use Rattle.go_tree.specs.ScopeNames.Scopes.{Scope, expr_span, not_blank, new_nam
 use Rattle.run_rules.specs.Surroundings.{Slot, is_local}
 use Rattle.run_rules.specs.Sites.{named_in, named_in_fields}
 use Rattle.run_rules.specs.Respanned.{name_with, type_with, fields_with, type_option_with, param_with, sig_with, expr_with, exprs_with, expr_option_with, elems_with, value_option_with, value_with, stmt_with, stmts_with, stmt_option_with, block_option_with, left_with, arms_with, cases_with, specs_with}
-use Rattle.run_rules.proofs.SpliceLaws.RunLaws.NodeSpans.{AllType, AllFields, AllTypeOption, AllParams, AllSig, AllNames}
+use Rattle.splice_laws.proofs.RunLaws.NodeSpans.{AllType, AllFields, AllTypeOption, AllParams, AllSig, AllNames}
 use Rattle.constant_steps.specs.PlaceMeanings.Parts.{AllScoped, AtTypes, AtParts}
 use Rattle.constant_steps.proofs.PlaceMeanings.Nested.{Lies, NestExpr, NestExprs, NestExprOption, NestElems, NestValue, NestValueOption, NestStmt, NestStmts, NestStmtOption, NestBlockOption, NestLeft, NestArms, NestCases, NestSpecs, expr_lies, expr_at}
 use Rattle.constant_steps.proofs.PlaceMeanings.Scoped.{holds, Inside, wider, paired, holds-append, before_none, behind_none, names_hold, or_false, From, names_from, inside_from, from_lower, from_both, none_from}

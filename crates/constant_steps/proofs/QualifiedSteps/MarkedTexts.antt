@@ -6,11 +6,11 @@ use Rattle.go_tree.specs.declared.spans.Span.{Span}
 use Rattle.go_tree.specs.Tree.{TypeExpr, Expr, ident, selector, Exprs, no_exprs, expr_and}
 use Rattle.go_tree.specs.declared.scope_names.names.Entity.{Entity}
 use Rattle.go_tree.specs.ScopeNames.Means.{Environment}
-use Rattle.directive_scan.specs.declared.mark_types.MarkKind.TheVariants.{Constant}
-use Rattle.directive_scan.specs.declared.mark_types.Verdict.{Verdict}
-use Rattle.directive_scan.specs.declared.mark_types.Verdict.TheVariants.{Good, Bad}
-use Rattle.directive_scan.specs.declared.mark_types.BadReason.TheVariants.{NotNamedConstant}
-use Rattle.directive_scan.specs.Items.{names_constant, constant_verdict}
+use Rattle.run_rules.specs.MarkKind.TheVariants.{Constant}
+use Rattle.run_rules.specs.Verdict.{Verdict}
+use Rattle.run_rules.specs.Verdict.TheVariants.{Good, Bad}
+use Rattle.run_rules.specs.BadReason.TheVariants.{NotNamedConstant}
+use Rattle.run_rules.specs.Items.{names_constant, constant_verdict}
 use Rattle.constant_steps.specs.QualifiedSteps.MarkedTexts.{IsName, a_name, a_qualified_name, NamesFirst}
 
 abbrev is_good : Verdict → Bool

@@ -6,9 +6,9 @@ use Rattle.go_tree.specs.declared.spans.Span.{Span}
 use Rattle.go_tree.specs.Tree.{TypeExpr, Expr, ident, Exprs}
 use Rattle.go_tree.specs.declared.scope_names.names.Entity.{Entity}
 use Rattle.go_tree.specs.ScopeNames.Means.{Environment, means, is_blank}
-use Rattle.directive_scan.specs.declared.mark_types.MarkKind.TheVariants.{Constant}
-use Rattle.directive_scan.specs.declared.mark_types.Verdict.TheVariants.{Good}
-use Rattle.directive_scan.specs.Items.{constant_verdict}
+use Rattle.run_rules.specs.MarkKind.TheVariants.{Constant}
+use Rattle.run_rules.specs.Verdict.TheVariants.{Good}
+use Rattle.run_rules.specs.Items.{constant_verdict}
 use Rattle.pkg_graph.specs.Package.{Package}
 use Rattle.go_tree.specs.GoTypes.Entities.{World, block_of}
 use Rattle.go_tree.specs.GoTypes.Programs.{Program, file_block}

@@ -22,7 +22,7 @@ use Rattle.run_rules.specs.Run.{Standing, Logged, here_of, origin_of, path_of_fi
 use Rattle.run_rules.specs.Sites.{MarkRef, Where, part_span, sites}
 use Rattle.run_rules.specs.Steps.{At, Found}
 use Rattle.run_rules.specs.Texts.{FileText}
-use Rattle.run_rules.specs.SpliceLaws.ImportSplices.FormSplices.Laws.{StepsMakeForms}
+use Rattle.splice_laws.specs.ImportSplices.FormSplices.Laws.{StepsMakeForms}
 use Rattle.run_by_steps.specs.declared.step_counts.counts.StepCounts.{StepCounts}
 use Rattle.stepped_programs.specs.FirstUses.Step.{HasFileOf, IsViewOf}
 use Rattle.stepped_programs.specs.FirstUses.StepLaws.{FoundFilesStand, text_there}

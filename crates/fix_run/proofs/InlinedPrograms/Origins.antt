@@ -30,7 +30,7 @@ use Rattle.run_rules.specs.Respanned.{decls_with, source_with}
 use Rattle.run_rules.specs.Run.{Standing, Logged, here_of, origin_of}
 use Rattle.run_rules.specs.Sites.{part_span}
 use Rattle.run_rules.specs.Steps.{At}
-use Rattle.run_rules.specs.SpliceLaws.ImportSplices.FormSplices.Laws.{StepsMakeForms}
+use Rattle.splice_laws.specs.ImportSplices.FormSplices.Laws.{StepsMakeForms}
 use Rattle.run_by_steps.specs.declared.step_counts.counts.StepCounts.{StepCounts}
 use Rattle.stepped_programs.specs.FirstUses.Step.{HasFileOf, MayStep}
 use Rattle.stepped_programs.specs.FirstUses.StepLaws.{FoundFilesStand, FoundUsesMayStep}

@@ -13,7 +13,7 @@ use Rattle.run_rules.specs.Run.{Standing, Logged, Limits, path_of_file, with_tex
 use Rattle.run_rules.specs.Sites.{MarkRef}
 use Rattle.run_rules.specs.Steps.{At, change_nth}
 use Rattle.run_rules.specs.Texts.{FileText}
-use Rattle.run_rules.specs.SpliceLaws.RunLaws.Reading.{FileAt}
+use Rattle.splice_laws.specs.RunLaws.Reading.{FileAt}
 use Rattle.fix_run.specs.PlannedFiles.Texts.{file_paths}
 
 abbrev pub paths_by_package : {S : Type 0} → List (Package S) → List (List (List ℕ))

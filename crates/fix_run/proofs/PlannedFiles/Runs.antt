@@ -24,7 +24,7 @@ use Rattle.run_rules.specs.Run.{Standing, as_read, here_of, bytes_of}
 use Rattle.run_rules.specs.Sites.{MarkRef}
 use Rattle.run_rules.specs.Texts.{FileText}
 use Rattle.source_files.specs.declared.files.SourceFile.{SourceFile}
-use Rattle.run_rules.proofs.SpliceLaws.RunLaws.PathsOwn.{HasText, its_text}
+use Rattle.splice_laws.proofs.RunLaws.PathsOwn.{HasText, its_text}
 use Rattle.fix_run.specs.PlannedFiles.Changes.{with_paths, files_differing}
 use Rattle.fix_run.specs.PlannedFiles.Laws.{HasComeFrom, LastTextsAreThoseOfRuns, ChangesAreThoseOfRuns, LimitsAreToldOfReadFiles}
 use Rattle.fix_run.specs.PlannedFiles.Limits.{file_with_path, path_in}

@@ -8,7 +8,7 @@ use Rattle.pkg_graph.specs.ModuleFiles.Pieces.{comes_before, file_name, folders}
 use Rattle.pkg_graph.specs.ModuleFiles.Selected.{is_in_other_module, is_selected, is_skipped_folder, is_source_name, module_file, module_files_in}
 use Rattle.pkg_graph.specs.Reads.{Source}
 use Rattle.run_rules.specs.Inlining.{are_by_path}
-use Rattle.run_rules.specs.SpliceLaws.ImportSplices.AddedFile.{is_byte}
+use Rattle.splice_laws.specs.ImportSplices.AddedFile.{is_byte}
 use Rattle.source_files.specs.declared.files.SourceFile.{SourceFile}
 use Rattle.fix_run.specs.PlannedModules.Folders.{AreFolder, ascend}
 use Rattle.fix_run.specs.PlannedModules.Laws.{ListedFilesAreFolders, ReadFilesAreFolders}

@@ -6,7 +6,7 @@ use Rattle.member_uses.specs.Laws.{AllConstants}
 use Rattle.order_runs.specs.RunSteps.RunPackages.{packages_of}
 use Rattle.pkg_graph.specs.Package.{Package}
 use Rattle.pkg_graph.specs.Reads.{Source}
-use Rattle.printed_constants.specs.Printed.{ArePrinted}
+use Rattle.run_rules.specs.Printed.{ArePrinted}
 use Rattle.checked_modules.specs.RefusedBodies.PrintedPackages.Laws.{PrintOnlyIsPrinted}
 use Rattle.checked_modules.specs.RefusedBodies.PrintedPackages.Packages.{print_only}
 use Rattle.run_rules.specs.Marks.{marks_of}

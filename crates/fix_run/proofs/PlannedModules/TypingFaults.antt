@@ -2,12 +2,12 @@
 use Rattle.std.proofs.Common.{◌≡◌, ◌∙◌, refl, sym, ap, subst, ℕ, zero, suc, true, List, [], ◌∷◌, map, Option, Some, None, is_none}
 use Rattle.std.specs.Prelude.{slice_get}
 use Rattle.std.proofs.lemmas.Option.{same_Some}
-use Rattle.collected.specs.ValueHeaders.SpelledDecls.{PackagesAreSpelled, PackagesReadAreSpelled}
+use Rattle.checked_modules.specs.SpelledDecls.{PackagesAreSpelled, PackagesReadAreSpelled}
 use Rattle.go_tree.specs.declared.spans.Span.{Span}
 use Rattle.go_tree.specs.GoTypes.Answers.{given}
 use Rattle.go_tree.specs.GoTypes.WellTyped.{NotTyped, refused_place, well_typed}
-use Rattle.header_order.specs.FirstRefusals.Declarations.{refusal_of}
-use Rattle.header_order.specs.declared.first_refusals.first.RefusedPlace.{RefusedPlace}
+use Rattle.checked_modules.specs.Declarations.{refusal_of}
+use Rattle.checked_modules.specs.RefusedPlace.{RefusedPlace}
 use Rattle.module_reading.specs.Files.{sources_of}
 use Rattle.module_reading.specs.Modules.{IsReadFrom, go_sources}
 use Rattle.module_reading.specs.declared.reading.ReadModule.{ReadModule}

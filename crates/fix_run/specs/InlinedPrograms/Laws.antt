@@ -14,7 +14,7 @@ use Rattle.pkg_graph.specs.Reads.{Source}
 use Rattle.pkg_graph.specs.Views.{package_view}
 use Rattle.pkg_graph.specs.declared.packages.Package as code
 use Rattle.file_names.specs.Members.{IsBlockOf}
-use Rattle.printed_constants.specs.Printed.{ArePrinted}
+use Rattle.run_rules.specs.Printed.{ArePrinted}
 use Rattle.programs.specs.declared.state.Program.{Program}
 use Rattle.read_modules.specs.Modules.{packages_in, texts_in}
 use Rattle.report_order.specs.declared.rows.ReportRow.{ReportRow}
@@ -24,7 +24,7 @@ use Rattle.stepped_programs.specs.declared.run_reports.steps.LoggedStep.{LoggedS
 use Rattle.run_rules.specs.Inlining.{IsTooLarge, ModuleReads}
 use Rattle.run_rules.specs.Marks.{marks_of}
 use Rattle.run_rules.specs.Run.{Standing, Logged, module_file_size, texts_size, the_limits}
-use Rattle.run_rules.specs.SpliceLaws.ImportSplices.AddedFile.{is_byte}
+use Rattle.splice_laws.specs.ImportSplices.AddedFile.{is_byte}
 use Rattle.run_by_steps.specs.declared.step_counts.counts.StepCounts.{StepCounts}
 use Rattle.stepped_programs.specs.FirstUses.First.{IsFirstUse}
 use Rattle.stepped_programs.specs.FirstUses.StepLaws.{IsRightFirst}

@@ -9,7 +9,7 @@ use Rattle.pkg_graph.specs.ModuleFiles.Selected.{is_selected}
 use Rattle.pkg_graph.specs.Reads.{Source, selected_files}
 use Rattle.run_rules.specs.Inlining.{are_by_path}
 use Rattle.source_files.specs.declared.files.SourceFile.{SourceFile}
-use Rattle.run_rules.specs.SpliceLaws.ImportSplices.AddedFile.{is_byte}
+use Rattle.splice_laws.specs.ImportSplices.AddedFile.{is_byte}
 
 -- each path comes before those behind it
 abbrev pub ascend : List (List ℕ) → Bool

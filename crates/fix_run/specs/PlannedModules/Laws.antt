@@ -11,7 +11,7 @@ use Rattle.refusals.specs.declared.refusal.Refusal.{Refusal}
 use Rattle.run_rules.specs.Respanned.{packages_with}
 use Rattle.run_rules.specs.Run.{here_of}
 use Rattle.run_rules.specs.Texts.{FileText}
-use Rattle.run_rules.specs.SpliceLaws.ImportSplices.AddedFile.{is_byte}
+use Rattle.splice_laws.specs.ImportSplices.AddedFile.{is_byte}
 use Rattle.source_files.specs.declared.files.SourceFile.{SourceFile}
 use Rattle.fix_run.specs.PlannedModules.Folders.{AreFolder, AreOfFolder, ascend, selected_paths}
 use Rattle.fix_run.specs.PlannedModules.Modules.{IsTaken}

@@ -7,7 +7,7 @@ ghost use Rattle.fix_run.specs.InlinedPrograms.Laws.{TakenStepsComeNext, TakenSt
 use printed_constants::{first_uses_have_next, printed_steps_avoid_few_names, printed_steps_keep};
 use run_by_steps::progress_follows_steps;
 use run_by_steps::step_counts::{counts_come, steps_are_counted};
-use run_rules::splice_laws::import_splices::steps_make_forms;
+use splice_laws::import_splices::steps_make_forms;
 use stepped_programs::programs_on_the_way::{
     first_uses_come_next, runs_begin, runs_end, steps_stay_on_the_way,
 };

@@ -16,7 +16,7 @@ use Rattle.go_tree.specs.GoTypes.Statements.{means_panic, body_binds, body_ctx, 
 use Rattle.go_tree.specs.GoTypes.Typing.{is_body, parts, all_parts, used, used_left, stmts, is_call}
 use Rattle.go_tree.specs.GoTypes.Initial.{means_maker, is_maker, is_initial, is_constant, sizes_constant}
 use Rattle.form_meaning.specs.FormInPlace.Places.{Apart}
-use Rattle.typed_in_place.specs.SameFacts.{UsedAlike}
+use Rattle.go_translation.specs.SameFacts.{UsedAlike}
 use Rattle.form_meaning.specs.FormInPlace.Written.{Written}
 use Rattle.form_meaning.specs.FormInPlace.CalledLiteral.{declared_at, landing_at}
 use Rattle.form_meaning.proofs.FormInPlace.Uses.{both_used, same_used, apart_used}

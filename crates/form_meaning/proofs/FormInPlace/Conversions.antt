@@ -23,7 +23,7 @@ use Rattle.go_tree.specs.GoTypes.Operands.{kind_passes}
 use Rattle.go_tree.specs.GoTypes.Primary.{call_of, is_printed, print_call, panic_call}
 use Rattle.go_tree.specs.GoTypes.Typing.{parts, used}
 use Rattle.form_meaning.specs.FormInPlace.Places.{at_place, Landing}
-use Rattle.typed_in_place.specs.SameFacts.{UsedAlike}
+use Rattle.go_translation.specs.SameFacts.{UsedAlike}
 use Rattle.form_meaning.specs.FormInPlace.Leaves.{Bare, bare_constant, bare_nil, bare_truth, BareConstant, untyped_constant, BareWhole, whole_constant}
 use Rattle.form_meaning.specs.FormInPlace.Bound.{is_printer, is_shift_op, types_after}
 use Rattle.form_meaning.proofs.FormInPlace.Uses.{apart_used, single_apart}

@@ -21,7 +21,7 @@ use Rattle.go_tree.specs.GoTypes.Jumps.{breaks_in, labels_in}
 use Rattle.go_tree.specs.GoTypes.Statements.{bound_names, names_once, Declared, some_declared, blank, target_at, stores_all, updates, is_condition, variable_entity, assigns_to, defined_by, range_assigns, case_value, case_constants, Ctx, in_loop, in_switch, body_binds, body_ctx, no_values, is_absent, is_define, is_empty_stmt}
 use Rattle.go_tree.specs.GoTypes.Typing.{and_then, unused_after, one_more, step_op, binds_or, binds_of, new_constants, right_values, new_variables, new_by_define, all_used, is_test, tag_of, choice, place_by, package_before, is_body, labelled, parts, all_parts, bound, elements, element, with_key, place, places, used, used_all, used_option, used_elems, used_key, used_value, used_left, used_stmt, used_stmts, used_first, used_block, used_range, used_arms, used_cases, used_variables, declares, declares_first, declares_constants, declares_variables, range_declares, targets, stmt, stmts, first, block, ranges, arms, clauses}
 use Rattle.form_meaning.specs.FormInPlace.Places.{at_place, Landing, SameName, AllSame, TypeAlike, SelectorAlike, results_in}
-use Rattle.typed_in_place.specs.SameFacts.{UsedAlike}
+use Rattle.go_translation.specs.SameFacts.{UsedAlike}
 use Rattle.form_meaning.specs.FormInPlace.Bound.{Before, inner_under, at_iota, stmt_binds, first_binds, range_left_binds, literal_binds, variable_binds, constant_binds, repeats, repeated_binds, literal_under, is_printer, is_shift_op, types_after}
 use Rattle.form_meaning.specs.FormInPlace.Leaves.{WrittenType, no_type, a_type as some_type, WrittenParams, no_params, param_and, LiteralAlike}
 use Rattle.form_meaning.specs.FormInPlace.Written.{Written, w_leaf, w_local, w_outer, w_int, w_rune, w_str, w_composite, w_selector, w_index, w_slice, w_call, w_func_lit, w_type, w_unary, w_binary, w_star, WrittenAll, all_none, all_and, WrittenIntos, into_none, into_and, into_bare, w_into, w_left, w_right, WrittenWholes, whole_none, whole_and, whole_bare, s_eval_whole, s_defer_whole, s_eval_into, s_return_into, WrittenOption, option_none, option_some, WrittenElems, elems_none, elems_and, WrittenKey, key_none, key_field, key_some, WrittenValue, value_plain, value_braced, WrittenBody, body_none, body_and, WrittenStmt, s_const, s_var, s_eval, s_step, s_assign, s_define, s_return, s_inner, s_if, s_for, s_range, s_switch, s_defer, s_label, WrittenFirst, first_none, first_some, WrittenBlock, block_none, block_some, WrittenLeft, left_none, left_assigns, left_defines, WrittenArms, arms_none, arms_and, WrittenCases, cases_none, cases_and, WrittenConstants, constants_none, constants_own, constants_again, WrittenAgain, again_nothing, again, WrittenVariables, variables_none, variables_and}

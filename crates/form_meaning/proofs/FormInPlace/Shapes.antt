@@ -11,7 +11,7 @@ use Rattle.go_tree.specs.GoTypes.Jumps.{breaks, breaks_in, breaks_arms, breaks_b
 use Rattle.go_tree.specs.GoTypes.Statements.{means_panic, is_panic, is_blank_name, no_values, is_absent, is_define, is_empty_stmt, has_last, has_names, param_binds, param_binding, Ctx}
 use Rattle.go_tree.specs.GoTypes.Typing.{package_before, is_default, labelled, used, used_left}
 use Rattle.form_meaning.specs.FormInPlace.Places.{at_place, Landing, Apart, is_panic_name}
-use Rattle.typed_in_place.specs.SameFacts.{UsedAlike}
+use Rattle.go_translation.specs.SameFacts.{UsedAlike}
 use Rattle.form_meaning.specs.FormInPlace.Bound.{Before}
 use Rattle.form_meaning.specs.FormInPlace.Leaves.{WrittenType, no_type, a_type, WrittenParams, no_params, param_and}
 use Rattle.form_meaning.specs.FormInPlace.Written.{Written, w_leaf, w_local, w_outer, WrittenAll, all_none, all_and, WrittenIntos, into_none, into_and, into_bare, WrittenOption, option_none, option_some, WrittenBody, body_none, body_and, WrittenStmt, s_const, s_var, s_empty, s_define, s_inner, s_if, s_for, s_range, s_switch, s_label, WrittenFirst, first_none, first_some, WrittenBlock, block_none, block_some, WrittenLeft, left_none, left_assigns, left_defines, WrittenArms, arms_none, arms_and, WrittenCases, cases_none, cases_and, WrittenConstants, constants_none, constants_own, constants_again, WrittenVariables, variables_none, variables_and}

@@ -9,7 +9,7 @@ use Rattle.go_tree.specs.GoTypes.Types.{pointer_to, slice_of, map_of, struct_of,
 use Rattle.go_tree.specs.GoTypes.Entities.{Entity, Env, meaning, exported, package_of, type_of_name}
 use Rattle.go_tree.specs.GoTypes.TypeNames.{resolved_fields, field_package}
 use Rattle.form_meaning.specs.FormInPlace.Places.{at_place, Landing, SameName, Apart, TypeAlike}
-use Rattle.typed_in_place.specs.SameFacts.{UsedAlike}
+use Rattle.go_translation.specs.SameFacts.{UsedAlike}
 use Rattle.form_meaning.proofs.FormInPlace.Uses.{both_used, same_used, apart_used, single_apart, both_apart, nothing_apart}
 
 -- the fields of a struct type, where none is an unexported one in another package

@@ -9,7 +9,7 @@ use Rattle.go_tree.specs.GoTypes.Statements.{bound_names}
 use Rattle.go_tree.specs.GoTypes.Typing.{beyond, all_used}
 use Rattle.go_tree.proofs.GoTypes.Agreeing.{among_right}
 use Rattle.form_meaning.specs.FormInPlace.Places.{Apart}
-use Rattle.typed_in_place.specs.SameFacts.{UsedAlike}
+use Rattle.go_translation.specs.SameFacts.{UsedAlike}
 
 or_true : (b : Bool) → (b || true) ≡ true
 or_true true = refl

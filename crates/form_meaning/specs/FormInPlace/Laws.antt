@@ -11,7 +11,7 @@ use Rattle.go_tree.specs.GoTypes.Operands.{a_function}
 use Rattle.go_tree.specs.GoTypes.Statements.{Ctx}
 use Rattle.go_tree.specs.GoTypes.Typing.{parts, place, used, used_stmts, stmts}
 use Rattle.form_meaning.specs.FormInPlace.Places.{at_place, Landing, Apart}
-use Rattle.typed_in_place.specs.SameFacts.{UsedAlike}
+use Rattle.go_translation.specs.SameFacts.{UsedAlike}
 use Rattle.form_meaning.specs.FormInPlace.Written.{Written, WrittenBody}
 use Rattle.form_meaning.specs.FormInPlace.CalledLiteral.{declared_at, landing_at}
 

@@ -14,7 +14,7 @@ use Rattle.go_tree.specs.GoTypes.TypeNames.{resolved}
 use Rattle.go_tree.specs.GoTypes.Primary.{sees, fields_in, method_value}
 use Rattle.go_tree.specs.GoTypes.Literals.{field_key}
 use Rattle.go_tree.specs.GoTypes.Statements.{means_panic}
-use Rattle.typed_in_place.specs.SameFacts.{UsedAlike}
+use Rattle.go_translation.specs.SameFacts.{UsedAlike}
 
 -- the place of `a` with other names, in the package `p`
 abbrev pub at_place : Env → Environment Entity → ℕ → Env

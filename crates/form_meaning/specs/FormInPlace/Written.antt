@@ -27,7 +27,7 @@ use Rattle.go_tree.specs.GoTypes.Statements.{bound_names}
 use Rattle.go_tree.specs.GoTypes.Typing.{parts, used_constants}
 use Rattle.form_meaning.specs.FormInPlace.Places.{at_place, Landing, has_home, means_function, SameName, AllSame}
 use Rattle.form_meaning.specs.FormInPlace.Places.{Outside, TypeAlike, SelectorAlike, results_in}
-use Rattle.typed_in_place.specs.SameFacts.{UsedAlike}
+use Rattle.go_translation.specs.SameFacts.{UsedAlike}
 use Rattle.form_meaning.specs.FormInPlace.Bound.{Before, inner_under, types_after, is_printer, is_shift_op, at_iota}
 use Rattle.form_meaning.specs.FormInPlace.Bound.{stmt_binds, first_binds, range_left_binds, literal_binds}
 use Rattle.form_meaning.specs.FormInPlace.Bound.{variable_binds, constant_binds, repeated_binds, literal_under}

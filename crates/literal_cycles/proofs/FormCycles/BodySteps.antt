@@ -12,7 +12,7 @@ use Rattle.run_rules.specs.Respanned.{decls_with}
 use Rattle.run_rules.specs.Sites.{MarkRef, Site}
 use Rattle.run_rules.specs.Steps.{At, same_here, change_nth, with_file}
 use Rattle.run_rules.specs.Run.{Standing, Logged, Next, here_of, origin_of}
-use Rattle.run_rules.proofs.SpliceLaws.RunLaws.FoundSpans.{Placed}
+use Rattle.splice_laws.proofs.RunLaws.FoundSpans.{Placed}
 use Rattle.typed_in_place.specs.ProgramsAlike.{OneByOne, no_more, and_more}
 use Rattle.typed_in_place.proofs.ProgramsReplaced.{one_by_one}
 use Rattle.typed_in_place.specs.SameWorlds.SameWorlds.{SameWorld}

@@ -13,7 +13,7 @@ use Rattle.run_rules.specs.Cycles.{GivesWay, LeadsTo, leads_to, is_recursive, fu
 use Rattle.run_rules.proofs.CyclesFound.{cycles_kept}
 use Rattle.run_rules.specs.Steps.{At, same_here, change_nth, changes_for, new_decl, with_file}
 use Rattle.run_rules.specs.Run.{Standing, Logged, Next, here_of, origin_of, is_commented}
-use Rattle.run_rules.proofs.SpliceLaws.RunLaws.FoundSpans.{Placed, FoundIn, found_in}
+use Rattle.splice_laws.proofs.RunLaws.FoundSpans.{Placed, FoundIn, found_in}
 use Rattle.order_runs.specs.CycleLaws.PutCalls.{GivesWayAmong, mark_there, called_among}
 use Rattle.order_runs.proofs.CycleLaws.Gives.{gives-same, gives-by, gives-eq, gives-then}
 use Rattle.order_runs.specs.CycleLaws.PutSteps.{ReadCallsAlike, ReadCallsAlikeIn, PutsAlike}

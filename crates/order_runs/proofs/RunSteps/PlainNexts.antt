@@ -18,9 +18,9 @@ use Rattle.run_rules.specs.Sites.{MarkRef, Site, part_span}
 use Rattle.run_rules.specs.Naming.{imports_added, unnamed_package}
 use Rattle.run_rules.specs.Steps.{At, same_here, change_nth, new_decls, added_decls, file_between, packages_between}
 use Rattle.run_rules.specs.Run.{Standing, Logged, Next, here_of, origin_of, is_commented}
-use Rattle.run_rules.proofs.SpliceLaws.RunLaws.FoundSpans.{Placed}
-use Rattle.run_rules.specs.SpliceLaws.ImportSplices.FormSplices.Laws.{MakesForm}
-use Rattle.run_rules.proofs.SpliceLaws.ImportSplices.FormSplices.FormsFound.{step-makes-form}
+use Rattle.splice_laws.proofs.RunLaws.FoundSpans.{Placed}
+use Rattle.splice_laws.specs.ImportSplices.FormSplices.Laws.{MakesForm}
+use Rattle.splice_laws.proofs.ImportSplices.FormSplices.FormsFound.{step-makes-form}
 use Rattle.constant_steps.specs.StepLaws.ConstantSteps.{ConstantStep}
 use Rattle.constant_steps.specs.StepLaws.ConstantSwaps.{ConstantSwaps}
 use Rattle.constant_steps.specs.StepLaws.SwapPrograms.{members_put}

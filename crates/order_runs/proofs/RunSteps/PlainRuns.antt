@@ -15,9 +15,9 @@ use Rattle.run_rules.specs.Steps.{At}
 use Rattle.run_rules.specs.Texts.{FileText}
 use Rattle.run_rules.specs.Run.{Standing, Logged, here_of, as_read, Next, Run, ends, goes_on}
 use Rattle.run_rules.specs.Inlining.{ModuleReads, standing_as_read}
-use Rattle.run_rules.specs.SpliceLaws.RunLaws.Reading.{FileAt, ProgramReads, OnePathEach}
-use Rattle.run_rules.proofs.SpliceLaws.RunLaws.RunsRead.{next_reads, next_paths, modules_read}
-use Rattle.run_rules.proofs.SpliceLaws.RunLaws.PathsOwn.{paths_own}
+use Rattle.splice_laws.specs.RunLaws.Reading.{FileAt, ProgramReads, OnePathEach}
+use Rattle.splice_laws.proofs.RunLaws.RunsRead.{next_reads, next_paths, modules_read}
+use Rattle.splice_laws.proofs.RunLaws.PathsOwn.{paths_own}
 use Rattle.order_runs.specs.RunSteps.Bared.{bare_member, bare_members}
 use Rattle.order_runs.specs.RunSteps.RunPackages.{members_of, packages_of}
 use Rattle.order_runs.specs.RunSteps.SameCode.{SameCode}

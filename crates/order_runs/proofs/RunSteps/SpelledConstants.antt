@@ -27,7 +27,7 @@ use Rattle.run_rules.specs.Sites.{MarkRef, Inlinable, a_constant, an_alias, cons
 use Rattle.run_rules.specs.Naming.{unnamed_package}
 use Rattle.run_rules.specs.Steps.{At}
 use Rattle.run_rules.specs.Run.{Standing, here_of}
-use Rattle.run_rules.specs.SpliceLaws.RunLaws.Reading.{FileReads, ProgramReads}
+use Rattle.splice_laws.specs.RunLaws.Reading.{FileReads, ProgramReads}
 use Rattle.constant_steps.proofs.MarksFound.{DeclaredThere, declared_there, StandsThere, stands_there}
 
 -- ---- an identifier begins with no byte 0

@@ -7,11 +7,11 @@ use Rattle.go_tree.specs.GoWords.Tokens.{TokensOf}
 use Rattle.go_tree.specs.GoWords.Terminals.{Terminal, Lexeme, lex, lexemes}
 use Rattle.go_read.specs.SpellsTypes.{Lexemes}
 use Rattle.go_read.specs.SpellsSpans.{start_of, span_to}
-use Rattle.run_rules.specs.SpliceLaws.Replaced.{starts_rise}
-use Rattle.run_rules.proofs.SpliceLaws.Grafts.{Within, here, later, both_within}
-use Rattle.run_rules.proofs.SpliceLaws.Rises.{tokens_rise}
-use Rattle.run_rules.proofs.SpliceLaws.ImportSplices.ImportPlaces.TokensStand.{tokens_stand}
-use Rattle.run_rules.proofs.SpliceLaws.ImportSplices.ImportPlaces.ImportsStand.{Lie, all_lie, end_before, end_is}
+use Rattle.splice_laws.specs.Replaced.{starts_rise}
+use Rattle.splice_laws.proofs.Grafts.{Within, here, later, both_within}
+use Rattle.splice_laws.proofs.Rises.{tokens_rise}
+use Rattle.splice_laws.proofs.ImportSplices.ImportPlaces.TokensStand.{tokens_stand}
+use Rattle.splice_laws.proofs.ImportSplices.ImportPlaces.ImportsStand.{Lie, all_lie, end_before, end_is}
 
 -- the next token begins behind the start of one with this span, and where it ends or later
 abbrev pub Behind : Span → Lexemes → Type 0

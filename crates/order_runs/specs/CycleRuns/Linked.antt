@@ -3,7 +3,7 @@
 use Rattle.std.specs.Prelude.{◌≡◌, ℕ, List, [], Some, slice_get}
 use Rattle.go_tree.specs.File.{Decl}
 use Rattle.pkg_graph.specs.Package.{Package}
-use Rattle.run_rules.specs.SpliceLaws.ImportSplices.AddedFile.{AreWritable}
+use Rattle.splice_laws.specs.ImportSplices.AddedFile.{AreWritable}
 use Rattle.run_rules.specs.Programs.{decl_seen}
 use Rattle.run_rules.specs.Sites.{MarkRef, part_span}
 use Rattle.run_rules.specs.Naming.{imports_added}

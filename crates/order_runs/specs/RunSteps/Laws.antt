@@ -16,7 +16,7 @@ use Rattle.run_rules.specs.Texts.{FileText}
 use Rattle.run_rules.specs.Respanned.{packages_with}
 use Rattle.run_rules.specs.Run.{Standing, Logged, here_of, Next, Run}
 use Rattle.run_rules.specs.Inlining.{ModuleReads, standing_as_read}
-use Rattle.run_rules.specs.SpliceLaws.RunLaws.Reading.{ProgramReads}
+use Rattle.splice_laws.specs.RunLaws.Reading.{ProgramReads}
 use Rattle.constant_steps.specs.PlainUse.{AllTheUse}
 use Rattle.order_runs.specs.RunSteps.Bared.{bare_members}
 use Rattle.order_runs.specs.RunSteps.RunPackages.{members_of, packages_of}

@@ -27,13 +27,13 @@ use Rattle.run_rules.specs.Sites.{MarkRef, Where, Inlinable, a_constant, part_sp
 use Rattle.run_rules.specs.Steps.{At, same_here, Found}
 use Rattle.run_rules.specs.Surroundings.{other, Place, inner_slot, in_slot}
 use Rattle.run_rules.specs.Texts.{FileText}
-use Rattle.run_rules.specs.SpliceLaws.RunLaws.Reading.{FileReads, FileAt, ProgramReads, OnePathEach}
-use Rattle.run_rules.proofs.SpliceLaws.RunLaws.FoundSpans.{Placed}
+use Rattle.splice_laws.specs.RunLaws.Reading.{FileReads, FileAt, ProgramReads, OnePathEach}
+use Rattle.splice_laws.proofs.RunLaws.FoundSpans.{Placed}
 use Rattle.go_read.specs.SpellsWeight.{weights_of}
 use Rattle.constant_steps.specs.FormImports.ImportLaws.Steps.{names_standing, binders_in, binders_of}
 use Rattle.constant_steps.proofs.FormImports.ImportLaws.IdentifiersWith.{identifiers-with}
-use Rattle.run_rules.specs.SpliceLaws.ImportSplices.FormSplices.Laws.{MakesForm}
-use Rattle.run_rules.proofs.SpliceLaws.ImportSplices.FormSplices.FormsFound.{step-makes-form}
+use Rattle.splice_laws.specs.ImportSplices.FormSplices.Laws.{MakesForm}
+use Rattle.splice_laws.proofs.ImportSplices.FormSplices.FormsFound.{step-makes-form}
 use Rattle.order_runs.proofs.RunSteps.SeatedUses.{Seated}
 use Rattle.order_runs.specs.CycleRuns.OrderCycles.NewNames.{FewNames}
 use Rattle.order_runs.proofs.CycleRuns.ImportCycles.ImportStep.{placed}
@@ -44,7 +44,7 @@ use Rattle.printed_constants.specs.TypedParts.MarkedRuns.PutForms.Uses.{IsFirstU
 use Rattle.printed_constants.proofs.TypedParts.MarkedRuns.PutForms.FirstUses as first
 use Rattle.printed_constants.proofs.TypedParts.MarkedRuns.PutForms.FirstUses.{makes, seated}
 use Rattle.printed_constants.proofs.TypedParts.MarkedRuns.NamedMarks.Used.{of-expr, named-used}
-use Rattle.printed_constants.specs.Printed.{FlatConstants, no_constants, and_constant, IsPrinted, some_constants, a_function, ArePrinted}
+use Rattle.run_rules.specs.Printed.{FlatConstants, no_constants, and_constant, IsPrinted, some_constants, a_function, ArePrinted}
 use Rattle.printed_constants.proofs.CountedNames.Counted.{names_few}
 use Rattle.printed_constants.proofs.CountedNames.Specs.{specs_few, as_many_specs}
 use Rattle.printed_constants.proofs.CountedNames.Texts.{size_at, sizes_at, among_all, one_among, once_of}

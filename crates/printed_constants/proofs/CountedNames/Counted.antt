@@ -14,9 +14,9 @@ use Rattle.go_read.specs.SpellsSpans.{span_to}
 use Rattle.go_read.specs.SpellsTypes.{Lexemes, SpellsSig, SpellsNames, last_name_rule, more_names_rule}
 use Rattle.go_tree.specs.ScopeNames.FreeNames.{names_of}
 use Rattle.go_tree.specs.ScopeNames.Identifiers.{expr_identifiers, exprs_identifiers, stmts_identifiers, specs_identifiers, import_specs_identifiers, imports_identifiers, params_identifiers, sig_identifiers, decl_identifiers, decls_identifiers, name_option, identifiers}
-use Rattle.run_rules.proofs.SpliceLaws.Grafts.{Within, here, later}
-use Rattle.run_rules.proofs.SpliceLaws.Pasts.{sig_past}
-use Rattle.printed_constants.specs.Printed.{IsFlat, a_name, a_number, a_selection, AllFlat, no_operands, and_operand, IsPrint, an_operand, a_call, PrintStmts, no_prints, and_print, FlatConstants, no_constants, and_constant, IsPrinted, some_constants, a_function}
+use Rattle.splice_laws.proofs.Grafts.{Within, here, later}
+use Rattle.splice_laws.proofs.Pasts.{sig_past}
+use Rattle.run_rules.specs.Printed.{IsFlat, a_name, a_number, a_selection, AllFlat, no_operands, and_operand, IsPrint, an_operand, a_call, PrintStmts, no_prints, and_print, FlatConstants, no_constants, and_constant, IsPrinted, some_constants, a_function}
 
 abbrev Names : Type 0
 Names = List (List ℕ)

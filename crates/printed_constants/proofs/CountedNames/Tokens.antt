@@ -7,7 +7,7 @@ use Rattle.go_tree.specs.declared.tokens.Comment.{Comment}
 use Rattle.go_tree.specs.GoWords.Tokens.{TokensOf, ends_line, inserted, tokens_at, tokens_from, due_after, size_of, pieces_size, after_mark, mark_size}
 use Rattle.go_tree.specs.GoWords.Tokens.Characters.{byte_order_mark, is_listed}
 use Rattle.go_tree.specs.GoWords.Tokens.Pieces.{PieceKind, blanks, remark, token, Piece, IsPiece, CutsTo}
-use Rattle.run_rules.proofs.SpliceLaws.Rises.{piece_size}
+use Rattle.splice_laws.proofs.Rises.{piece_size}
 
 one_inserted : (due : Option ℕ) → length (inserted due) ≤ 1
 one_inserted None = omega arith

@@ -39,7 +39,7 @@ use Rattle.run_rules.specs.Programs.{in_dependency_order, linked, linked_file, w
 use Rattle.run_rules.specs.Sites.{MarkRef, Where, a_constant, mark_of, nth_constant, inlinable_in, inlinable, member_of}
 use Rattle.run_rules.specs.Steps.{At}
 use Rattle.printed_constants.specs.NamedUses.Names.{IsConstantOf}
-use Rattle.printed_constants.specs.Printed.{FlatConstants, no_constants, and_constant, IsPrinted, some_constants, a_function, ArePrinted}
+use Rattle.run_rules.specs.Printed.{FlatConstants, no_constants, and_constant, IsPrinted, some_constants, a_function, ArePrinted}
 
 -- what is found first, or else in what follows
 found_in : {T : Type 0} (a b : Option Target) (t : Target) → (a ≡ Some t → T) → (b ≡ Some t → T) → or_else a b ≡ Some t → T

@@ -36,7 +36,7 @@ use Rattle.run_rules.specs.Steps.{At}
 use Rattle.printed_constants.specs.DeclaredMembers.Laws.{ConstantsNameMembers}
 use Rattle.printed_constants.specs.DeclaredMembers.Members.{IsOwn, IsMember}
 use Rattle.printed_constants.specs.NamedUses.Names.{IsConstantOf, IsConstantsName}
-use Rattle.printed_constants.specs.Printed.{ArePrinted}
+use Rattle.run_rules.specs.Printed.{ArePrinted}
 use Rattle.printed_constants.specs.QualifiedDots.Names.{IsUntypedMember}
 use Rattle.printed_constants.proofs.DeclaredMembers.Values.{env_at, decl_typed}
 use Rattle.printed_constants.proofs.QualifiedDots.Blocks.{world_untyped}

@@ -18,8 +18,8 @@ use Rattle.constant_steps.proofs.MarksFound.{StandsThere, stands_there, Declared
 use Rattle.constant_steps.proofs.QualifiedSteps.Targets.{number_in, by_number, numbered_by}
 use Rattle.printed_constants.proofs.TypedParts.MarkedRuns.NamedMarks.ReadMarks.{TextsRead, marks-named}
 use Rattle.constant_steps.specs.PlaceMeanings.Laws.{AreNamesOf, StandingFilesHaveTheirNames}
-use Rattle.run_rules.proofs.SpliceLaws.RunLaws.PathsOwn.{HasText, its_text}
-use Rattle.run_rules.proofs.SpliceLaws.RunLaws.Reread.{file-reread}
+use Rattle.splice_laws.proofs.RunLaws.PathsOwn.{HasText, its_text}
+use Rattle.splice_laws.proofs.RunLaws.Reread.{file-reread}
 use Rattle.run_rules.specs.Inlining.{ModuleReads, ReadsAs}
 use Rattle.run_rules.specs.Marks.{marks_of}
 use Rattle.run_rules.specs.Respanned.{expr_with, specs_with, decl_with, source_with, package_with, packages_with}
@@ -27,7 +27,7 @@ use Rattle.run_rules.specs.Run.{as_read, here_of}
 use Rattle.run_rules.specs.Sites.{MarkRef, Where, a_constant, is_among_marks, nth_constant, inlinable_in, where_is, inlinable, outer}
 use Rattle.run_rules.specs.Steps.{At}
 use Rattle.run_rules.specs.Texts.{FileText}
-use Rattle.printed_constants.specs.Printed.{IsFlat, a_name, a_number, a_selection, FlatConstants, no_constants, and_constant, IsPrinted, some_constants, a_function, ArePrinted}
+use Rattle.run_rules.specs.Printed.{IsFlat, a_name, a_number, a_selection, FlatConstants, no_constants, and_constant, IsPrinted, some_constants, a_function, ArePrinted}
 use Rattle.printed_constants.specs.DeclaredConstants.Laws.{ReadConstantsAreNotPredeclared}
 use Rattle.printed_constants.proofs.DeclaredConstants.Members.{FileAt, files_at}
 

@@ -23,7 +23,7 @@ use Rattle.printed_constants.proofs.TypedParts.Walk.{there_is}
 use Rattle.constant_steps.proofs.StepLaws.PartsTyped.{TypedThere}
 use Rattle.run_rules.specs.Programs.{linked, world, imports_mean}
 use Rattle.run_rules.specs.Sites.{Where, a_constant, nth_constant, inlinable_in}
-use Rattle.printed_constants.specs.Printed.{FlatConstants, no_constants, and_constant, IsPrinted, some_constants, a_function as some_function}
+use Rattle.run_rules.specs.Printed.{FlatConstants, no_constants, and_constant, IsPrinted, some_constants, a_function as some_function}
 use Rattle.printed_constants.proofs.DeclaredMembers.Values.{env_at, IsTyped}
 
 -- a constant's value is a constant

@@ -13,9 +13,9 @@ use Rattle.run_rules.specs.Marks.{text_at}
 use Rattle.run_rules.specs.Run.{Standing, Logged, Run, ends, goes_on, joined_with, edits_of, ranges_of, FilesKeep, none, file, bytes_of}
 use Rattle.run_rules.specs.Sites.{MarkRef}
 use Rattle.run_rules.specs.Texts.{FileText}
-use Rattle.run_rules.proofs.SpliceLaws.RunLaws.FilesKept.{runs_keep_files}
-use Rattle.run_rules.proofs.SpliceLaws.RunLaws.PathsOwn.{same_path}
-use Rattle.run_rules.proofs.SpliceLaws.RunLaws.RunsRead.{texts_other}
+use Rattle.splice_laws.proofs.RunLaws.FilesKept.{runs_keep_files}
+use Rattle.splice_laws.proofs.RunLaws.PathsOwn.{same_path}
+use Rattle.splice_laws.proofs.RunLaws.RunsRead.{texts_other}
 use Rattle.printed_constants.specs.InlinedFiles.Files.{file_after, files_after, bytes_in}
 use Rattle.printed_constants.specs.InlinedFiles.Laws.{RunsKeepFolders}
 use Rattle.printed_constants.proofs.InlinedFiles.Texts.{after_of, after_path, file_stays}

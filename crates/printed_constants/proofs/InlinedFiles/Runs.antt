@@ -7,7 +7,7 @@ use Rattle.run_rules.specs.Inlining.{ModuleReads, standing_as_read}
 use Rattle.run_rules.specs.Respanned.{source_with, packages_with}
 use Rattle.run_rules.specs.Run.{Standing, Logged, Run, ends, goes_on, here_of, as_read}
 use Rattle.run_rules.specs.Sites.{MarkRef}
-use Rattle.run_rules.proofs.SpliceLaws.RunLaws.Reread.{file-reread}
+use Rattle.splice_laws.proofs.RunLaws.Reread.{file-reread}
 use Rattle.printed_constants.specs.InlinedFiles.Files.{files_after, StandsAsModule, AllWrite}
 use Rattle.printed_constants.specs.InlinedFiles.Laws.{ReadFilesStay, ReadModulesStand, RunsLeaveModules}
 use Rattle.printed_constants.proofs.InlinedFiles.Steps.{step_leaves}

@@ -28,13 +28,13 @@ use Rattle.run_rules.specs.Sites.{MarkRef, Where}
 use Rattle.run_rules.specs.Steps.{At, same_here, change_nth, with_file}
 use Rattle.run_rules.specs.Texts.{FileText}
 use Rattle.constant_steps.specs.FormImports.ImportLaws.Steps.{removed_specs}
-use Rattle.run_rules.specs.SpliceLaws.ImportSplices.SettledFile.{settled_decls, with_settled}
-use Rattle.run_rules.specs.SpliceLaws.RunLaws.Reading.{FileAt, OnePathEach}
-use Rattle.run_rules.specs.SpliceLaws.Splice.{ReadsAs}
-use Rattle.run_rules.specs.SpliceLaws.Swaps.{Swap, FileIn, in_decls}
-use Rattle.run_rules.proofs.SpliceLaws.ImportSplices.FormsToo.{form_settled_go}
-use Rattle.run_rules.proofs.SpliceLaws.RunLaws.FoundSpans.{Placed}
-use Rattle.run_rules.proofs.SpliceLaws.RunLaws.PathsOwn.{same_path, paths_own}
+use Rattle.splice_laws.specs.ImportSplices.SettledFile.{settled_decls, with_settled}
+use Rattle.splice_laws.specs.RunLaws.Reading.{FileAt, OnePathEach}
+use Rattle.splice_laws.specs.Splice.{ReadsAs}
+use Rattle.splice_laws.specs.Swaps.{Swap, FileIn, in_decls}
+use Rattle.splice_laws.proofs.ImportSplices.FormsToo.{form_settled_go}
+use Rattle.splice_laws.proofs.RunLaws.FoundSpans.{Placed}
+use Rattle.splice_laws.proofs.RunLaws.PathsOwn.{same_path, paths_own}
 use Rattle.order_runs.specs.CycleRuns.Linked.{WritesFile}
 use Rattle.order_runs.specs.CycleRuns.StepCycles.PackagesAlike.{import_key}
 use Rattle.order_runs.proofs.CycleRuns.ImportCycles.ImportStep.{placed}

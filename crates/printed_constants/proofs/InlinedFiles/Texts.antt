@@ -17,8 +17,8 @@ use Rattle.run_rules.specs.Inlining.{IsSourceFile, are_by_path, AreScanned, none
 use Rattle.run_rules.specs.Marks.{text_at}
 use Rattle.run_rules.specs.Run.{with_text}
 use Rattle.run_rules.specs.Texts.{FileText}
-use Rattle.run_rules.proofs.SpliceLaws.RunLaws.PathsOwn.{same_path}
-use Rattle.run_rules.proofs.SpliceLaws.RunLaws.RunsRead.{texts_new, texts_other}
+use Rattle.splice_laws.proofs.RunLaws.PathsOwn.{same_path}
+use Rattle.splice_laws.proofs.RunLaws.RunsRead.{texts_new, texts_other}
 use Rattle.printed_constants.specs.InlinedFiles.Files.{file_after, files_after}
 use Rattle.printed_constants.proofs.InlinedFiles.Trees.{kept_was, tree_if, with_tree}
 

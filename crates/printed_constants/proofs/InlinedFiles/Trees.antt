@@ -14,7 +14,7 @@ use Rattle.pkg_graph.specs.ModuleFiles.PathLists.{has_path}
 use Rattle.pkg_graph.specs.Package.{SourceTree, Package, import_path, import_specs, home_of, files_of, first_name, first_seen, package_of, packages_of}
 use Rattle.pkg_graph.specs.Graph.{ImportAt, Imports, imported, Leads, directly, over, files_import, imports_of, is_mixed, numbered_files, imports_from, is_named_by, Links}
 use Rattle.pkg_graph.proofs.PackageLaws.{has_seen}
-use Rattle.run_rules.specs.SpliceLaws.RunLaws.Reading.{FileAt}
+use Rattle.splice_laws.specs.RunLaws.Reading.{FileAt}
 use Rattle.order_runs.proofs.CycleRuns.OrderedSteps.Members.{got, member, of-two}
 use Rattle.order_runs.proofs.CycleRuns.LedImports.Homes.{file-imports, imports-one}
 

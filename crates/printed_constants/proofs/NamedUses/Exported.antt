@@ -35,7 +35,7 @@ use Rattle.run_rules.specs.Places.{expr_seen, all_seen, stmt_seen, stmts_seen, p
 use Rattle.run_rules.specs.Programs.{linked, world, imports_mean, top_env, top_place, body_place, headed_func, constants_at_top, receiver_seen, decl_seen}
 use Rattle.run_rules.specs.Sites.{Where, outer}
 use Rattle.run_rules.specs.Steps.{At}
-use Rattle.printed_constants.specs.Printed.{IsFlat, a_name, a_number, a_selection, AllFlat, no_operands, and_operand, IsPrint, an_operand, a_call, PrintStmts, no_prints, and_print, FlatConstants, no_constants, and_constant, IsPrinted, some_constants, a_function}
+use Rattle.run_rules.specs.Printed.{IsFlat, a_name, a_number, a_selection, AllFlat, no_operands, and_operand, IsPrint, an_operand, a_call, PrintStmts, no_prints, and_print, FlatConstants, no_constants, and_constant, IsPrinted, some_constants, a_function}
 use Rattle.printed_constants.proofs.Parts.{each_both, callee_is}
 
 module _ (N : Environment Entity) where

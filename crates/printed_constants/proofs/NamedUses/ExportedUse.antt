@@ -16,7 +16,7 @@ use Rattle.put_names.specs.Uses.{IsUsedByName}
 use Rattle.put_nodes.specs.Put.{IsSomeName, alone, qualified}
 use Rattle.constant_steps.proofs.MarksFound.{marked_so}
 use Rattle.order_runs.proofs.CycleRuns.ImportCycles.ImportStep.{placed}
-use Rattle.run_rules.proofs.SpliceLaws.RunLaws.FoundSpans.{Placed}
+use Rattle.splice_laws.proofs.RunLaws.FoundSpans.{Placed}
 use Rattle.run_rules.specs.Programs.{in_dependency_order, linked, top_env, decl_seen}
 use Rattle.run_rules.specs.Run.{Standing, Logged, Next, here_of}
 use Rattle.run_rules.specs.Sites.{MarkRef, Where, Site, not_function, imported_by, import_number, outer, outer_meaning, qualifier, member_of, qualified_mark, expr_mark}
@@ -24,7 +24,7 @@ use Rattle.run_rules.specs.Steps.{At}
 use Rattle.run_rules.specs.Surroundings.{seen}
 use Rattle.printed_constants.specs.TypedParts.MarkedRuns.SettledConstants.Programs.{IsReady}
 use Rattle.printed_constants.proofs.TypedParts.MarkedRuns.PutForms.FirstUses.{seated}
-use Rattle.printed_constants.specs.Printed.{IsPrinted, ArePrinted}
+use Rattle.run_rules.specs.Printed.{IsPrinted, ArePrinted}
 use Rattle.printed_constants.proofs.DeclaredMembers.Values.{IsTyped, decl_typed}
 use Rattle.printed_constants.proofs.NamedUses.Exported.{IsKnown, decl_known, is_known, exported_there}
 use Rattle.printed_constants.proofs.NamedUses.Stand.{IsExportedUse, import_target, part_bound, one_of_each}

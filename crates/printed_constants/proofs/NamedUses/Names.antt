@@ -10,7 +10,7 @@ use Rattle.go_tree.specs.ScopeNames.Means.{Environment, binding}
 use Rattle.pkg_graph.specs.Package.{Package}
 use Rattle.pkg_graph.specs.Members.{Target, member, specs_names, block_names, unless_method, items_from, decls_from}
 use Rattle.order_runs.proofs.CycleRuns.ImportCycles.ImportStep.{placed}
-use Rattle.run_rules.proofs.SpliceLaws.RunLaws.FoundSpans.{Placed}
+use Rattle.splice_laws.proofs.RunLaws.FoundSpans.{Placed}
 use Rattle.run_rules.specs.FormTrees.{as_expr}
 use Rattle.run_rules.specs.Forms.{is_at}
 use Rattle.run_rules.specs.Programs.{top_place}
@@ -20,7 +20,7 @@ use Rattle.run_rules.specs.Sites.{MarkRef, Where, Site, part_span}
 use Rattle.run_rules.specs.Steps.{At, same_here, change_nth, changes_for, new_constants, new_receiver_option, new_decl, new_decls}
 use Rattle.run_rules.specs.Surroundings.{Place}
 use Rattle.printed_constants.proofs.TypedParts.StandingUses.ImportUses.Stays.{change}
-use Rattle.printed_constants.specs.Printed.{IsFlat, FlatConstants, no_constants, and_constant, IsPrinted, some_constants, a_function, ArePrinted}
+use Rattle.run_rules.specs.Printed.{IsFlat, FlatConstants, no_constants, and_constant, IsPrinted, some_constants, a_function, ArePrinted}
 use Rattle.printed_constants.proofs.Steps.{new_printed, read_again}
 
 -- ---- one declaration

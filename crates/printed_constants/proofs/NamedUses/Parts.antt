@@ -10,7 +10,7 @@ use Rattle.order_runs.proofs.RunSteps.SeatedUses.{Among, first, later}
 use Rattle.run_rules.specs.Surroundings.{Use, other, called, alone, a_slot, Place, Seen, seen, seen_type, seen_stmt, alike, head_use, later_uses, arg_uses, value_use, inner_slot, in_slot, callee_place, comma_slot, after_stmt, at_stmt, in_constant}
 use Rattle.run_rules.specs.Places.{expr_seen, all_seen, stmt_seen, stmts_seen, params_seen, sig_seen}
 use Rattle.run_rules.specs.Programs.{top_place, body_place, constants_at_top, receiver_seen, decl_seen}
-use Rattle.printed_constants.specs.Printed.{IsFlat, a_name, a_number, a_selection, AllFlat, no_operands, and_operand, IsPrint, an_operand, a_call, PrintStmts, no_prints, and_print, FlatConstants, no_constants, and_constant, IsPrinted, some_constants, a_function}
+use Rattle.run_rules.specs.Printed.{IsFlat, a_name, a_number, a_selection, AllFlat, no_operands, and_operand, IsPrint, an_operand, a_call, PrintStmts, no_prints, and_print, FlatConstants, no_constants, and_constant, IsPrinted, some_constants, a_function}
 
 module _ {S : Type 0} where
   abbrev expr_of : Seen S → Option (Expr S)

@@ -22,7 +22,7 @@ use Rattle.run_rules.specs.ImportRules.Needs.{serves, serving_from, serving, avo
 use Rattle.pkg_graph.specs.Package.{SourceTree, Package, specs_in, import_specs}
 use Rattle.pkg_graph.specs.Members.{Target, member, package_name, name_or, import_name, block_names, items_from, decls_from, files_from, package_block}
 use Rattle.go_tree.specs.GoTypes.Agreement.{In}
-use Rattle.run_rules.proofs.SpliceLaws.RunLaws.FoundSpans.{Placed}
+use Rattle.splice_laws.proofs.RunLaws.FoundSpans.{Placed}
 use Rattle.run_rules.proofs.NamesFound.{found_is_fresh}
 use Rattle.run_rules.specs.Naming.{Named, no_span, fuel_for, imports_added, names_by, fresh_name, package_path, own_name, names_here, environment_here, added_import, named_package}
 use Rattle.run_rules.specs.Run.{Standing, Logged, Next, here_of}

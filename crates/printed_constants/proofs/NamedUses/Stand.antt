@@ -22,7 +22,7 @@ use Rattle.go_translation.specs.Packages.{are_well_typed}
 use Rattle.constant_steps.specs.FormImports.ImportLaws.Steps.{binders_in, binders_of}
 use Rattle.constant_steps.specs.FormImports.Written.{NoneUnnamed}
 use Rattle.run_rules.specs.ImportRules.Needs.{avoided}
-use Rattle.run_rules.proofs.SpliceLaws.ImportSplices.FormSplices.FormsFound.{step-makes-form}
+use Rattle.splice_laws.proofs.ImportSplices.FormSplices.FormsFound.{step-makes-form}
 use Rattle.order_runs.specs.RunSteps.RunPackages.{members_of}
 use Rattle.order_runs.proofs.RunSteps.SeatedUses.{Among, first, later, Seated}
 use Rattle.printed_constants.specs.TypedParts.StandingUses.ImportUses.Parts.{EachSeen}
@@ -40,7 +40,7 @@ use Rattle.order_runs.specs.CycleRuns.OrderCycles.NewNames.{NamesByPath, FewName
 use Rattle.order_runs.proofs.CycleRuns.ImportCycles.FreeIdentifiers.{in-left, in-right, looked-up-within}
 use Rattle.order_runs.proofs.CycleRuns.ImportCycles.ImportStep.{placed}
 use Rattle.order_runs.proofs.CycleRuns.Runs.{linked-names}
-use Rattle.run_rules.proofs.SpliceLaws.RunLaws.FoundSpans.{Placed}
+use Rattle.splice_laws.proofs.RunLaws.FoundSpans.{Placed}
 use Rattle.run_rules.specs.FormTrees.{ConstForm, Form, as_expr, form_identifiers, outside_changes}
 use Rattle.run_rules.specs.Naming.{Names, Named, unnamed, unnamed_package, unnamed_in, new_first, names_by, imports_added, own_name, fresh_name, added_import, named_package, named_packages, names_here}
 use Rattle.run_rules.specs.Obstacles.{Obstacle, NotAccessible, Internal, Shadowed, Recursive, CommentInside, Spread, Repeated, obstacle_if, unless_exported, not_accessible, internal_package, shadowed, shadowed_meaning, means_this, is_qualified_there, is_repeated}
@@ -60,7 +60,7 @@ use Rattle.printed_constants.proofs.TypedParts.MarkedRuns.PutForms.FirstUses.{se
 use Rattle.printed_constants.specs.DeclaredMembers.Members.{IsOwn, IsMember}
 use Rattle.printed_constants.specs.DeclaredMembers.Laws.{ConstantsNameMembers}
 use Rattle.printed_constants.specs.NamedUses.Names.{IsConstantOf, IsConstantsName}
-use Rattle.printed_constants.specs.Printed.{FlatConstants, no_constants, and_constant, IsPrinted, some_constants, a_function, ArePrinted}
+use Rattle.run_rules.specs.Printed.{FlatConstants, no_constants, and_constant, IsPrinted, some_constants, a_function, ArePrinted}
 use Rattle.printed_constants.specs.PrintedUses.Added.{IsNamedThere}
 use Rattle.printed_constants.proofs.NamedUses.Forms.{text_by, member_at, Writes, writes_name, writes_member, step_writes}
 use Rattle.printed_constants.proofs.NamedUses.Middle.{Beside, beside, decls_now, inlinable_now, member_now, means_with, means_same, files_same}

@@ -30,7 +30,7 @@ use Rattle.order_runs.proofs.CycleRuns.ImportCycles.ImportStep.{placed}
 use Rattle.order_runs.proofs.CycleRuns.ImportCycles.ImportsAdded.{reads-added}
 use Rattle.order_runs.proofs.CycleRuns.LedImports.Homes.{package-path, package-there}
 use Rattle.order_runs.proofs.CycleRuns.Runs.{linked-names}
-use Rattle.run_rules.proofs.SpliceLaws.RunLaws.FoundSpans.{Placed}
+use Rattle.splice_laws.proofs.RunLaws.FoundSpans.{Placed}
 use Rattle.run_rules.specs.FormTrees.{as_expr}
 use Rattle.run_rules.specs.Forms.{is_at}
 use Rattle.run_rules.specs.Naming.{names_by, package_path}
@@ -54,7 +54,7 @@ use Rattle.printed_constants.proofs.TypedParts.MarkedRuns.KeptMarks.Shapes.{Shap
 use Rattle.printed_constants.proofs.TypedParts.MarkedRuns.NamedMarks.Declared.{inlinable-with}
 use Rattle.printed_constants.proofs.TypedParts.MarkedRuns.NamedMarks.Used.{named-used}
 use Rattle.printed_constants.specs.NamedUses.Names.{IsConstantOf, IsConstantsName, AllConstantsNames}
-use Rattle.printed_constants.specs.Printed.{a_name, a_selection, ArePrinted}
+use Rattle.run_rules.specs.Printed.{a_name, a_selection, ArePrinted}
 use Rattle.printed_constants.proofs.NamedUses.Middle.{Beside, beside, member_now}
 use Rattle.printed_constants.proofs.NamedUses.Names.{blocks_stay}
 use Rattle.printed_constants.proofs.NamedUses.Stand.{FormNamed, form_name, form_member}

@@ -17,7 +17,7 @@ use Rattle.printed_constants.proofs.TypedParts.MarkedRuns.KeptMarks.Kept.{stays}
 use Rattle.printed_constants.proofs.TypedParts.MarkedRuns.NamedMarks.Used.{named-used, uses-marked}
 use Rattle.printed_constants.specs.DeclaredMembers.Laws.{ConstantsNameMembers}
 use Rattle.printed_constants.specs.NamedUses.Names.{IsConstantsName, AllConstantsNames}
-use Rattle.printed_constants.specs.Printed.{ArePrinted}
+use Rattle.run_rules.specs.Printed.{ArePrinted}
 use Rattle.printed_constants.specs.PrintedUses.Added.{IsNamedThere}
 use Rattle.printed_constants.proofs.NamedUses.ExportedUse.{exported_use}
 use Rattle.printed_constants.proofs.NamedUses.Stand.{IsExportedUse, FormNamed, stands_named, form_named}

@@ -29,7 +29,7 @@ use Rattle.printed_constants.proofs.TypedParts.MarkedRuns.LinkedMembers.Files.{s
 use Rattle.printed_constants.proofs.TypedParts.MarkedRuns.KeptMarks.Puts.{Puts, puts_name, puts_member, step-puts}
 use Rattle.printed_constants.proofs.TypedParts.MarkedRuns.NamedMarks.Used.{named-used}
 use Rattle.printed_constants.proofs.TypedParts.MarkedRuns.Runs.{takes-name}
-use Rattle.printed_constants.specs.Printed.{a_name, a_selection, ArePrinted}
+use Rattle.run_rules.specs.Printed.{a_name, a_selection, ArePrinted}
 use Rattle.printed_constants.specs.NamedUses.Laws.{ConstantsNamesStand, StepsKeepConstantsNames}
 use Rattle.printed_constants.specs.NamedUses.Names.{AllConstantsNames}
 use Rattle.printed_constants.specs.PrintedRuns.Laws.{StaysWithin}

@@ -22,12 +22,12 @@ use Rattle.go_translation.specs.Packages as translated
 use Rattle.go_translation.specs.Packages.{are_well_typed}
 use Rattle.printed_constants.proofs.TypedParts.MarkedRuns.KeptMarks.Kept.{writes}
 use Rattle.printed_constants.proofs.TypedParts.MarkedRuns.LinkedMembers.Stand.{imports-stand}
-use Rattle.run_rules.proofs.SpliceLaws.RunLaws.FoundSpans.{Placed}
+use Rattle.splice_laws.proofs.RunLaws.FoundSpans.{Placed}
 use Rattle.run_rules.specs.Programs.{linked_file}
 use Rattle.run_rules.specs.Run.{Standing, Logged, Next, here_of}
 use Rattle.run_rules.specs.Sites.{MarkRef, Where, where_is}
 use Rattle.run_rules.specs.Steps.{At, change_nth}
-use Rattle.printed_constants.specs.Printed.{ArePrinted}
+use Rattle.run_rules.specs.Printed.{ArePrinted}
 use Rattle.printed_constants.proofs.Parts.{decl_parts, parts_simple}
 use Rattle.printed_constants.proofs.Plain.{packages_plain}
 use Rattle.printed_constants.proofs.Steps.{added_printed}

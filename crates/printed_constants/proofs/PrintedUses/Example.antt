@@ -11,7 +11,7 @@ use Rattle.go_tree.specs.ScopeNames.Identifiers.{decl_identifiers}
 use Rattle.pkg_graph.specs.Package.{Package}
 use Rattle.go_tree.specs.GoTypes.Agreement.{In, head, tail}
 use Rattle.order_runs.specs.CycleRuns.ImportCycles.OtherImports.{import_path}
-use Rattle.printed_constants.specs.Printed.{a_name, a_selection, no_operands, and_operand, a_call, no_prints, and_print, IsPrinted, a_function}
+use Rattle.run_rules.specs.Printed.{a_name, a_selection, no_operands, and_operand, a_call, no_prints, and_print, IsPrinted, a_function}
 
 abbrev at : ℕ → Span
 at n = record { start = n; end = n }

@@ -9,7 +9,7 @@ use Rattle.order_runs.proofs.ImportRuns.Listed.{AllListed, order-listed}
 use Rattle.run_rules.specs.Surroundings.{Use, Place, Seen, seen, seen_type, seen_stmt}
 use Rattle.run_rules.specs.Programs.{numbered_from, numbered, in_dependency_order, decl_seen}
 use Rattle.run_rules.specs.Sites.{MarkRef, Where, Site, an_expr, expr_mark, site_by, sites_among, decls_sites, files_sites, packages_sites, sites}
-use Rattle.printed_constants.specs.Printed.{IsPrinted, ArePrinted}
+use Rattle.run_rules.specs.Printed.{IsPrinted, ArePrinted}
 use Rattle.printed_constants.proofs.Parts.{PrintedPart, decl_parts}
 use Rattle.printed_constants.specs.PrintedUses.Laws.{PrintedUsesAreExpressions}
 

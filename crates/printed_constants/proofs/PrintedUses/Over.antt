@@ -1,6 +1,6 @@
 -- A step among constants and functions that print them is over a marked constant, as kept_marks asks.
-use Rattle.run_rules.specs.SpliceLaws.ImportSplices.FormSplices.Laws.{MakesForm}
-use Rattle.run_rules.proofs.SpliceLaws.ImportSplices.FormSplices.FormsFound.{step-makes-form}
+use Rattle.splice_laws.specs.ImportSplices.FormSplices.Laws.{MakesForm}
+use Rattle.splice_laws.proofs.ImportSplices.FormSplices.FormsFound.{step-makes-form}
 use Rattle.printed_constants.proofs.TypedParts.MarkedRuns.NamedMarks.Used.{named-used}
 use Rattle.printed_constants.proofs.FormNames.Forms.{form_not_blank}
 use Rattle.put_names.specs.Uses.{UsesConstant}

@@ -21,7 +21,7 @@ use Rattle.go_tree.specs.GoTypes.Programs.{Header, constants, a_func, Headed, he
 use Rattle.go_tree.specs.GoTypes.Collect.{DeclaredTypes, times, alias_entity, good_entity, package_constants, function_declared, func_declared, may_be_main, declared_by, binds_or_refused, entity_binds, block_by, blocks_by, alias_round, type_round, value_round, refused_world, rounds, aliased_world, types_declared, underlying, typed_world, valued_world}
 use Rattle.run_rules.specs.Programs.{numbered_from, numbered, is_ready, lesser, least_ready, ordered_after, in_dependency_order, linked_imports, linked_file, linked_package, linked_packages, linked, world}
 use Rattle.pkg_graph.specs.ModuleFiles.Pieces.{comes_before}
-use Rattle.printed_constants.specs.Printed.{IsFlat, FlatConstants, no_constants, and_constant, IsPrinted, some_constants, a_function, ArePrinted}
+use Rattle.run_rules.specs.Printed.{IsFlat, FlatConstants, no_constants, and_constant, IsPrinted, some_constants, a_function, ArePrinted}
 use Rattle.printed_constants.specs.QualifiedDots.Names.{IsUntypedMember}
 use Rattle.printed_constants.specs.QualifiedDots.Laws.{PrintedNamesAreUntyped}
 use Rattle.printed_constants.proofs.QualifiedDots.Untyped.{AllMean, both_mean, one_means, OfMeaning, meant_so, IsUntypedName, members_names, universe_untyped, BlocksUntyped, block_untyped, UntypedThere, OfOperand, flat_untyped}

@@ -33,7 +33,7 @@ use Rattle.run_rules.specs.Programs.{linked_imports, linked_file, world, imports
 use Rattle.run_rules.specs.Sites.{Where, imported_by, outer}
 use Rattle.run_rules.specs.Steps.{means_import, named_by_import}
 use Rattle.printed_constants.specs.TypedParts.StandingUses.ImportUses.Parts.{EachSeen}
-use Rattle.printed_constants.specs.Printed.{IsFlat, a_name, a_number, a_selection, AllFlat, no_operands, and_operand, IsPrint, an_operand, a_call, PrintStmts, no_prints, and_print, FlatConstants, no_constants, and_constant, IsPrinted, some_constants, a_function, ArePrinted}
+use Rattle.run_rules.specs.Printed.{IsFlat, a_name, a_number, a_selection, AllFlat, no_operands, and_operand, IsPrint, an_operand, a_call, PrintStmts, no_prints, and_print, FlatConstants, no_constants, and_constant, IsPrinted, some_constants, a_function, ArePrinted}
 use Rattle.printed_constants.specs.QualifiedDots.Names.{IsUntypedMember, IsQualified}
 use Rattle.printed_constants.specs.QualifiedDots.Laws.{PrintedDotsAreQualified}
 use Rattle.printed_constants.proofs.Parts.{each_both, callee_is, body_bound}

@@ -17,7 +17,7 @@ use Rattle.go_tree.specs.GoTypes.Operands.{Operand, value, several, a_type, a_fu
 use Rattle.go_tree.specs.GoTypes.Primary.{method_value, selected}
 use Rattle.go_tree.specs.GoTypes.Statements.{package_before}
 use Rattle.go_tree.specs.GoTypes.Typing.{parts, place}
-use Rattle.printed_constants.specs.Printed.{IsFlat, a_name, a_number, a_selection}
+use Rattle.run_rules.specs.Printed.{IsFlat, a_name, a_number, a_selection}
 use Rattle.printed_constants.specs.QualifiedDots.Names.{IsUntypedMember}
 
 -- ---- environments

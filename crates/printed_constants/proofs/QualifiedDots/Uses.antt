@@ -6,7 +6,7 @@ use Rattle.run_rules.specs.Programs.{decl_seen}
 use Rattle.run_rules.specs.Run.{here_of}
 use Rattle.run_rules.specs.Sites.{Where, part_span}
 use Rattle.run_rules.specs.Steps.{At, same_here}
-use Rattle.run_rules.proofs.SpliceLaws.RunLaws.FoundSpans.{Placed}
+use Rattle.splice_laws.proofs.RunLaws.FoundSpans.{Placed}
 use Rattle.order_runs.proofs.CycleRuns.ImportCycles.ImportStep.{placed}
 use Rattle.printed_constants.specs.TypedParts.StandingUses.Laws.{IsNamedOnce, ConstantUsesStandOnce}
 use Rattle.printed_constants.specs.TypedParts.DottedImports.Laws.{WellTypedFilesAreDotted}

@@ -28,7 +28,7 @@ use Rattle.run_rules.specs.Sites.{Where, imported_by, outer}
 use Rattle.run_rules.specs.Steps.{At, means_import, uses_import}
 use Rattle.run_rules.specs.Surroundings.{Seen}
 use Rattle.printed_constants.specs.TypedParts.StandingUses.ImportUses.Parts.{EachSeen}
-use Rattle.printed_constants.specs.Printed.{a_name, a_number, a_selection, an_operand, a_call, IsPrinted}
+use Rattle.run_rules.specs.Printed.{a_name, a_number, a_selection, an_operand, a_call, IsPrinted}
 use Rattle.printed_constants.proofs.Parts.{PrintedPart, an_expression, a_statement, decl_parts}
 use Rattle.printed_constants.proofs.StandingForms.Dots.{at_top}
 use Rattle.printed_constants.proofs.StandingForms.Unnamed.{MeansNone}

@@ -16,7 +16,7 @@ use Rattle.run_rules.specs.Places.{expr_seen, all_seen, stmt_seen, stmts_seen, s
 use Rattle.run_rules.specs.Programs.{top_place, body_place, constants_at_top, receiver_seen, decl_seen}
 use Rattle.run_rules.specs.Respanned.{param_with, expr_with, exprs_with, stmts_with, specs_with, receiver_with, decl_with}
 use Rattle.run_rules.specs.Surroundings.{Use, other, called, alone, a_slot, Place, Seen, seen, seen_stmt, alike, head_use, later_uses, arg_uses, value_use, inner_slot, in_slot, callee_place, comma_slot, after_stmt, at_stmt, in_constant}
-use Rattle.printed_constants.specs.Printed.{IsFlat, a_name, a_number, a_selection, AllFlat, no_operands, and_operand, IsPrint, an_operand, a_call, PrintStmts, no_prints, and_print, FlatConstants, no_constants, and_constant, IsPrinted, some_constants, a_function}
+use Rattle.run_rules.specs.Printed.{IsFlat, a_name, a_number, a_selection, AllFlat, no_operands, and_operand, IsPrint, an_operand, a_call, PrintStmts, no_prints, and_print, FlatConstants, no_constants, and_constant, IsPrinted, some_constants, a_function}
 use Rattle.printed_constants.proofs.Parts.{callee_is, body_bound}
 
 among_front : {A : Type 0} {a : A} {xs : List A} (ys : List A) → Among a xs → Among a (xs ++ ys)

@@ -18,9 +18,9 @@ use Rattle.pkg_graph.specs.Package.{SourceTree, Package, specs_in, import_specs}
 use Rattle.pkg_graph.specs.Members.{imported, name_or, import_name}
 use Rattle.go_tree.specs.GoTypes.Agreement.{In}
 use Rattle.go_tree.specs.GoTypes.Answers.{given}
-use Rattle.run_rules.specs.SpliceLaws.RunLaws.Reading.{ProgramReads}
-use Rattle.run_rules.proofs.SpliceLaws.RunLaws.FilesStand.{file_laid}
-use Rattle.run_rules.proofs.SpliceLaws.RunLaws.FoundSpans.{Placed}
+use Rattle.splice_laws.specs.RunLaws.Reading.{ProgramReads}
+use Rattle.splice_laws.proofs.RunLaws.FilesStand.{file_laid}
+use Rattle.splice_laws.proofs.RunLaws.FoundSpans.{Placed}
 use Rattle.run_rules.specs.FormTrees.{as_expr}
 use Rattle.run_rules.specs.Inlining.{ReadsAs}
 use Rattle.run_rules.specs.Laws.{file_found}
@@ -41,9 +41,9 @@ use Rattle.printed_constants.specs.TypedParts.MarkedRuns.NamedMarks.Named.{AllNa
 use Rattle.printed_constants.proofs.TypedParts.MarkedRuns.KeptMarks.Changed.{name-stays}
 use Rattle.printed_constants.proofs.TypedParts.MarkedRuns.KeptMarks.Puts.{Puts, puts_name, puts_member, step-puts}
 use Rattle.printed_constants.proofs.TypedParts.MarkedRuns.NamedMarks.Used.{named-used}
-use Rattle.run_rules.proofs.SpliceLaws.ImportSplices.FormSplices.FormsFound.{step-makes-form}
+use Rattle.splice_laws.proofs.ImportSplices.FormSplices.FormsFound.{step-makes-form}
 use Rattle.put_names.proofs.StepsPut.{file_reads}
-use Rattle.printed_constants.specs.Printed.{IsFlat, a_name, a_selection, IsPrinted, ArePrinted}
+use Rattle.run_rules.specs.Printed.{IsFlat, a_name, a_selection, IsPrinted, ArePrinted}
 use Rattle.printed_constants.proofs.PrintedUses.Expressions.{site_expression}
 use Rattle.printed_constants.proofs.RemovedImports.Imports.{any_true, nth_among, UsedBy, decls_used, ImportAt, import_there, import_stays, gone}
 use Rattle.printed_constants.proofs.RemovedImports.LookedUp.{SeenIn, decl_looks, decl_same}

@@ -20,7 +20,7 @@ use Rattle.run_rules.specs.Programs.{top_place, body_place, constants_at_top, re
 use Rattle.run_rules.specs.Rewriting.{Changes, new_params, new_sig, new_name, new_expr, new_all, new_stmts}
 use Rattle.run_rules.specs.Sites.{Where, imported_by, outer}
 use Rattle.run_rules.specs.Steps.{At, same_here, new_constants, new_receiver_option, new_decl, means_import, named_by_import}
-use Rattle.printed_constants.specs.Printed.{IsFlat, a_name, a_number, a_selection, AllFlat, no_operands, and_operand, IsPrint, an_operand, a_call, PrintStmts, no_prints, and_print, FlatConstants, no_constants, and_constant, IsPrinted, some_constants, a_function}
+use Rattle.run_rules.specs.Printed.{IsFlat, a_name, a_number, a_selection, AllFlat, no_operands, and_operand, IsPrint, an_operand, a_call, PrintStmts, no_prints, and_print, FlatConstants, no_constants, and_constant, IsPrinted, some_constants, a_function}
 use Rattle.printed_constants.proofs.Parts.{callee_is, body_bound}
 use Rattle.printed_constants.proofs.Steps.{flat_new, none_new, params_new}
 use Rattle.printed_constants.proofs.StandingForms.Unnamed.{MeansNone}

@@ -19,7 +19,7 @@ use Rattle.run_rules.specs.Steps.{At, same_here, Found, means_import, named_by_i
 use Rattle.constant_steps.proofs.MarksFound.{both_none}
 use Rattle.constant_steps.proofs.NamesOutside.{unshadowed}
 use Rattle.printed_constants.specs.TypedParts.StandingUses.ImportUses.Parts.{IsNoImport}
-use Rattle.run_rules.specs.SpliceLaws.ImportSplices.FormSplices.Laws.{MakesForm}
+use Rattle.splice_laws.specs.ImportSplices.FormSplices.Laws.{MakesForm}
 use Rattle.put_names.specs.Uses.{IsDeclaredAsName, as_name, as_member}
 use Rattle.put_names.proofs.Forms.{IsFormBy, by_obstacle, reduced_is}
 use Rattle.printed_constants.specs.DeclaredMembers.Members.{IsOwn, IsMember}

@@ -13,9 +13,9 @@ use Rattle.constant_steps.proofs.FormImports.ImportLaws.GraphImports.{map_append
 use Rattle.pkg_graph.specs.Package.{SourceTree, Package, specs_in, import_specs}
 use Rattle.pkg_graph.specs.Members.{name_or, import_name}
 use Rattle.go_tree.specs.GoTypes.Agreement.{In}
-use Rattle.constant_forms.specs.declared.packages.NamedPackage.{NamedPackage}
-use Rattle.constant_forms.specs.declared.reduced.ConstantForm.{ConstantForm}
-use Rattle.constant_forms.specs.Views.{name_expr, named_of}
+use Rattle.constant_edits.specs.NamedPackage.{NamedPackage}
+use Rattle.constant_edits.specs.ConstantForm.{ConstantForm}
+use Rattle.constant_edits.specs.Views.{name_expr, named_of}
 use Rattle.order_runs.specs.CycleRuns.ImportCycles.ImportSteps.{file_added, packages_added, AddsNewNames}
 use Rattle.printed_constants.specs.TypedParts.StandingUses.ImportUses.Parts.{EachSeen, IsNoImport, DottedImports, at_the_end, before_a_dot, past_another}
 use Rattle.printed_constants.specs.TypedParts.StandingUses.ImportUses.Steps.{EachDecl, IsStanding}
@@ -33,7 +33,7 @@ use Rattle.run_rules.specs.Run.{Standing, here_of, is_commented, edits_in, logge
 use Rattle.run_rules.specs.Sites.{MarkRef, Where, Site, part_span, outer}
 use Rattle.run_rules.specs.Steps.{At, same_here, change_nth, changes_for, Found, new_decl, new_decls, added_decls, file_between, packages_between, where_between}
 use Rattle.run_rules.specs.Texts.{FileText}
-use Rattle.run_rules.proofs.SpliceLaws.RunLaws.FoundSpans.{Placed}
+use Rattle.splice_laws.proofs.RunLaws.FoundSpans.{Placed}
 use Rattle.order_runs.proofs.RunSteps.SeatedUses.{Among, first, later, Seated}
 use Rattle.order_runs.specs.CycleRuns.OrderCycles.NewNames.{FewNames}
 use Rattle.order_runs.proofs.CycleRuns.OrderCycles.NamesAdded.{adds-new-names}
@@ -46,7 +46,7 @@ use Rattle.printed_constants.specs.TypedParts.MarkedRuns.SettledConstants.Progra
 use Rattle.printed_constants.specs.TypedParts.StandingUses.Laws.{AreTyped}
 use Rattle.printed_constants.specs.TypedParts.StandingUses.ToldSteps.Laws.{BecomesForm}
 use Rattle.printed_constants.specs.TypedParts.DottedImports.Laws.{WellTypedFilesStand}
-use Rattle.printed_constants.specs.Printed.{IsFlat, a_name, a_selection, IsPrinted, ArePrinted}
+use Rattle.run_rules.specs.Printed.{IsFlat, a_name, a_selection, IsPrinted, ArePrinted}
 use Rattle.printed_constants.proofs.Parts.{PrintedPart, an_expression, decl_parts, parts_scoped, parts_keyed}
 use Rattle.printed_constants.proofs.Steps.{changed_nth, decl_new}
 use Rattle.printed_constants.specs.DeclaredMembers.Laws.{ConstantsNameMembers}

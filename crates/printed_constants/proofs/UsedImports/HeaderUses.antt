@@ -16,7 +16,7 @@ use Rattle.go_tree.specs.GoTypes.Typing.{used, used_all, used_stmts}
 use Rattle.go_tree.specs.GoTypes.WellTyped.{receiver_names, body_env, function_uses, is_used_in}
 use Rattle.go_tree.specs.GoTypes.Programs as programs
 use Rattle.order_runs.specs.CycleRuns.ImportCycles.LookedUp.{specs_looked_up, receiver_looked_up, decl_looked_up}
-use Rattle.printed_constants.specs.Printed.{IsFlat, a_name, a_number, a_selection, AllFlat, no_operands, and_operand, IsPrint, an_operand, a_call, PrintStmts, no_prints, and_print, FlatConstants, no_constants, and_constant, IsPrinted, some_constants, a_function}
+use Rattle.run_rules.specs.Printed.{IsFlat, a_name, a_number, a_selection, AllFlat, no_operands, and_operand, IsPrint, an_operand, a_call, PrintStmts, no_prints, and_print, FlatConstants, no_constants, and_constant, IsPrinted, some_constants, a_function}
 use Rattle.printed_constants.specs.UsedImports.Uses.{decls_looked_up}
 
 -- ---- names among others

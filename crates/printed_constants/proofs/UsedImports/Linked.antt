@@ -36,7 +36,7 @@ use Rattle.order_runs.proofs.RunSteps.PackageStands.{StandsAt, package-stands}
 use Rattle.order_runs.specs.CycleRuns.OrderCycles.Orders.{AllOrdered}
 use Rattle.printed_constants.specs.TypedParts.MarkedRuns.LinkedMembers.Laws.{files_use, ImportsUsed}
 use Rattle.printed_constants.proofs.TypedParts.MarkedRuns.ReadyModules.Typed.{linked_typed}
-use Rattle.printed_constants.specs.Printed.{IsPrinted, ArePrinted}
+use Rattle.run_rules.specs.Printed.{IsPrinted, ArePrinted}
 use Rattle.printed_constants.specs.UsedImports.Uses.{decls_looked_up, LookUpImports}
 use Rattle.printed_constants.proofs.UsedImports.HeaderUses.{among_in, in_among, file_uses}
 

@@ -17,7 +17,7 @@ use Rattle.run_rules.specs.Places.{expr_seen, all_seen, stmt_seen, stmts_seen, p
 use Rattle.run_rules.specs.Programs.{top_place, body_place, constants_at_top, receiver_seen, decl_seen}
 use Rattle.run_rules.specs.Rewriting.{Changes, new_expr, new_all, new_stmts, new_sig}
 use Rattle.run_rules.specs.Steps.{At, same_here, new_constants, new_receiver_option, new_decl}
-use Rattle.printed_constants.specs.Printed.{IsFlat, a_name, a_number, a_selection, AllFlat, no_operands, and_operand, IsPrint, an_operand, a_call, PrintStmts, no_prints, and_print, FlatConstants, no_constants, and_constant, IsPrinted, some_constants, a_function}
+use Rattle.run_rules.specs.Printed.{IsFlat, a_name, a_number, a_selection, AllFlat, no_operands, and_operand, IsPrint, an_operand, a_call, PrintStmts, no_prints, and_print, FlatConstants, no_constants, and_constant, IsPrinted, some_constants, a_function}
 
 pub among_either : {A : Type 0} (a : A) (xs ys : List A) → Among a (xs ++ ys) → Among a xs ⊎ Among a ys
 among_either a [] ys h = inr h

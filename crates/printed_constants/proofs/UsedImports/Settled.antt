@@ -9,8 +9,8 @@ use Rattle.run_rules.specs.declared.import_rules.new_import.NewImport.{NewImport
 use Rattle.run_rules.specs.ImportRules.SpecText.{is_before, put, in_order}
 use Rattle.run_rules.specs.ImportRules.Removed.{goes, goes_whole}
 use Rattle.run_rules.specs.ImportRules.Added.{adds_to_group}
-use Rattle.run_rules.specs.SpliceLaws.ImportSplices.AddedFile.{added_spec, added_decls}
-use Rattle.run_rules.specs.SpliceLaws.ImportSplices.SettledFile.{left_specs, left_single, left_decl, left_decls, grown_decls, with_added, settled_decls}
+use Rattle.splice_laws.specs.ImportSplices.AddedFile.{added_spec, added_decls}
+use Rattle.splice_laws.specs.ImportSplices.SettledFile.{left_specs, left_single, left_decl, left_decls, grown_decls, with_added, settled_decls}
 use Rattle.pkg_graph.specs.Package.{specs_in}
 use Rattle.order_runs.specs.CycleRuns.StepCycles.PackagesAlike.{import_key}
 use Rattle.order_runs.proofs.CycleRuns.KeptImports.Keys.{Key, new_key, key-bare, key-added}

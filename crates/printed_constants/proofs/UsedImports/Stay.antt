@@ -25,7 +25,7 @@ use Rattle.order_runs.specs.CycleRuns.KeptImports.Files.{IsSettled}
 use Rattle.order_runs.proofs.CycleRuns.ImportCycles.ImportStep.{placed}
 use Rattle.order_runs.proofs.CycleRuns.KeptImports.Kept.{is-settled}
 use Rattle.order_runs.proofs.CycleRuns.Runs.{linked-names}
-use Rattle.run_rules.proofs.SpliceLaws.RunLaws.FoundSpans.{Placed}
+use Rattle.splice_laws.proofs.RunLaws.FoundSpans.{Placed}
 use Rattle.run_rules.specs.FormTrees.{as_expr}
 use Rattle.run_rules.specs.Forms.{is_at}
 use Rattle.run_rules.specs.Naming.{Named, imports_added, names_by}
@@ -42,7 +42,7 @@ use Rattle.printed_constants.proofs.TypedParts.MarkedRuns.KeptMarks.Kept.{writes
 use Rattle.printed_constants.proofs.TypedParts.MarkedRuns.NamedMarks.Used.{named-used}
 use Rattle.printed_constants.proofs.TypedParts.MarkedRuns.PutForms.FirstUses.{seated}
 use Rattle.printed_constants.proofs.TypedParts.MarkedRuns.SoundImports.Sound.{sound-before}
-use Rattle.printed_constants.specs.Printed.{IsFlat, a_name, a_selection, ArePrinted}
+use Rattle.run_rules.specs.Printed.{IsFlat, a_name, a_selection, ArePrinted}
 use Rattle.printed_constants.specs.UsedImports.Uses.{decls_looked_up, LookUpImports}
 use Rattle.printed_constants.proofs.NamedUses.Forms.{Writes, writes_name, writes_member, step_writes}
 use Rattle.printed_constants.proofs.PrintedUses.Over.{steps_over}

@@ -13,7 +13,7 @@ use Rattle.go_tree.specs.ScopeNames.FreeNames.{free_expr}
 use Rattle.go_tree.specs.ScopeNames.Means.{Environment, means, is_blank, numbered}
 use Rattle.run_rules.specs.ImportRules.Needs.{serving, avoided}
 use Rattle.run_rules.specs.ImportRules.Removed.{same_span}
-use Rattle.run_rules.specs.SpliceLaws.ImportSplices.SettledFile.{settled_decls}
+use Rattle.splice_laws.specs.ImportSplices.SettledFile.{settled_decls}
 use Rattle.pkg_graph.specs.Package.{Package, specs_in, import_specs}
 use Rattle.pkg_graph.specs.Members.{Target, imported, import_name}
 use Rattle.go_tree.specs.GoTypes.Agreement.{In, head}
@@ -21,8 +21,8 @@ use Rattle.go_tree.specs.GoTypes.Answers.{given, is_among}
 use Rattle.go_tree.specs.GoTypes.Programs.{is_init, import_sound, block_names}
 use Rattle.typed_in_place.specs.ImportRule.{imports_sound}
 use Rattle.typed_in_place.proofs.Rising.{and_first, and_second}
-use Rattle.run_rules.specs.SpliceLaws.RunLaws.Reading.{ProgramReads}
-use Rattle.run_rules.proofs.SpliceLaws.RunLaws.FoundSpans.{Placed}
+use Rattle.splice_laws.specs.RunLaws.Reading.{ProgramReads}
+use Rattle.splice_laws.proofs.RunLaws.FoundSpans.{Placed}
 use Rattle.run_rules.specs.FormTrees.{Form, as_expr}
 use Rattle.run_rules.specs.Forms.{is_at}
 use Rattle.run_rules.specs.Laws.{file_found}
@@ -43,7 +43,7 @@ use Rattle.order_runs.specs.CycleRuns.KeptImports.Files.{IsSettled}
 use Rattle.order_runs.specs.CycleRuns.OrderCycles.NewNames.{NamesByPath}
 use Rattle.order_runs.proofs.CycleRuns.ImportCycles.ImportStep.{placed}
 use Rattle.order_runs.proofs.CycleRuns.KeptImports.Keys.{Key, new_key, key-with, keys-bare, key_name, name-by}
-use Rattle.printed_constants.specs.Printed.{IsFlat, an_operand, a_name, a_number, a_selection, a_call, IsPrinted, ArePrinted}
+use Rattle.run_rules.specs.Printed.{IsFlat, an_operand, a_name, a_number, a_selection, a_call, IsPrinted, ArePrinted}
 use Rattle.printed_constants.specs.UsedImports.Uses.{decls_looked_up, LookUpImports}
 use Rattle.printed_constants.proofs.Parts.{PrintedPart, an_expression, a_statement, decl_parts}
 use Rattle.printed_constants.proofs.Steps.{new_printed, read_again}

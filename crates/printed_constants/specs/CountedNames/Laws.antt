@@ -10,7 +10,7 @@ use Rattle.go_tree.specs.File.{Decl, File}
 use Rattle.go_tree.specs.GoWords.Tokens.{TokensOf}
 use Rattle.order_runs.specs.CycleRuns.OrderCycles.NewNames.{FewNames}
 use Rattle.pkg_graph.specs.Reads.{Source}
-use Rattle.run_rules.specs.SpliceLaws.RunLaws.Reading.{ProgramReads, OnePathEach}
+use Rattle.splice_laws.specs.RunLaws.Reading.{ProgramReads, OnePathEach}
 use Rattle.run_rules.specs.Run.{Standing, Logged, Next, module_file_size, texts_size, the_limits, passed}
 use Rattle.run_rules.specs.Sites.{MarkRef, Where}
 use Rattle.run_rules.specs.Steps.{At, Found}
@@ -20,7 +20,7 @@ use Rattle.constant_steps.specs.FormImports.ImportLaws.Steps.{names_standing}
 use Rattle.run_rules.specs.Texts.{FileText}
 use Rattle.printed_constants.specs.TypedParts.MarkedRuns.NamedMarks.Named.{AllNamed}
 use Rattle.printed_constants.specs.TypedParts.MarkedRuns.PutForms.Uses.{IsFirstUse, UsesNamedConstant}
-use Rattle.printed_constants.specs.Printed.{IsPrinted, ArePrinted}
+use Rattle.run_rules.specs.Printed.{IsPrinted, ArePrinted}
 use Rattle.go_tree.specs.ScopeNames.Identifiers.{identifiers}
 
 -- A file of constants and of functions that print them has no more identifiers than tokens.

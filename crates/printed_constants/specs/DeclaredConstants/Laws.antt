@@ -11,7 +11,7 @@ use Rattle.pkg_graph.specs.Reads.{Source}
 use Rattle.go_tree.specs.GoTypes.Types.{GoType}
 use Rattle.go_tree.specs.GoTypes.Entities.{constant, block_of}
 use Rattle.go_translation.specs.SameMeaning.{WellTyped}
-use Rattle.run_rules.specs.SpliceLaws.ImportSplices.AddedFile.{is_byte}
+use Rattle.splice_laws.specs.ImportSplices.AddedFile.{is_byte}
 use Rattle.order_runs.specs.CycleRuns.OrderCycles.Orders.{AllOrdered}
 use Rattle.printed_constants.specs.TypedParts.MarkedRuns.LinkedMembers.Laws.{HaveFiles}
 use Rattle.printed_constants.specs.TypedParts.MarkedRuns.NamedMarks.Named.{AllNamed}
@@ -19,7 +19,7 @@ use Rattle.printed_constants.specs.TypedParts.MarkedRuns.TakenNames.Laws.{KeptBy
 use Rattle.member_uses.specs.Laws.{AllConstants}
 use Rattle.order_runs.specs.RunSteps.RunPackages.{packages_of}
 use Rattle.printed_constants.specs.NamedUses.Names.{IsConstantOf, AllConstantsNames}
-use Rattle.printed_constants.specs.Printed.{ArePrinted}
+use Rattle.run_rules.specs.Printed.{ArePrinted}
 use Rattle.printed_constants.specs.PrintedRuns.Laws.{StaysWithin}
 use Rattle.run_rules.specs.Inlining.{ModuleReads, standing_as_read, IsInlining}
 use Rattle.run_rules.specs.Marks.{marks_of}

@@ -9,7 +9,7 @@ use Rattle.order_runs.specs.RunSteps.RunPackages.{packages_of}
 use Rattle.run_rules.specs.Run.{Standing, Logged, Next, texts_size, the_limits}
 use Rattle.run_rules.specs.Sites.{MarkRef}
 use Rattle.printed_constants.specs.NamedUses.Names.{AllConstantsNames}
-use Rattle.printed_constants.specs.Printed.{ArePrinted}
+use Rattle.run_rules.specs.Printed.{ArePrinted}
 use Rattle.printed_constants.specs.PrintedUses.Added.{IsNamedThere}
 
 -- In a ready, well-typed program of constants and of functions that print them, whose packages have names of their own,

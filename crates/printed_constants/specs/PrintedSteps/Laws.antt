@@ -5,10 +5,10 @@ use Rattle.std.specs.Prelude.{◌≡◌, ℕ, ◌+◌, ◌≤◌, true, List, []
 use Rattle.std.specs.List.{list_all}
 use Rattle.go_tree.specs.declared.spans.Span.{Span}
 use Rattle.go_tree.specs.GoWords.Tokens.Characters.{each}
-use Rattle.run_rules.specs.SpliceLaws.ImportSplices.AddedFile.{is_byte}
+use Rattle.splice_laws.specs.ImportSplices.AddedFile.{is_byte}
 use Rattle.pkg_graph.specs.Package.{Package}
 use Rattle.pkg_graph.specs.Reads.{Source}
-use Rattle.constant_forms.specs.declared.reduced.ConstantForm.{ConstantForm}
+use Rattle.constant_edits.specs.ConstantForm.{ConstantForm}
 use Rattle.go_translation.specs.SameMeaning.{WellTyped}
 use Rattle.printed_constants.specs.TypedParts.MarkedRuns.KeptMarks.Over.{IsOverName}
 use Rattle.printed_constants.specs.TypedParts.MarkedRuns.PutForms.Uses.{IsFirstUse, UsesNamedConstant}
@@ -23,7 +23,7 @@ use Rattle.run_rules.specs.Texts.{FileText}
 use Rattle.printed_constants.specs.TypedParts.StandingUses.Laws.{AreTyped}
 use Rattle.printed_constants.specs.TypedParts.StandingUses.ToldSteps.Laws.{BecomesForm}
 use Rattle.printed_constants.specs.NamedUses.Names.{AllConstantsNames}
-use Rattle.printed_constants.specs.Printed.{ArePrinted}
+use Rattle.run_rules.specs.Printed.{ArePrinted}
 use Rattle.printed_constants.specs.PrintedSteps.Programs.{IsPrintedProgram}
 
 -- A module that reads is such a program, where the paths of its files are octets, it is well typed, all its

@@ -12,7 +12,7 @@ use Rattle.run_by_steps.specs.RunProgress.Laws.{are_paths_apart}
 use Rattle.run_rules.specs.Run.{Standing, module_file_size, texts_size, the_limits}
 use Rattle.run_rules.specs.Sites.{MarkRef}
 use Rattle.printed_constants.specs.NamedUses.Names.{AllConstantsNames}
-use Rattle.printed_constants.specs.Printed.{ArePrinted}
+use Rattle.run_rules.specs.Printed.{ArePrinted}
 
 -- The program is ready and well typed, all its declarations are constants and functions that print them, and its marks
 -- are those of constants that are declared as names of constants. Each package has a file and a name of its own, and

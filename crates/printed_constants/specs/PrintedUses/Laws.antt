@@ -10,7 +10,7 @@ use Rattle.printed_constants.specs.TypedParts.MarkedRuns.LinkedMembers.Laws.{Hav
 use Rattle.printed_constants.specs.TypedParts.MarkedRuns.Marked.{StandsAdded}
 use Rattle.printed_constants.specs.TypedParts.MarkedRuns.NamedMarks.Named.{AllNamed}
 use Rattle.pkg_graph.specs.Package.{Package}
-use Rattle.printed_constants.specs.Printed.{ArePrinted}
+use Rattle.run_rules.specs.Printed.{ArePrinted}
 use Rattle.run_rules.specs.Run.{Standing, Logged, Next, texts_size, the_limits}
 use Rattle.run_rules.specs.Sites.{MarkRef, Site, an_expr, sites}
 use Rattle.run_rules.specs.Steps.{At}

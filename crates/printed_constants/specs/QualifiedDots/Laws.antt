@@ -15,7 +15,7 @@ use Rattle.run_rules.specs.Run.{Standing, Logged, Next}
 use Rattle.run_rules.specs.Sites.{MarkRef, Where, an_expr, a_constant, inlinable, part_span}
 use Rattle.run_rules.specs.Steps.{At, same_here}
 use Rattle.printed_constants.specs.TypedParts.StandingUses.ImportUses.Parts.{EachSeen}
-use Rattle.printed_constants.specs.Printed.{ArePrinted}
+use Rattle.run_rules.specs.Printed.{ArePrinted}
 use Rattle.printed_constants.specs.QualifiedDots.Names.{IsUntypedMember, IsQualified, HasNoDot}
 
 -- In such packages each name of a package block means a function or an untyped constant, or is refused.

@@ -3,8 +3,8 @@
 use Rattle.std.specs.Prelude.{List}
 use Rattle.order_runs.specs.CycleRuns.KeptImports.Files.{RemovesNoLookUps}
 use Rattle.printed_constants.specs.TypedParts.MarkedRuns.NamedMarks.Named.{AllNamed}
-use Rattle.printed_constants.specs.Printed.{ArePrinted}
-use Rattle.run_rules.specs.SpliceLaws.RunLaws.Reading.{ProgramReads}
+use Rattle.run_rules.specs.Printed.{ArePrinted}
+use Rattle.splice_laws.specs.RunLaws.Reading.{ProgramReads}
 use Rattle.run_rules.specs.Run.{Standing, Logged, Next}
 use Rattle.run_rules.specs.Sites.{MarkRef}
 

@@ -4,10 +4,10 @@ use Rattle.std.specs.Prelude.{◌≡◌, List, []}
 use Rattle.go_tree.specs.declared.spans.Span.{Span}
 use Rattle.go_tree.specs.File.{File}
 use Rattle.go_tree.specs.Tree.{Expr}
-use Rattle.constant_forms.specs.declared.reduced.ConstantForm.{ConstantForm}
+use Rattle.constant_edits.specs.ConstantForm.{ConstantForm}
 use Rattle.printed_constants.specs.TypedParts.StandingUses.ImportUses.Parts.{IsNoImport}
 use Rattle.run_by_steps.specs.NextPrograms.Made.{NextWith}
-use Rattle.printed_constants.specs.Printed.{ArePrinted}
+use Rattle.run_rules.specs.Printed.{ArePrinted}
 use Rattle.printed_constants.specs.TypedParts.MarkedRuns.PutForms.Uses.{IsFirstUse, UsesNamedConstant}
 use Rattle.run_rules.specs.FormTrees.{as_expr}
 use Rattle.run_rules.specs.Run.{Standing}

@@ -13,7 +13,7 @@ use Rattle.pkg_graph.specs.Package.{Package}
 use Rattle.run_rules.specs.Run.{Standing, Logged, Next, texts_size, the_limits}
 use Rattle.run_rules.specs.Sites.{MarkRef}
 use Rattle.run_rules.specs.Steps.{At}
-use Rattle.printed_constants.specs.Printed.{ArePrinted}
+use Rattle.run_rules.specs.Printed.{ArePrinted}
 use Rattle.printed_constants.specs.UsedImports.Uses.{LookUpImports}
 
 -- In a well-typed program of constants and of functions that print them, each of whose packages stands in the

@@ -6,8 +6,8 @@ use Rattle.go_tree.specs.Tree.{NameAt, TypeExpr, named, Exprs, no_exprs, expr_an
 use Rattle.go_tree.specs.File.{TypeSpec, Decl, values, types, func}
 use Rattle.go_layout.specs.LayoutLaws.Formed.{FormedType}
 use Rattle.go_tree.specs.GoTypes.Answers.{given}
-use Rattle.run_rules.specs.SpliceLaws.ImportSplices.FormSplices.Laws.{MakesForm}
-use Rattle.run_rules.proofs.SpliceLaws.ImportSplices.FormSplices.FormsFound.{step-makes-form}
+use Rattle.splice_laws.specs.ImportSplices.FormSplices.Laws.{MakesForm}
+use Rattle.splice_laws.proofs.ImportSplices.FormSplices.FormsFound.{step-makes-form}
 use Rattle.run_rules.specs.FormTrees.{FormKind, TypeForm, Form, as_type, form_identifiers}
 use Rattle.run_rules.specs.Naming.{Names, unnamed, new_first, unnamed_in, Named, names_by, named_packages, qualified, qualified_or}
 use Rattle.run_rules.specs.Obstacles.{Obstacle}
@@ -18,7 +18,7 @@ use Rattle.run_rules.specs.Run.{Standing, Logged, Next, here_of, is_commented}
 use Rattle.run_rules.specs.Sites.{MarkRef, Where, Inlinable, an_alias, aliased, Part, a_type_part, Site, part_span, mark_of, constant_in_spec, nth_constant, less, inlinable_in, where_is, inlinable, outer_meaning, qualifier}
 use Rattle.run_rules.specs.Steps.{At, same_here}
 use Rattle.run_rules.specs.Surroundings.{Place, seen_type}
-use Rattle.run_rules.specs.SpliceLaws.RunLaws.Reading.{FileReads, ProgramReads}
+use Rattle.splice_laws.specs.RunLaws.Reading.{FileReads, ProgramReads}
 use Rattle.put_nodes.specs.SpelledNames.{AreNames}
 use Rattle.put_nodes.specs.Swapped.{FormedTypeSpecs, FormedDecl}
 use Rattle.put_nodes.proofs.ReadFiles.{decl_formed}

@@ -12,12 +12,12 @@ use Rattle.pkg_graph.specs.Package.{specs_in, import_specs}
 use Rattle.text_edits.specs.Applied.{applied}
 use Rattle.run_rules.specs.ImportRules.Removed.{goes}
 use Rattle.run_rules.specs.ImportRules.Settled.{settled}
-use Rattle.run_rules.specs.SpliceLaws.ImportSplices.SettledFile.{left_decls, with_settled}
-use Rattle.run_rules.proofs.SpliceLaws.ImportSplices.FormsToo.{form_settled_go}
-use Rattle.run_rules.specs.SpliceLaws.Swaps.{Swap, FileIn, in_decls}
-use Rattle.run_rules.specs.SpliceLaws.Fits.{swap_mark}
-use Rattle.run_rules.specs.SpliceLaws.Forms.{new_layout}
-use Rattle.run_rules.specs.SpliceLaws.Splice.{splice, ReadsAs}
+use Rattle.splice_laws.specs.ImportSplices.SettledFile.{left_decls, with_settled}
+use Rattle.splice_laws.proofs.ImportSplices.FormsToo.{form_settled_go}
+use Rattle.splice_laws.specs.Swaps.{Swap, FileIn, in_decls}
+use Rattle.splice_laws.specs.Fits.{swap_mark}
+use Rattle.splice_laws.specs.Forms.{new_layout}
+use Rattle.splice_laws.specs.Splice.{splice, ReadsAs}
 use Rattle.run_rules.specs.Sites.{MarkRef}
 use Rattle.run_rules.specs.Naming.{imports_added}
 use Rattle.run_rules.specs.Respanned.{file_with}

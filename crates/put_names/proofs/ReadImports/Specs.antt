@@ -10,7 +10,7 @@ use Rattle.go_tree.specs.File.{ImportSpec, ImportDecl}
 use Rattle.go_tree.specs.FileBare.{bare_import_spec, bare_import_decl}
 use Rattle.pkg_graph.specs.Package.{specs_in}
 use Rattle.run_rules.specs.ImportRules.Removed.{goes, goes_whole, has_specs, holds_comment}
-use Rattle.run_rules.specs.SpliceLaws.ImportSplices.SettledFile.{left_specs, left_single, left_decl, left_decls}
+use Rattle.splice_laws.specs.ImportSplices.SettledFile.{left_specs, left_single, left_decl, left_decls}
 use Rattle.run_rules.specs.Respanned.{import_spec_with, import_decl_with}
 use Rattle.order_runs.specs.CycleRuns.StepCycles.PackagesAlike.{import_key}
 

@@ -11,8 +11,8 @@ use Rattle.go_read.specs.SpellsFiles.{SpellsImportSpec, SpellsImportSpecs, Spell
 use Rattle.go_layout.specs.LayoutLaws.Formed.{FormedName}
 use Rattle.go_layout.specs.LayoutLaws.Real.{AreReal}
 use Rattle.go_layout.proofs.LayoutLaws.RealTokens.{tokens_real}
-use Rattle.run_rules.proofs.SpliceLaws.Grafts.{Within, here, later, drop}
-use Rattle.run_rules.proofs.SpliceLaws.Pasts.{import_past}
+use Rattle.splice_laws.proofs.Grafts.{Within, here, later, drop}
+use Rattle.splice_laws.proofs.Pasts.{import_past}
 use Rattle.pkg_graph.specs.Package.{specs_in, import_specs}
 use Rattle.run_rules.specs.Inlining.{ReadsAs}
 use Rattle.run_rules.specs.Respanned.{name_with, import_spec_with, import_decl_with, file_with}

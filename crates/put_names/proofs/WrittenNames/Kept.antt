@@ -3,7 +3,7 @@ use Rattle.std.proofs.Common.{◌≡◌, ℕ, zero, suc, true, List, [], ◌∷�
 use Rattle.std.specs.Prelude.{slice_get}
 use Rattle.std.proofs.lemmas.Option.{same_Some}
 use Rattle.go_tree.specs.GoWords.Tokens.Characters.{each}
-use Rattle.run_rules.specs.SpliceLaws.ImportSplices.AddedFile.{is_byte}
+use Rattle.splice_laws.specs.ImportSplices.AddedFile.{is_byte}
 use Rattle.go_layout.specs.LayoutLaws.Formed.{IsName}
 use Rattle.pkg_graph.specs.Package.{Package}
 use Rattle.run_rules.specs.Run.{Standing, Logged, Next}

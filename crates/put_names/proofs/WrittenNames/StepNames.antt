@@ -21,8 +21,8 @@ use Rattle.pkg_graph.specs.Package.{Package, import_specs}
 use Rattle.pkg_graph.specs.Members.{package_name, name_or, import_name}
 use Rattle.run_rules.specs.declared.import_rules.new_import.NewImport.{NewImport}
 use Rattle.run_rules.specs.ImportRules.Needs.{serves, serving_from, serving, avoided}
-use Rattle.run_rules.specs.SpliceLaws.ImportSplices.AddedFile as added
-use Rattle.run_rules.specs.SpliceLaws.ImportSplices.AddedFile.{is_byte, AreWritable}
+use Rattle.splice_laws.specs.ImportSplices.AddedFile as added
+use Rattle.splice_laws.specs.ImportSplices.AddedFile.{is_byte, AreWritable}
 use Rattle.constant_steps.specs.FormImports.ImportLaws.Steps.{binders_of}
 use Rattle.constant_steps.proofs.FormImports.ImportLaws.StepNames.{FoundWell, found_well}
 use Rattle.order_runs.specs.CycleRuns.OrderCycles.NewNames.{NamesByPath, FewNames}
@@ -36,8 +36,8 @@ use Rattle.run_rules.specs.Inlining.{ReadsAs}
 use Rattle.run_rules.specs.Laws.{file_found}
 use Rattle.run_rules.specs.Texts.{FileText}
 use Rattle.run_rules.proofs.NamesFound.{found_is_fresh}
-use Rattle.run_rules.specs.SpliceLaws.RunLaws.Reading.{FileReads, FileAt, ProgramReads}
-use Rattle.run_rules.proofs.SpliceLaws.RunLaws.FoundSpans.{Placed, FoundIn, found_in}
+use Rattle.splice_laws.specs.RunLaws.Reading.{FileReads, FileAt, ProgramReads}
+use Rattle.splice_laws.proofs.RunLaws.FoundSpans.{Placed, FoundIn, found_in}
 use Rattle.put_nodes.specs.SpelledNames.{AreNames}
 use Rattle.put_names.specs.WrittenNames.NamedPackages.{PackagesAreNamed, PathsAreOctets, AreOfPackages}
 use Rattle.put_names.proofs.WrittenNames.Candidates.{candidate_is_name}

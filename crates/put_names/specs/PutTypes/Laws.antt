@@ -3,17 +3,17 @@
 use Rattle.std.specs.Prelude.{List}
 use Rattle.go_tree.specs.FileBare.{bare_file}
 use Rattle.order_runs.specs.CycleRuns.Linked.{SettlesFile}
-use Rattle.run_rules.specs.SpliceLaws.ImportSplices.AddedFile.{AreWritable}
+use Rattle.splice_laws.specs.ImportSplices.AddedFile.{AreWritable}
 use Rattle.order_runs.specs.CycleRuns.KeptImports.Files.{PutsNode, RemovesNoNames}
 use Rattle.order_runs.specs.CycleRuns.OrderCycles.NewNames.{FewNames}
 use Rattle.order_runs.specs.CycleRuns.OrderedSteps.Ranks.{AddsLedTo}
-use Rattle.run_rules.specs.SpliceLaws.RunLaws.Reading.{ProgramReads}
+use Rattle.splice_laws.specs.RunLaws.Reading.{ProgramReads}
 use Rattle.run_rules.specs.Laws.{file_found}
 use Rattle.run_rules.specs.Naming.{imports_added}
 use Rattle.run_rules.specs.Run.{Standing, Logged, Next}
 use Rattle.run_rules.specs.Sites.{MarkRef}
 use Rattle.put_names.specs.ReadImports.PutInText.{PutInText}
-use Rattle.run_rules.specs.SpliceLaws.Dots.{UndottedFile}
+use Rattle.splice_laws.specs.Dots.{UndottedFile}
 use Rattle.put_names.specs.Uses.{UsesAlias}
 use Rattle.put_nodes.specs.SpelledNames.{AreNames}
 use Rattle.put_names.specs.PutTypes.Uses.{UsesTypeName, BecomesTypeName}

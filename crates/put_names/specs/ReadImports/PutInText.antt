@@ -7,10 +7,10 @@ use Rattle.run_rules.specs.Texts.{form_edit}
 use Rattle.run_rules.specs.Respanned.{file_with}
 use Rattle.run_rules.specs.Steps.{same_here, unused_specs}
 use Rattle.run_rules.specs.Run.{Standing, Logged, Next, here_of, is_commented}
-use Rattle.run_rules.specs.SpliceLaws.Swaps.{Swap}
-use Rattle.run_rules.specs.SpliceLaws.Fits.{swap_mark}
-use Rattle.run_rules.specs.SpliceLaws.Forms.{new_layout}
-use Rattle.run_rules.specs.SpliceLaws.Splice.{splice, IsPut}
+use Rattle.splice_laws.specs.Swaps.{Swap}
+use Rattle.splice_laws.specs.Fits.{swap_mark}
+use Rattle.splice_laws.specs.Forms.{new_layout}
+use Rattle.splice_laws.specs.Splice.{splice, IsPut}
 
 module _ {marks : List MarkRef} {st : Standing} {l : Logged} {after : Standing} (n : Next marks st l after) where
   -- the file of the use as it stands in its text

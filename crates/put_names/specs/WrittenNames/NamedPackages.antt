@@ -1,7 +1,7 @@
 -- Packages whose names are identifiers (Go specification, Package clause; Identifiers; Import declarations).
 use Rattle.std.specs.Prelude.{◌≡◌, ℕ, true, List, [], ◌∷◌, Some, slice_get}
 use Rattle.go_tree.specs.GoWords.Tokens.Characters.{each}
-use Rattle.run_rules.specs.SpliceLaws.ImportSplices.AddedFile.{is_byte}
+use Rattle.splice_laws.specs.ImportSplices.AddedFile.{is_byte}
 use Rattle.go_layout.specs.LayoutLaws.Formed.{IsName}
 use Rattle.pkg_graph.specs.Package.{Package}
 use Rattle.run_rules.specs.Naming.{Named}

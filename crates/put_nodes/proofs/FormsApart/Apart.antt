@@ -18,10 +18,10 @@ use Rattle.go_scan.proofs.Derivatives.{and_true}
 use Rattle.go_scan.proofs.PieceKinds.{never_empty}
 use Rattle.go_layout.specs.LayoutLaws.Formed.{IsName}
 use Rattle.run_rules.specs.Texts.{run_together, needs_blank, spelling_before}
-use Rattle.run_rules.specs.SpliceLaws.Joints.{is_open}
-use Rattle.run_rules.specs.SpliceLaws.Splice.{are_two, is_inserted, stays_apart, are_apart}
-use Rattle.run_rules.proofs.SpliceLaws.Ends.{or_cases}
-use Rattle.run_rules.proofs.SpliceLaws.ImportSplices.SupportedWords.Words.{words_supported}
+use Rattle.splice_laws.specs.Joints.{is_open}
+use Rattle.splice_laws.specs.Splice.{are_two, is_inserted, stays_apart, are_apart}
+use Rattle.splice_laws.proofs.Ends.{or_cases}
+use Rattle.splice_laws.proofs.ImportSplices.SupportedWords.Words.{words_supported}
 use Rattle.put_nodes.proofs.NamesApart.NamesApart.{first_letter, scalars_parts, next_two, dot_letter, no_letter, token_elsewhere, here_apart, with_line, at_the_end, behind, has_bytes, unmarked_scalars}
 use Rattle.put_nodes.specs.FormsApart.Begins.{first_signs, may_begin}
 use Rattle.put_nodes.proofs.FormsApart.Beginnings.{sign_no_dot}

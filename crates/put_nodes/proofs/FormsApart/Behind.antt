@@ -18,8 +18,8 @@ use Rattle.go_scan.proofs.LexemeLemmas.{form_runs}
 use Rattle.go_scan.proofs.PieceKinds.{Sort, a_blank, a_letter, a_lexeme, sort_of}
 use Rattle.go_layout.proofs.LayoutLaws.NextTokens.{START, DEAD, next_lexeme, next_name, next_keyword, lexeme_first}
 use Rattle.run_rules.specs.Texts.{begins_word, is_longer_front, long_operators, run_together}
-use Rattle.run_rules.proofs.SpliceLaws.Ends.{or_cases, each_word, operator_passes}
-use Rattle.run_rules.proofs.SpliceLaws.Joins.{is_remark_kind, whole_state}
+use Rattle.splice_laws.proofs.Ends.{or_cases, each_word, operator_passes}
+use Rattle.splice_laws.proofs.Joins.{is_remark_kind, whole_state}
 use Rattle.put_nodes.proofs.NamesApart.NamesApart.{is_number, letter_stops, letters_dead, letters_checked, dead_letter, letter_follows}
 use Rattle.put_nodes.specs.FormsApart.Begins.{first_signs}
 use Rattle.put_nodes.proofs.FormsApart.Beginnings.{letter_first, number_first, listed_passes, sign_no_word, sign_small}

@@ -7,7 +7,7 @@ use Rattle.go_tree.specs.GoWords.Tokens.Characters.{is_letter, is_digit}
 use Rattle.go_scan.specs.Automaton.{next_of, longest_from}
 use Rattle.go_scan.specs.Pieces.{piece_of, lexeme_of}
 use Rattle.run_rules.specs.Texts.{needs_blank}
-use Rattle.run_rules.specs.SpliceLaws.Splice.{are_two}
+use Rattle.splice_laws.specs.Splice.{are_two}
 
 -- `return(p).N`, where `B` is written for the member of p
 return_name : needs_blank (Some (codes "return")) (Some (codes "B")) ≡ true

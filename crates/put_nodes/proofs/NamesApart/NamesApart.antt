@@ -22,10 +22,10 @@ use Rattle.go_scan.proofs.LetterLemmas.{letter_ascii}
 use Rattle.go_scan.proofs.PieceKinds.{never_empty}
 use Rattle.go_scan.proofs.PieceLemmas.{piece_exact}
 use Rattle.go_layout.proofs.LayoutLaws.NextTokens.{DEAD}
-use Rattle.run_rules.specs.SpliceLaws.Joints.{begins_with_dot, is_open}
-use Rattle.run_rules.specs.SpliceLaws.Splice.{has_length, are_two, is_inserted, stays_apart, are_apart}
-use Rattle.run_rules.proofs.SpliceLaws.Ends.{or_cases}
-use Rattle.run_rules.proofs.SpliceLaws.Joins.{is_remark_kind}
+use Rattle.splice_laws.specs.Joints.{begins_with_dot, is_open}
+use Rattle.splice_laws.specs.Splice.{has_length, are_two, is_inserted, stays_apart, are_apart}
+use Rattle.splice_laws.proofs.Ends.{or_cases}
+use Rattle.splice_laws.proofs.Joins.{is_remark_kind}
 
 -- ---- small things
 

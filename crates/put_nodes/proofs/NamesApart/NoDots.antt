@@ -23,17 +23,17 @@ use Rattle.go_read.specs.SpellsFiles.{SpellsFile}
 use Rattle.go_read.specs.SpellsTypes.{Lexemes}
 use Rattle.go_scan.proofs.Derivatives.{and_parts}
 use Rattle.go_scan.proofs.PieceKinds.{never_empty}
-use Rattle.run_rules.specs.SpliceLaws.Dots.{UndottedFile}
-use Rattle.run_rules.specs.SpliceLaws.Fits.{expr_mark}
-use Rattle.run_rules.specs.SpliceLaws.Joints.{begin_of, begins_with_dot, PartsTo}
-use Rattle.run_rules.specs.SpliceLaws.Swaps.{a_callee, FileIn}
-use Rattle.run_rules.proofs.SpliceLaws.Ends.{View, view, first_is, each_word, operator_passes, or_cases, clash}
-use Rattle.run_rules.proofs.SpliceLaws.Files.{replaced}
-use Rattle.run_rules.proofs.SpliceLaws.Over.{is_piece}
-use Rattle.run_rules.proofs.SpliceLaws.Rises.{tokens_rise}
-use Rattle.run_rules.proofs.SpliceLaws.Splices.{tail_bytes}
-use Rattle.run_rules.proofs.SpliceLaws.TokenDots.{tokens_apart}
-use Rattle.run_rules.proofs.SpliceLaws.Wholes.{Where, stands_where}
+use Rattle.splice_laws.specs.Dots.{UndottedFile}
+use Rattle.splice_laws.specs.Fits.{expr_mark}
+use Rattle.splice_laws.specs.Joints.{begin_of, begins_with_dot, PartsTo}
+use Rattle.splice_laws.specs.Swaps.{a_callee, FileIn}
+use Rattle.splice_laws.proofs.Ends.{View, view, first_is, each_word, operator_passes, or_cases, clash}
+use Rattle.splice_laws.proofs.Files.{replaced}
+use Rattle.splice_laws.proofs.Over.{is_piece}
+use Rattle.splice_laws.proofs.Rises.{tokens_rise}
+use Rattle.splice_laws.proofs.Splices.{tail_bytes}
+use Rattle.splice_laws.proofs.TokenDots.{tokens_apart}
+use Rattle.splice_laws.proofs.Wholes.{Where, stands_where}
 
 nope : (b : Bool) → not b ≡ true → b ≡ true → ⊥
 nope true p q = cc

@@ -4,10 +4,10 @@ use Rattle.go_tree.specs.Tree.{NameAt, TypeExpr, Expr, Exprs, ExprOption, Elems,
 use Rattle.go_tree.specs.declared.exprs.Rest.{Rest}
 use Rattle.go_read.specs.SpellsTypes.{Lexemes}
 use Rattle.go_read.specs.Spells.{SpellsLiteralType, SpellsBare, SpellsExpr, SpellsOperand, SpellsOption, SpellsExprs, SpellsArgs, SpellsElems, SpellsElem, SpellsValue, SpellsSimple, SpellsPart, SpellsFirst, SpellsStmt, SpellsBlock, SpellsStmts, SpellsIf, SpellsArm, SpellsLeft, SpellsCases, SpellsDecl, SpellsSpecs, SpellsSpec, named_literal_rule, qualified_literal_rule, type_literal_rule, ident_rule, int_rule, rune_rule, text_rule, composite_rule, func_rule, type_rule, selector_rule, index_rule, slice_rule, call_rule, unary_rule, star_rule, binary_rule, bare_rule, parens_rule, operand_rule, no_expr_rule, some_expr_rule, last_expr_rule, more_exprs_rule, no_args_rule, args_rule, comma_args_rule, rest_args_rule, comma_rest_args_rule, no_elems_rule, last_elem_rule, more_elems_rule, value_rule, keyed_rule, plain_rule, braced_rule, eval_rule, increment_rule, decrement_rule, assign_rule, define_rule, no_part_rule, part_rule, no_first_rule, first_rule, empty_rule, simple_rule, const_rule, var_rule, return_rule, return_values_rule, break_rule, break_label_rule, continue_rule, continue_label_rule, block_rule, if_rule, while_rule, for_rule, range_rule, switch_rule, defer_rule, label_rule, braces_rule, no_stmts_rule, last_stmt_rule, more_stmts_rule, only_arm_rule, else_rule, else_if_rule, arm_rule, no_left_rule, assigns_rule, defines_rule, no_cases_rule, case_rule, default_rule, single_rule, group_rule, no_specs_rule, last_spec_rule, more_specs_rule, repeated_rule, typed_var_rule, values_rule, typed_values_rule}
-use Rattle.run_rules.specs.SpliceLaws.Swaps.{Swap, a_literal_type, LiteralTypeIn, this_literal_type, inside_operand, inside_callee, PartOfExpr, inside_literal_type, in_literal_type, in_elems, in_func_body, in_signature, in_type_operand, in_selected, in_indexed, in_index, in_sliced, in_low, in_high, in_called, in_args, in_unary, in_star, in_left, in_right, OptionIn, in_option, ExprsIn, in_first_expr, in_later_exprs, ElemsIn, in_key, in_value, in_later_elems, ValueIn, in_plain, in_braced, SimpleIn, in_eval, in_step, in_assigned, in_assign, in_define, PartIn, in_part, PartOfStmt, in_simple, in_const, in_var, in_return, in_block, in_arms, in_else, in_for_first, in_for_test, in_for_post, in_for_body, in_range_left, in_range, in_range_body, in_switch_first, in_tag, in_cases, in_deferred, in_deferred_args, in_label, StmtsIn, inside_stmt, in_later_stmts, ArmsIn, in_arm_first, in_arm_test, in_arm_body, in_later_arms, CasesIn, in_case, in_case_body, in_later_cases, SpecsIn, in_spec_type, in_spec_values, in_later_specs}
-use Rattle.run_rules.proofs.SpliceLaws.Apart.{Differ}
-use Rattle.run_rules.proofs.SpliceLaws.Grafts.{Within, drop}
-use Rattle.run_rules.proofs.SpliceLaws.Pasts.{names_past, sig_past, literal_past, expr_past, operand_past, option_past, exprs_past, elem_past, value_past, part_past, first_past, stmt_past, stmts_past, arm_past, left_past, spec_past, type_past}
+use Rattle.splice_laws.specs.Swaps.{Swap, a_literal_type, LiteralTypeIn, this_literal_type, inside_operand, inside_callee, PartOfExpr, inside_literal_type, in_literal_type, in_elems, in_func_body, in_signature, in_type_operand, in_selected, in_indexed, in_index, in_sliced, in_low, in_high, in_called, in_args, in_unary, in_star, in_left, in_right, OptionIn, in_option, ExprsIn, in_first_expr, in_later_exprs, ElemsIn, in_key, in_value, in_later_elems, ValueIn, in_plain, in_braced, SimpleIn, in_eval, in_step, in_assigned, in_assign, in_define, PartIn, in_part, PartOfStmt, in_simple, in_const, in_var, in_return, in_block, in_arms, in_else, in_for_first, in_for_test, in_for_post, in_for_body, in_range_left, in_range, in_range_body, in_switch_first, in_tag, in_cases, in_deferred, in_deferred_args, in_label, StmtsIn, inside_stmt, in_later_stmts, ArmsIn, in_arm_first, in_arm_test, in_arm_body, in_later_arms, CasesIn, in_case, in_case_body, in_later_cases, SpecsIn, in_spec_type, in_spec_values, in_later_specs}
+use Rattle.splice_laws.proofs.Apart.{Differ}
+use Rattle.splice_laws.proofs.Grafts.{Within, drop}
+use Rattle.splice_laws.proofs.Pasts.{names_past, sig_past, literal_past, expr_past, operand_past, option_past, exprs_past, elem_past, value_past, part_past, first_past, stmt_past, stmts_past, arm_past, left_past, spec_past, type_past}
 use Rattle.put_nodes.specs.TypeNodes.Names.{Written, as_types, names_of_sig, names_of_option, names_of_literal, names_of_expr, names_of_bound, names_of_exprs, names_of_elems, names_of_key, names_of_value, names_of_stmt, names_of_part, names_of_stmts, names_of_else, names_of_left, names_of_arms, names_of_cases, names_of_specs}
 use Rattle.run_rules.specs.Sites.{named_in}
 use Rattle.put_nodes.proofs.TypeNodes.TypeWalk.{type-nodes, part-nodes, sig-nodes, Good, both, type-good, sig-good, literal-good, name-good}

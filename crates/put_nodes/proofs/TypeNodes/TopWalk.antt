@@ -13,11 +13,11 @@ use Rattle.run_rules.specs.Inlining.{ReadsAs}
 use Rattle.run_rules.specs.Respanned.{type_with, decl_with, file_with}
 use Rattle.run_rules.specs.Sites.{named_in}
 use Rattle.run_rules.specs.Texts.{FileText}
-use Rattle.run_rules.specs.SpliceLaws.Swaps.{Swap, TypeSpecIn, in_type_spec, TypeSpecsIn, in_this_spec, in_further_specs, DeclIn, in_constants, in_variables, in_types, in_function, in_func_signature, DeclsIn, in_this_decl, in_later_decls, FileIn, in_decls}
-use Rattle.run_rules.proofs.SpliceLaws.Apart.{Differ}
-use Rattle.run_rules.proofs.SpliceLaws.Grafts.{Within, here, drop}
-use Rattle.run_rules.proofs.SpliceLaws.Pasts.{sig_past, type_spec_past, receiver_past, imports_past, top_past}
-use Rattle.run_rules.proofs.SpliceLaws.Rises.{spans_differ, tokens_rise}
+use Rattle.splice_laws.specs.Swaps.{Swap, TypeSpecIn, in_type_spec, TypeSpecsIn, in_this_spec, in_further_specs, DeclIn, in_constants, in_variables, in_types, in_function, in_func_signature, DeclsIn, in_this_decl, in_later_decls, FileIn, in_decls}
+use Rattle.splice_laws.proofs.Apart.{Differ}
+use Rattle.splice_laws.proofs.Grafts.{Within, here, drop}
+use Rattle.splice_laws.proofs.Pasts.{sig_past, type_spec_past, receiver_past, imports_past, top_past}
+use Rattle.splice_laws.proofs.Rises.{spans_differ, tokens_rise}
 use Rattle.put_nodes.specs.TypeNodes.Names.{Written, as_types, names_of_sig, names_of_stmts, names_of_types, type_names}
 use Rattle.put_nodes.specs.TypeNodes.Swapped.{TypeSwapped, AllTypesSwapped}
 use Rattle.put_nodes.proofs.TypeNodes.BodyWalk.{block-names, decl-names}

@@ -4,10 +4,10 @@ use Rattle.go_tree.specs.Tree.{NameAt, Param, Sig, TypeExpr, named, pointer, sli
 use Rattle.go_read.specs.Spells.{starts_type}
 use Rattle.go_read.specs.SpellsTypes.{Lexemes, fields_of, params_of, SpellsType, SpellsFields, SpellsEntries, SpellsRest, SpellsNamed, SpellsUnnamed, SpellsParams, SpellsResults, SpellsSig, named_rule, qualified_rule, pointer_rule, slice_type_rule, map_type_rule, struct_type_rule, type_parens_rule, no_fields_rule, last_field_rule, more_fields_rule, last_entry_rule, more_entries_rule, rest_rule, named_rest_rule, last_named_rule, comma_named_rule, more_named_rule, rest_named_rule, comma_rest_named_rule, last_unnamed_rule, comma_unnamed_rule, more_unnamed_rule, rest_unnamed_rule, comma_rest_unnamed_rule, no_params_rule, named_params_rule, unnamed_params_rule, no_results_rule, params_results_rule, type_result_rule, sig_rule}
 use Rattle.run_rules.specs.Sites.{named_in, named_in_fields}
-use Rattle.run_rules.specs.SpliceLaws.Swaps.{Swap, a_type, a_literal_type, OtherFirst, OtherField, OtherBefore, FieldsAlike, no_more_alike, one_more_alike, ParamsAlike, no_more_params, one_more_param, TypeIn, this_type, inside_type, PartOfType, in_pointer, in_slice_type, in_map_key, in_map_value, in_struct, FieldsIn, in_field, in_later_fields, ParamsIn, in_unnamed, in_later_params, NamedIn, in_named, in_named_rest, in_later_named, SigIn, in_named_params, in_named_results, in_params, in_results}
-use Rattle.run_rules.proofs.SpliceLaws.Apart.{Differ, fields_other, params_other}
-use Rattle.run_rules.proofs.SpliceLaws.Grafts.{Within, drop}
-use Rattle.run_rules.proofs.SpliceLaws.Pasts.{type_past, entries_past, params_past}
+use Rattle.splice_laws.specs.Swaps.{Swap, a_type, a_literal_type, OtherFirst, OtherField, OtherBefore, FieldsAlike, no_more_alike, one_more_alike, ParamsAlike, no_more_params, one_more_param, TypeIn, this_type, inside_type, PartOfType, in_pointer, in_slice_type, in_map_key, in_map_value, in_struct, FieldsIn, in_field, in_later_fields, ParamsIn, in_unnamed, in_later_params, NamedIn, in_named, in_named_rest, in_later_named, SigIn, in_named_params, in_named_results, in_params, in_results}
+use Rattle.splice_laws.proofs.Apart.{Differ, fields_other, params_other}
+use Rattle.splice_laws.proofs.Grafts.{Within, drop}
+use Rattle.splice_laws.proofs.Pasts.{type_past, entries_past, params_past}
 use Rattle.put_nodes.specs.TypeNodes.Names.{Written, as_types, names_of_params, names_of_sig, names_of_literal}
 
 -- ---- what is shown

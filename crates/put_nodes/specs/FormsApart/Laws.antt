@@ -12,7 +12,7 @@ use Rattle.std.specs.Str.{chars}
 use Rattle.go_layout.specs.TypeLayout.{type_layout}
 use Rattle.go_tree.specs.Tree.{TypeExpr}
 use Rattle.go_layout.specs.LayoutLaws.Formed.{FormedType, IsName}
-use Rattle.run_rules.specs.SpliceLaws.Splice.{are_apart, first_word}
+use Rattle.splice_laws.specs.Splice.{are_apart, first_word}
 use Rattle.put_nodes.specs.FormsApart.Begins.{may_begin}
 
 -- In a text that reads as a file, where a form would need no blank before it, the token that ends there, if one does,

@@ -9,10 +9,10 @@ use Rattle.go_tree.specs.File.{File}
 use Rattle.go_tree.specs.FileBare.{bare_file}
 use Rattle.go_tree.specs.GoWords.Tokens.{TokensOf}
 use Rattle.go_read.specs.SpellsFiles.{SpellsFile}
-use Rattle.run_rules.specs.SpliceLaws.Dots.{UndottedFile}
-use Rattle.run_rules.specs.SpliceLaws.Fits.{expr_mark}
-use Rattle.run_rules.specs.SpliceLaws.Joints.{begins_with_dot}
-use Rattle.run_rules.specs.SpliceLaws.Swaps.{a_callee, FileIn}
+use Rattle.splice_laws.specs.Dots.{UndottedFile}
+use Rattle.splice_laws.specs.Fits.{expr_mark}
+use Rattle.splice_laws.specs.Joints.{begins_with_dot}
+use Rattle.splice_laws.specs.Swaps.{a_callee, FileIn}
 
 -- In a text of a file in which no selector stands on an integer literal, no dot stands directly behind what is called.
 abbrev pub CallsStandBeforeNoDot : Type 0

@@ -11,8 +11,8 @@ use Rattle.run_rules.specs.Respanned.{file_with}
 use Rattle.run_rules.specs.Steps.{At}
 use Rattle.run_rules.specs.Surroundings.{Slot}
 use Rattle.run_rules.specs.Texts.{FileText}
-use Rattle.run_rules.specs.SpliceLaws.Dots.{UndottedFile}
-use Rattle.run_rules.specs.SpliceLaws.Swaps.{FileIn}
+use Rattle.splice_laws.specs.Dots.{UndottedFile}
+use Rattle.splice_laws.specs.Swaps.{FileIn}
 use Rattle.put_nodes.specs.Put.{FormIsPut}
 use Rattle.put_nodes.specs.TypeNodes.Names.{type_names, IsTypeName}
 use Rattle.put_nodes.specs.TypeNodes.Swapped.{TypeSwapped, AllTypesSwapped}

@@ -3,7 +3,7 @@
 use Rattle.std.specs.Prelude.{Bool, true, false, [], ◌∷◌}
 use Rattle.go_tree.specs.Tree.{TypeExpr}
 use Rattle.run_rules.specs.Respanned.{type_with}
-use Rattle.run_rules.specs.SpliceLaws.Swaps.{Swap, a_type, a_literal_type}
+use Rattle.splice_laws.specs.Swaps.{Swap, a_type, a_literal_type}
 use Rattle.put_nodes.specs.TypeNodes.Names.{Written}
 
 -- `to` gives a node its span, and `Whole` says what it is that a swap is made in.

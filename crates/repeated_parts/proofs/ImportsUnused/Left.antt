@@ -9,7 +9,7 @@ use Rattle.go_tree.specs.declared.scope_names.names.ImportName.{ImportName}
 use Rattle.scope_tables.specs.Table.{Table}
 use Rattle.run_rules.specs.ImportRules.Unused as rules
 use Rattle.run_rules.specs.ImportRules.Unused.{unused_from}
-use Rattle.constant_steps.specs.FormImports.ImportLaws.Steps.{used_before, used_after, removed_specs, RemovedAreUnused}
+use Rattle.member_uses.specs.Steps.{used_before, used_after, removed_specs, RemovedAreUnused}
 use Rattle.go_tree.specs.GoTypes.Answers.{given}
 use Rattle.run_rules.specs.Sites.{MarkRef, an_expr}
 use Rattle.run_rules.specs.Steps.{At, Found}

@@ -17,9 +17,9 @@ use Rattle.member_uses.specs.PossibleUses.Candidates.{Candidate, plain_part, key
 use Rattle.member_uses.specs.PossibleUses.Parts.{put}
 use Rattle.member_uses.specs.PossibleUses.Parts.{parts_of}
 use Rattle.member_uses.specs.PossibleUses.Among.{may_be_use}
-use Rattle.constant_steps.specs.PlaceMeanings.Agreement.{BlockIsLocal, AgreesAt}
-use Rattle.constant_steps.specs.PlaceMeanings.Parts.{AtTypes, AtParts}
-use Rattle.constant_steps.specs.PlaceMeanings.Laws.{PlacesMeanAsTablesSay, BlocksAreLocal}
+use Rattle.member_uses.specs.Agreement.{BlockIsLocal, AgreesAt}
+use Rattle.member_uses.specs.Parts.{AtTypes, AtParts}
+use Rattle.member_uses.specs.PlaceMeaningsLaws.{PlacesMeanAsTablesSay, BlocksAreLocal}
 use Rattle.member_uses.specs.Uses.{Used, Names, used, package_at, import_at, part_uses, member_uses}
 use Rattle.member_uses.specs.Laws.{AllConstants, mark_used, LeavesFieldsOut, unmarked, with_mark, a_field, NoKeyIsMarked, site_marks}
 use Rattle.member_uses.specs.Laws as left

@@ -8,7 +8,7 @@ use Rattle.scope_tables.specs.Table.{Table}
 use Rattle.run_rules.specs.Sites.{MarkRef, an_expr}
 use Rattle.run_rules.specs.Steps.{At, Found}
 use Rattle.run_rules.specs.Run.{Standing}
-use Rattle.constant_steps.specs.FormImports.ImportLaws.Steps.{names_standing, used_before, used_after}
+use Rattle.member_uses.specs.Steps.{names_standing, used_before, used_after}
 use Rattle.member_uses.specs.PossibleUses.Candidates.{Candidate}
 use Rattle.constant_forms.specs.declared.reduced.ConstantForm.{ConstantForm}
 use Rattle.repeated_parts.specs.ImportsUnused.Uses.{one_if, is_import, form_import, uses_among, named_import}

@@ -8,7 +8,7 @@ use Rattle.run_rules.specs.Programs.{decl_seen}
 use Rattle.run_rules.specs.Sites.{MarkRef, Where, Site, part_span, sites_among}
 use Rattle.member_uses.specs.PossibleUses.Among.{Keyed}
 use Rattle.member_uses.specs.PossibleUses.Parts.{parts_of}
-use Rattle.constant_steps.specs.PlaceMeanings.Parts.{AllScoped}
+use Rattle.member_uses.specs.Parts.{AllScoped}
 use Rattle.member_uses.specs.Uses.{Used, Names, member_uses}
 use Rattle.member_uses.specs.Laws.{AllConstants, mark_used, NoKeyIsMarked, Knows}
 use Rattle.repeated_parts.specs.Flags.{flags_of}

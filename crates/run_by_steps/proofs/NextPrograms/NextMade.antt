@@ -10,7 +10,7 @@ use Rattle.go_tree.specs.GoWords.Tokens.{TokensOf}
 use Rattle.go_scan.proofs.Cuts.{tokens_once}
 use Rattle.go_read.specs.SpellsFiles.{SpellsFile}
 use Rattle.go_read.proofs.Whole.{file_one}
-use Rattle.run_rules.specs.SpliceLaws.ImportSplices.AddedFile.{AreWritable}
+use Rattle.splice_laws.specs.ImportSplices.AddedFile.{AreWritable}
 use Rattle.run_rules.specs.Sites.{MarkRef}
 use Rattle.run_rules.specs.Naming.{imports_added}
 use Rattle.run_rules.specs.Marks.{text_at}
@@ -18,7 +18,7 @@ use Rattle.run_rules.specs.Texts.{FileText}
 use Rattle.run_rules.specs.Respanned.{name_with, import_spec_with, import_decl_with, decl_with, decls_with, file_with}
 use Rattle.run_rules.specs.Steps.{At, same_here, Found, new_decls, with_file}
 use Rattle.run_rules.specs.Run.{Standing, here_of, origin_of, as_read, step_in, edits_in, logged, with_text, Next}
-use Rattle.run_rules.proofs.SpliceLaws.RunLaws.Reread.{file-reread}
+use Rattle.splice_laws.proofs.RunLaws.Reread.{file-reread}
 use Rattle.run_by_steps.specs.NextPrograms.Made.{PutsForm, MakesFile, NextWith}
 use Rattle.run_by_steps.specs.NextPrograms.Laws.{MadeFilesAreNext, OneFileIsMade}
 use Rattle.run_by_steps.proofs.NextPrograms.Zips.{zipped}

@@ -11,8 +11,8 @@ use Rattle.text_edits.specs.Applied.{Ascend, applied, replaced_from}
 use Rattle.text_edits.proofs.Turns.{replaced_later}
 use Rattle.run_rules.specs.ImportRules.Settled.{settled}
 use Rattle.run_rules.proofs.ImportRules.SettledOrder.{settled_ascend}
-use Rattle.run_rules.proofs.SpliceLaws.ImportSplices.SupportedWords.Words.{texts_supported}
-use Rattle.run_rules.proofs.SpliceLaws.ImportSplices.SupportedWords.Constraints.{constraints_stay}
+use Rattle.splice_laws.proofs.ImportSplices.SupportedWords.Words.{texts_supported}
+use Rattle.splice_laws.proofs.ImportSplices.SupportedWords.Constraints.{constraints_stay}
 use Rattle.run_rules.specs.Sites.{MarkRef}
 use Rattle.run_rules.specs.Texts.{form_edit}
 use Rattle.run_rules.specs.Respanned.{decl_with, file_with}
@@ -21,10 +21,10 @@ use Rattle.run_rules.specs.Run.{Standing, Logged, here_of, is_commented, edits_i
 use Rattle.run_rules.specs.Laws.{LiesBehindImports, file_found}
 use Rattle.run_rules.specs.Inlining.{ReadsAs}
 use Rattle.run_rules.proofs.EditsApart.{settled_then_one}
-use Rattle.run_rules.proofs.SpliceLaws.RunLaws.NodeSpans.{AllDecl}
-use Rattle.run_rules.proofs.SpliceLaws.RunLaws.SeenSpans.{decl_in}
-use Rattle.run_rules.proofs.SpliceLaws.RunLaws.FilesStand.{AllDecls, file_laid, decls_behind}
-use Rattle.run_rules.proofs.SpliceLaws.RunLaws.FoundSpans.{Placed, FoundIn, found_in}
+use Rattle.splice_laws.proofs.RunLaws.NodeSpans.{AllDecl}
+use Rattle.splice_laws.proofs.RunLaws.SeenSpans.{decl_in}
+use Rattle.splice_laws.proofs.RunLaws.FilesStand.{AllDecls, file_laid, decls_behind}
+use Rattle.splice_laws.proofs.RunLaws.FoundSpans.{Placed, FoundIn, found_in}
 use Rattle.run_by_steps.specs.NextPrograms.Laws.{StepsKeepWords}
 
 -- ---- texts that are edited behind an offset

@@ -5,12 +5,12 @@ use Rattle.go_tree.specs.File.{File}
 use Rattle.go_tree.specs.FileBare.{bare_decl}
 use Rattle.text_edits.specs.Applied.{applied}
 use Rattle.run_rules.specs.ImportRules.Settled.{settled}
-use Rattle.run_rules.specs.SpliceLaws.ImportSplices.AddedFile.{AreWritable}
-use Rattle.run_rules.specs.SpliceLaws.ImportSplices.SettledFile.{with_settled}
-use Rattle.run_rules.proofs.SpliceLaws.ImportSplices.FormsToo.{form_settled_go}
-use Rattle.run_rules.specs.SpliceLaws.Fits.{swap_mark}
-use Rattle.run_rules.specs.SpliceLaws.Forms.{new_layout}
-use Rattle.run_rules.specs.SpliceLaws.Splice.{splice, ReadsAs}
+use Rattle.splice_laws.specs.ImportSplices.AddedFile.{AreWritable}
+use Rattle.splice_laws.specs.ImportSplices.SettledFile.{with_settled}
+use Rattle.splice_laws.proofs.ImportSplices.FormsToo.{form_settled_go}
+use Rattle.splice_laws.specs.Fits.{swap_mark}
+use Rattle.splice_laws.specs.Forms.{new_layout}
+use Rattle.splice_laws.specs.Splice.{splice, ReadsAs}
 use Rattle.run_rules.specs.Sites.{MarkRef}
 use Rattle.run_rules.specs.Naming.{imports_added}
 use Rattle.run_rules.specs.Texts.{FileText}

@@ -11,9 +11,9 @@ use Rattle.go_tree.specs.GoWords.Tokens.Pieces.{is_identifier}
 use Rattle.go_scan.proofs.LetterLemmas.{letter_ascii}
 use Rattle.go_read.specs.SpellsTypes.{Lexemes}
 use Rattle.go_read.specs.SpellsSpans.{span_to}
-use Rattle.run_rules.specs.SpliceLaws.ImportSplices.AddedFile.{IsName}
+use Rattle.splice_laws.specs.ImportSplices.AddedFile.{IsName}
 use Rattle.run_rules.specs.Naming.{unnamed_package}
-use Rattle.run_rules.proofs.SpliceLaws.ImportSplices.SupportedWords.Spelled.{Passed, here, later}
+use Rattle.splice_laws.proofs.ImportSplices.SupportedWords.Spelled.{Passed, here, later}
 use Rattle.run_by_steps.proofs.WrittenImports.ReadNames.{AllNameWell, text_names}
 use Rattle.run_by_steps.specs.SpelledNames.Laws.{AreIdentifiers, ReadNamesAreIdentifiers, IdentifiersAreNamed}
 use Rattle.run_by_steps.proofs.SpelledNames.Names.{Each, nil, cons, front_names}

@@ -8,8 +8,8 @@ use Rattle.go_tree.specs.declared.spans.Span.{Span}
 use Rattle.go_tree.specs.File.{File}
 use Rattle.pkg_graph.specs.Package.{SourceTree, Package}
 use Rattle.go_tree.specs.GoTypes.Answers.{given}
-use Rattle.run_rules.specs.SpliceLaws.RunLaws.Reading.{FileAt, OnePathEach}
-use Rattle.run_rules.proofs.SpliceLaws.RunLaws.FoundSpans.{Placed, FoundIn, found_in}
+use Rattle.splice_laws.specs.RunLaws.Reading.{FileAt, OnePathEach}
+use Rattle.splice_laws.proofs.RunLaws.FoundSpans.{Placed, FoundIn, found_in}
 use Rattle.run_rules.specs.Run.{Standing, Logged, Next, here_of, is_commented, path_of_file}
 use Rattle.run_rules.specs.Sites.{MarkRef, Where}
 use Rattle.run_rules.specs.Steps.{At, same_here, change_nth, with_file}

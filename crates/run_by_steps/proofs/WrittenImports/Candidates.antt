@@ -13,9 +13,9 @@ use Rattle.go_tree.specs.GoWords.Tokens.Characters.{is_letter, is_digit, is_word
 use Rattle.go_tree.specs.GoWords.Tokens.Pieces.{keyword_spellings, is_among, is_identifier}
 use Rattle.go_scan.proofs.LetterLemmas.{digit_ascii}
 use Rattle.go_tree.specs.ScopeNames.Fresh.{candidate}
-use Rattle.run_rules.proofs.SpliceLaws.Splices.{scalars_on}
-use Rattle.run_rules.specs.SpliceLaws.ImportSplices.AddedFile.{IsName}
-use Rattle.run_rules.proofs.SpliceLaws.ImportSplices.Quotes.{low_all}
+use Rattle.splice_laws.proofs.Splices.{scalars_on}
+use Rattle.splice_laws.specs.ImportSplices.AddedFile.{IsName}
+use Rattle.splice_laws.proofs.ImportSplices.Quotes.{low_all}
 use Rattle.run_rules.specs.Naming.{first_new}
 
 -- ---- digits

@@ -6,7 +6,7 @@ use Rattle.std.proofs.lemmas.Bool.{and_parts, and_from}
 use Rattle.std.proofs.lemmas.Bool.Decides.{nat_tests}
 use Rattle.go_tree.specs.declared.spans.Span.{Span}
 use Rattle.go_tree.specs.GoWords.Tokens.Characters.{each}
-use Rattle.run_rules.specs.SpliceLaws.ImportSplices.AddedFile.{is_byte}
+use Rattle.splice_laws.specs.ImportSplices.AddedFile.{is_byte}
 use Rattle.pkg_graph.specs.ModuleFiles.Pieces.{push_front, split_by, elements, all_but_last, folders, folder_of, has_bytes}
 use Rattle.pkg_graph.specs.ModuleFiles.ModuleFile.{argument_of, is_quote, is_path_byte, is_module_path, unquoted, path_in, module_path, is_version, ModuleAnswer, is_module, no_module_line, old_go, version_answer, path_answer, module_of}
 use Rattle.pkg_graph.specs.Package.{SourceTree, home_of, first_seen}

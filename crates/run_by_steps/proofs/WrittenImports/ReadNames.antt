@@ -17,8 +17,8 @@ use Rattle.go_tree.specs.GoWords.Tokens.Characters.{byte_order_mark, is_listed, 
 use Rattle.go_tree.specs.GoWords.Tokens.Pieces.{PieceKind, blanks, remark, token, Piece, IsPiece, CutsTo}
 use Rattle.go_read.specs.SpellsSpans.{span_to}
 use Rattle.go_read.specs.SpellsFiles.{SpellsFront, front_rule}
-use Rattle.run_rules.specs.SpliceLaws.ImportSplices.AddedFile.{is_byte, IsName}
-use Rattle.run_rules.proofs.SpliceLaws.Splices.{scalars_parts}
+use Rattle.splice_laws.specs.ImportSplices.AddedFile.{is_byte, IsName}
+use Rattle.splice_laws.proofs.Splices.{scalars_parts}
 use Rattle.pkg_graph.specs.Package.{SourceTree, Package, first_seen, home_of, first_name, package_of, packages_of}
 use Rattle.pkg_graph.specs.Reads.{Source, AreTrees, none, file, go_files, selected_files, is_at}
 use Rattle.pkg_graph.specs.ModuleFiles.Selected.{is_selected, module_file}

@@ -3,7 +3,7 @@ use Rattle.std.proofs.Common.{◌≡◌, sym, subst, ℕ, zero, suc, true, List,
 use Rattle.go_tree.specs.GoWords.Tokens.Characters.{each}
 use Rattle.go_tree.specs.ScopeNames.Fresh.{is_new}
 use Rattle.run_rules.specs.ImportRules.Needs.{serving, avoided}
-use Rattle.run_rules.specs.SpliceLaws.ImportSplices.AddedFile.{is_byte, IsName, AreWritable}
+use Rattle.splice_laws.specs.ImportSplices.AddedFile.{is_byte, IsName, AreWritable}
 use Rattle.pkg_graph.specs.Package.{Package}
 use Rattle.run_rules.specs.Surroundings.{Place}
 use Rattle.run_rules.specs.Sites.{Where}

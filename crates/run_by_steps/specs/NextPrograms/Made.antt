@@ -7,10 +7,10 @@ use Rattle.go_tree.specs.FileBare.{bare_decl}
 use Rattle.go_tree.specs.GoWords.Tokens.{TokensOf}
 use Rattle.go_read.specs.SpellsFiles.{SpellsFile}
 use Rattle.text_edits.specs.Applied.{applied}
-use Rattle.run_rules.specs.SpliceLaws.Swaps.{Swap}
-use Rattle.run_rules.specs.SpliceLaws.Fits.{swap_mark}
-use Rattle.run_rules.specs.SpliceLaws.Forms.{new_layout}
-use Rattle.run_rules.specs.SpliceLaws.Splice.{splice, IsPut}
+use Rattle.splice_laws.specs.Swaps.{Swap}
+use Rattle.splice_laws.specs.Fits.{swap_mark}
+use Rattle.splice_laws.specs.Forms.{new_layout}
+use Rattle.splice_laws.specs.Splice.{splice, IsPut}
 use Rattle.run_rules.specs.Sites.{MarkRef}
 use Rattle.run_rules.specs.Texts.{FileText, form_edit}
 use Rattle.run_rules.specs.Respanned.{file_with}

@@ -4,7 +4,7 @@ use Rattle.std.specs.Prelude.{◌≡◌, ℕ, ◌+◌, ◌≤◌, ◌&&◌, nat_
 use Rattle.std.specs.Prelude.{[], ◌∷◌, ◌++◌, filter, length, Some}
 use Rattle.pkg_graph.specs.Package.{Package}
 use Rattle.pkg_graph.specs.Reads.{Source}
-use Rattle.run_rules.specs.SpliceLaws.RunLaws.Reading.{OnePathEach}
+use Rattle.splice_laws.specs.RunLaws.Reading.{OnePathEach}
 use Rattle.run_rules.specs.Marks.{text_at}
 use Rattle.run_rules.specs.Run.{Standing, Logged, Next, path_of_file, module_file_size, texts_size}
 use Rattle.run_rules.specs.Sites.{MarkRef}

@@ -14,8 +14,8 @@ use Rattle.run_rules.specs.Programs.{numbered, numbered_from, is_ready, lesser, 
 use Rattle.run_rules.specs.Respanned.{import_spec_with, import_decl_with, source_with, package_with, packages_with}
 use Rattle.run_rules.specs.Steps.{At}
 use Rattle.run_rules.specs.Run.{as_read, here_of}
-use Rattle.run_rules.specs.SpliceLaws.RunLaws.Reading.{FileAt, OnePathEach}
-use Rattle.run_rules.proofs.SpliceLaws.RunLaws.Reread.{file-reread}
+use Rattle.splice_laws.specs.RunLaws.Reading.{FileAt, OnePathEach}
+use Rattle.splice_laws.proofs.RunLaws.Reread.{file-reread}
 use Rattle.programs.specs.PartOrigins.Spans.{decls_spans, files_spans, packages_spans}
 use Rattle.programs.specs.PartOrigins.Views.{origins_of, files_origins, packages_origins}
 use Rattle.programs.specs.PartOrigins.Laws.{decls_origins}

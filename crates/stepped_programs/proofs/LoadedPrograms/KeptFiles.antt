@@ -18,10 +18,10 @@ use Rattle.run_rules.specs.Respanned.{file_with, source_with, package_with}
 use Rattle.run_rules.specs.Steps.{At}
 use Rattle.run_rules.specs.Run.{Standing, as_read, here_of}
 use Rattle.run_rules.specs.Inlining.{ReadsAs, standing_as_read}
-use Rattle.run_rules.specs.SpliceLaws.RunLaws.Reading.{FileReads}
-use Rattle.run_rules.specs.SpliceLaws.RunLaws.Laws.{OneTextEach}
-use Rattle.run_rules.proofs.SpliceLaws.RunLaws.PathsOwn.{paths_own}
-use Rattle.run_rules.proofs.SpliceLaws.RunLaws.RunsRead as runs
+use Rattle.splice_laws.specs.RunLaws.Reading.{FileReads}
+use Rattle.splice_laws.specs.RunLaws.Laws.{OneTextEach}
+use Rattle.splice_laws.proofs.RunLaws.PathsOwn.{paths_own}
+use Rattle.splice_laws.proofs.RunLaws.RunsRead as runs
 use Rattle.module_reading.specs.Files.{IsScanned}
 use Rattle.module_reading.specs.Modules.{IsReadFrom}
 use Rattle.module_reading.specs.declared.files.ScannedFile.{ScannedFile}

@@ -17,8 +17,8 @@ use Rattle.run_rules.specs.Steps.{At}
 use Rattle.run_rules.specs.Run.{Standing, as_read, here_of, module_file_size, texts_size}
 use Rattle.run_rules.specs.Inlining.{ModuleReads, standing_as_read}
 use Rattle.run_rules.proofs.InOrder.{order_is}
-use Rattle.run_rules.proofs.SpliceLaws.RunLaws.PathsOwn.{paths_own}
-use Rattle.run_rules.proofs.SpliceLaws.RunLaws.RunsRead as runs
+use Rattle.splice_laws.proofs.RunLaws.PathsOwn.{paths_own}
+use Rattle.splice_laws.proofs.RunLaws.RunsRead as runs
 use Rattle.member_uses.specs.Laws.{AllConstants}
 use Rattle.module_reading.specs.declared.reading.ReadModule.{ReadModule}
 use Rattle.file_names.specs.Imports.{FindsPackages}

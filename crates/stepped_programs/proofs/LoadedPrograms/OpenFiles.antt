@@ -4,7 +4,7 @@ use Rattle.std.specs.Prelude.{slice_get}
 use Rattle.std.proofs.lemmas.List.{length-map}
 use Rattle.go_scan.specs.TokenLists.{TokenLists}
 use Rattle.run_rules.specs.ImportRules.Laid.{CommentsAscend}
-use Rattle.run_rules.proofs.SpliceLaws.ImportSplices.ImportPlaces.CommentsStand.{comments_ascend}
+use Rattle.splice_laws.proofs.ImportSplices.ImportPlaces.CommentsStand.{comments_ascend}
 use Rattle.pkg_graph.specs.Views.{package_view, source_of}
 use Rattle.pkg_graph.specs.declared.packages.Package.{Package}
 use Rattle.module_reading.specs.Files.{IsScanned}

@@ -17,7 +17,7 @@ use Rattle.run_rules.specs.Sites.{MarkRef, Where, inlinable, inlinable_in, is_am
 use Rattle.run_rules.specs.Respanned.{decl_with, file_with, source_with, package_with, packages_with}
 use Rattle.run_rules.specs.Steps.{At}
 use Rattle.run_rules.specs.Run.{Standing, here_of}
-use Rattle.run_rules.specs.SpliceLaws.RunLaws.Reading.{FileReads, ProgramReads}
+use Rattle.splice_laws.specs.RunLaws.Reading.{FileReads, ProgramReads}
 use Rattle.constant_steps.proofs.MarksFound.{StandsThere, stands_there}
 use Rattle.constant_steps.specs.FormImports.ImportLaws.Steps.{names_standing}
 use Rattle.constant_steps.specs.PlaceMeanings.Laws.{AreNamesOf}

@@ -8,7 +8,7 @@ use Rattle.pkg_graph.specs.Package as pure
 use Rattle.pkg_graph.specs.Reads.{Source}
 use Rattle.printed_constants.specs.TypedParts.MarkedRuns.KeptMarks.Over.{IsOverName}
 use Rattle.printed_constants.proofs.TypedParts.MarkedRuns.NamedMarks.Used.{named-used}
-use Rattle.put_names.specs.Uses.{UsesConstant}
+use Rattle.printed_constants.specs.Uses.{UsesConstant}
 use Rattle.next_file.specs.declared.file.NewFile.{NewFile}
 use Rattle.next_file.specs.declared.limits.Progress.{Progress}
 use Rattle.next_file.specs.Files.{text_of}

@@ -10,7 +10,7 @@ use Rattle.go_tree.specs.GoTypes.Answers.{given}
 use Rattle.go_tree.proofs.GoTypes.Agreeing.{from_given}
 use Rattle.go_scan.specs.TokenLists.{TokenLists}
 use Rattle.run_rules.specs.ImportRules.Laid.{CommentsAscend}
-use Rattle.run_rules.proofs.SpliceLaws.ImportSplices.ImportPlaces.CommentsStand.{comments_ascend}
+use Rattle.splice_laws.proofs.ImportSplices.ImportPlaces.CommentsStand.{comments_ascend}
 use Rattle.member_uses.proofs.Stays.{candidate_with, after_decl-stays}
 use Rattle.pkg_graph.specs.Package.{SourceTree, Package}
 use Rattle.pkg_graph.specs.Reads.{Source}

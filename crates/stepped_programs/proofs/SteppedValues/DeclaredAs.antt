@@ -34,7 +34,7 @@ use Rattle.repeated_parts.specs.UseSearch.MarkValues.Tables.{Known, value_in}
 use Rattle.repeated_parts.proofs.UseSearch.MarkValues.Written.{IsWritten, decl_formed}
 use Rattle.repeated_parts.proofs.UseSearch.MarkValues.Own.{in_decl, of_decl}
 use Rattle.programs.specs.Programs.{HasValues}
-use Rattle.put_names.specs.Uses.{IsDeclaredAsName, as_name, as_member}
+use Rattle.printed_constants.specs.Uses.{IsDeclaredAsName, as_name, as_member}
 use Rattle.stepped_programs.specs.SearchedSites.Told.{IsToldValue}
 
 -- ---- values

@@ -18,7 +18,7 @@ use Rattle.printed_constants.specs.TypedParts.ScopedParts.Laws.{WellTypedFilesAr
 use Rattle.module_marks.specs.Tables.{IsTableOf}
 use Rattle.module_marks.specs.declared.table.MarkTable.{MarkTable}
 use Rattle.repeated_parts.specs.UseSearch.MarkValues.Tables.{Known, value_in}
-use Rattle.put_names.specs.Uses.{IsDeclaredAsName}
+use Rattle.printed_constants.specs.Uses.{IsDeclaredAsName}
 use Rattle.printed_constants.specs.TypedParts.MarkedRuns.NamedMarks.Named.{AllNamed}
 use Rattle.stepped_programs.specs.declared.package_search.looks.ProgramSources.{ProgramSources}
 use Rattle.programs.specs.declared.state.PackageFiles.{PackageFiles}

@@ -40,7 +40,7 @@ use Rattle.repeated_parts.specs.UseSearch.MarkValues.Tables.{Known, value_in}
 use Rattle.repeated_parts.proofs.UseSearch.MarkValues.Written.{decl_formed}
 use Rattle.repeated_parts.proofs.UseSearch.MarkValues.Own.{in_decl}
 use Rattle.programs.specs.Programs.{HasValues}
-use Rattle.put_names.specs.Uses.{IsDeclaredAsName, as_name, as_member}
+use Rattle.printed_constants.specs.Uses.{IsDeclaredAsName, as_name, as_member}
 use Rattle.printed_constants.proofs.TypedParts.MarkedRuns.KeptMarks.Shapes.{Shape, shape}
 use Rattle.printed_constants.specs.DeclaredMembers.Members.{IsOwn, IsMember}
 use Rattle.stepped_programs.proofs.SteppedValues.DeclaredAs.{package_at, value_had}

@@ -7,7 +7,7 @@ use Rattle.std.specs.List.{list_all}
 use Rattle.go_tree.specs.declared.spans.Span.{Span}
 use Rattle.go_tree.specs.FileView.{file_of}
 use Rattle.go_tree.specs.GoWords.Tokens.Characters.{each}
-use Rattle.run_rules.specs.SpliceLaws.ImportSplices.AddedFile.{is_byte}
+use Rattle.splice_laws.specs.ImportSplices.AddedFile.{is_byte}
 use Rattle.pkg_graph.specs.Package.{Package}
 use Rattle.pkg_graph.specs.Views.{package_view}
 use Rattle.pkg_graph.specs.declared.packages.Package as code
@@ -22,7 +22,7 @@ use Rattle.next_file.specs.Files.{text_of}
 use Rattle.order_runs.specs.RunSteps.RunPackages.{packages_of}
 use Rattle.stepped_programs.specs.declared.package_search.file_steps.step.FileStep.{FileStep}
 use Rattle.stepped_programs.specs.declared.package_search.looks.ProgramSources.{ProgramSources}
-use Rattle.printed_constants.specs.Printed.{ArePrinted}
+use Rattle.run_rules.specs.Printed.{ArePrinted}
 use Rattle.programs.specs.declared.state.Program.{Program}
 use Rattle.read_modules.specs.Modules.{packages_in, texts_in}
 use Rattle.run_by_steps.specs.NextPrograms.Made.{NextWith}

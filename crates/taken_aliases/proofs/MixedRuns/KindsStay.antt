@@ -12,7 +12,7 @@ use Rattle.run_rules.specs.Rewriting.{Changes}
 use Rattle.run_rules.specs.Run.{Standing, Logged, Next, here_of, origin_of}
 use Rattle.run_rules.specs.Sites.{MarkRef, part_span, Where, Inlinable, an_alias, aliased, constant_in_spec, nth_constant, less, inlinable_in, is_function, inlinable}
 use Rattle.run_rules.specs.Steps.{At, same_here, change_nth, changes_for, new_decl}
-use Rattle.run_rules.proofs.SpliceLaws.RunLaws.FoundSpans.{Placed}
+use Rattle.splice_laws.proofs.RunLaws.FoundSpans.{Placed}
 use Rattle.order_runs.specs.CycleRuns.ImportCycles.ImportSteps.{decl_put}
 use Rattle.order_runs.proofs.CycleRuns.ImportCycles.ImportStep.{placed}
 use Rattle.taken_aliases.specs.MixedRuns.Marked.{NoFunctions}

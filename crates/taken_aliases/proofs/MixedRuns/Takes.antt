@@ -7,8 +7,8 @@ use Rattle.go_translation.specs.Packages.{are_well_typed}
 use Rattle.run_rules.specs.Run.{Standing, Logged, Next, here_of, is_commented}
 use Rattle.run_rules.specs.Sites.{MarkRef, Where}
 use Rattle.run_rules.specs.Steps.{At, same_here, change_nth}
-use Rattle.run_rules.specs.SpliceLaws.RunLaws.Reading.{ProgramReads}
-use Rattle.run_rules.proofs.SpliceLaws.RunLaws.FoundSpans.{Placed}
+use Rattle.splice_laws.specs.RunLaws.Reading.{ProgramReads}
+use Rattle.splice_laws.proofs.RunLaws.FoundSpans.{Placed}
 use Rattle.order_runs.specs.RunSteps.RunPackages.{members_of}
 use Rattle.order_runs.proofs.CycleLaws.StepsLead.{change-at}
 use Rattle.constant_steps.proofs.MarksFound.{StandsThere, stands_there}

@@ -12,7 +12,7 @@ use Rattle.run_rules.specs.Respanned.{expr_with, file_with, name_with, import_de
 use Rattle.run_rules.specs.Steps.{At}
 use Rattle.run_rules.specs.Surroundings.{Use, Place, Seen, seen}
 use Rattle.run_rules.specs.Texts.{FileText}
-use Rattle.run_rules.specs.SpliceLaws.Swaps.{Swap, a_callee, DeclIn, DeclsIn, in_this_decl, in_later_decls, FileIn, in_decls}
+use Rattle.splice_laws.specs.Swaps.{Swap, a_callee, DeclIn, DeclsIn, in_this_decl, in_later_decls, FileIn, in_decls}
 use Rattle.order_runs.proofs.RunSteps.SeatedUses.{Among, first, later}
 use Rattle.put_nodes.proofs.ReadFiles.{decl_formed}
 use Rattle.taken_aliases.proofs.PutCalls.CalleeWalk.{Good, CalledSwapped, decl_good}

@@ -7,8 +7,8 @@ use Rattle.go_tree.specs.declared.spans.Span.{Span}
 use Rattle.run_rules.specs.FormTrees.{as_expr, type_expr}
 use Rattle.run_rules.specs.Surroundings.{a_slot}
 use Rattle.run_rules.specs.Texts.{form_layout}
-use Rattle.run_rules.specs.SpliceLaws.Forms.{new_layout}
-use Rattle.run_rules.specs.SpliceLaws.Swaps.{an_operand, a_callee}
+use Rattle.splice_laws.specs.Forms.{new_layout}
+use Rattle.splice_laws.specs.Swaps.{an_operand, a_callee}
 
 abbrev place : Span
 place = record { start = 0; end = 1 }

@@ -17,7 +17,7 @@ use Rattle.go_layout.specs.LayoutLaws.Formed.{FormedType}
 use Rattle.run_rules.specs.FormTrees.{type_expr}
 use Rattle.run_rules.specs.Steps.{At}
 use Rattle.run_rules.specs.Texts.{spelling_before, first_spelling, needs_blank}
-use Rattle.run_rules.specs.SpliceLaws.Splice.{are_apart, first_word}
+use Rattle.splice_laws.specs.Splice.{are_apart, first_word}
 use Rattle.put_nodes.specs.FormsApart.Begins.{may_begin}
 use Rattle.put_nodes.proofs.FormsApart.Apart.{forms_apart, name_apart}
 use Rattle.taken_aliases.proofs.PutCalls.TypesLaid.{laid}

@@ -17,12 +17,12 @@ use Rattle.run_rules.specs.Respanned.{expr_with, file_with}
 use Rattle.run_rules.specs.Steps.{At}
 use Rattle.run_rules.specs.Surroundings.{Use, Slot, a_slot, Place, Seen, seen}
 use Rattle.run_rules.specs.Texts.{FileText, indent_at, form_layout, spelling_before, first_spelling, needs_blank}
-use Rattle.run_rules.specs.SpliceLaws.Dots.{UndottedFile}
-use Rattle.run_rules.specs.SpliceLaws.Fits.{expr_mark, swap_mark}
-use Rattle.run_rules.specs.SpliceLaws.Forms.{new_layout, AsksOld, FormedNew}
-use Rattle.run_rules.specs.SpliceLaws.Joints.{begins_with_dot}
-use Rattle.run_rules.specs.SpliceLaws.Splice.{are_apart, first_word, splice}
-use Rattle.run_rules.specs.SpliceLaws.Swaps.{Swap, an_operand, a_callee, FileIn}
+use Rattle.splice_laws.specs.Dots.{UndottedFile}
+use Rattle.splice_laws.specs.Fits.{expr_mark, swap_mark}
+use Rattle.splice_laws.specs.Forms.{new_layout, AsksOld, FormedNew}
+use Rattle.splice_laws.specs.Joints.{begins_with_dot}
+use Rattle.splice_laws.specs.Splice.{are_apart, first_word, splice}
+use Rattle.splice_laws.specs.Swaps.{Swap, an_operand, a_callee, FileIn}
 use Rattle.order_runs.proofs.RunSteps.SeatedUses.{Among, first, later}
 use Rattle.put_nodes.specs.Put.{FormIsPut, IsSomeName, alone, qualified}
 use Rattle.put_nodes.specs.Swapped.{AllSwapped, StandsAs, as_operand, as_callee, as_deferred, IsOldName, MayBeSwapped, is_old, is_node}

@@ -11,15 +11,15 @@ use Rattle.go_layout.specs.TreeLayout.{expr_layout}
 use Rattle.go_layout.specs.LayoutLaws.Formed.{FormedType, FormedOperand}
 use Rattle.go_layout.proofs.LayoutLaws.BareLayouts.{expr_bare}
 use Rattle.go_tree.specs.GoTypes.Answers.{meets}
-use Rattle.run_rules.specs.SpliceLaws.ImportSplices.FormSplices.Laws.{ends_in_type}
-use Rattle.run_rules.proofs.SpliceLaws.ImportSplices.FormSplices.FormLayouts.{laid-alike}
+use Rattle.splice_laws.specs.ImportSplices.FormSplices.Laws.{ends_in_type}
+use Rattle.splice_laws.proofs.ImportSplices.FormSplices.FormLayouts.{laid-alike}
 use Rattle.run_rules.specs.FormTrees.{as_expr, type_expr}
 use Rattle.run_rules.specs.Respanned.{expr_with}
 use Rattle.run_rules.specs.Steps.{At}
 use Rattle.run_rules.specs.Surroundings.{Slot, is_bracketed}
 use Rattle.run_rules.specs.Texts.{form_layout}
-use Rattle.run_rules.specs.SpliceLaws.Forms.{takes_parens, new_layout}
-use Rattle.run_rules.specs.SpliceLaws.Swaps.{an_operand, a_callee}
+use Rattle.splice_laws.specs.Forms.{takes_parens, new_layout}
+use Rattle.splice_laws.specs.Swaps.{an_operand, a_callee}
 use Rattle.taken_aliases.specs.PutCalls.Uses.{ends_bracketed}
 use Rattle.taken_aliases.proofs.PutTexts.Texts.{formed-bare, bare-stays}
 

@@ -10,8 +10,8 @@ use Rattle.go_tree.specs.GoTypes.Answers.{meets}
 use Rattle.go_tree.specs.GoTypes.Agreement.{In, head, tail}
 use Rattle.run_rules.specs.declared.import_rules.new_import.NewImport.{NewImport}
 use Rattle.run_rules.specs.ImportRules.Needs.{serving, avoided}
-use Rattle.run_rules.specs.SpliceLaws.ImportSplices.FormSplices.Laws.{MakesForm}
-use Rattle.run_rules.proofs.SpliceLaws.ImportSplices.FormSplices.FormsFound.{step-makes-form}
+use Rattle.splice_laws.specs.ImportSplices.FormSplices.Laws.{MakesForm}
+use Rattle.splice_laws.proofs.ImportSplices.FormSplices.FormsFound.{step-makes-form}
 use Rattle.run_rules.specs.FormTrees.{TypeForm, Form, form_identifiers}
 use Rattle.run_rules.specs.Naming.{Names, Named, unnamed, unnamed_in, package_path, own_name, names_here, environment_here, fresh_name, added_import, named_package, named_packages, name_added, imports_added}
 use Rattle.run_rules.specs.Programs.{package_number}
@@ -20,7 +20,7 @@ use Rattle.run_rules.specs.Run.{Standing, Logged, Next, is_commented}
 use Rattle.run_rules.specs.Sites.{MarkRef, Where, Inlinable, an_alias, Part, an_expr, a_type_part, Site, part_span, inlinable, not_function}
 use Rattle.run_rules.specs.Steps.{At, same_here}
 use Rattle.run_rules.specs.Surroundings.{Place, seen_type}
-use Rattle.run_rules.specs.SpliceLaws.RunLaws.Reading.{ProgramReads}
+use Rattle.splice_laws.specs.RunLaws.Reading.{ProgramReads}
 use Rattle.order_runs.specs.CycleRuns.Linked.{Linked}
 use Rattle.order_runs.specs.CycleRuns.OrderCycles.Orders.{AllOrdered}
 use Rattle.order_runs.specs.CycleRuns.OrderedSteps.Ranks.{IsRanked, AddsLedTo}

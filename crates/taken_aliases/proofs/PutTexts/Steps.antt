@@ -7,7 +7,7 @@ use Rattle.go_tree.specs.File.{File}
 use Rattle.go_tree.specs.FileBare.{bare_file}
 use Rattle.go_tree.specs.ScopeNames.Identifiers.{type_identifiers}
 use Rattle.order_runs.specs.CycleRuns.Linked.{Linked, SettlesFile}
-use Rattle.run_rules.specs.SpliceLaws.ImportSplices.AddedFile.{AreWritable}
+use Rattle.splice_laws.specs.ImportSplices.AddedFile.{AreWritable}
 use Rattle.order_runs.specs.CycleRuns.KeptImports.Files.{PutsNode, RemovesNoNames}
 use Rattle.go_layout.specs.LayoutLaws.Formed.{IsName, FormedType}
 use Rattle.order_runs.specs.CycleRuns.OrderCycles.NewNames.{FewNames}
@@ -20,10 +20,10 @@ use Rattle.run_rules.specs.Reduced.{home_place, alias_type}
 use Rattle.run_rules.specs.Run.{Standing, Logged, Next, here_of, is_commented}
 use Rattle.run_rules.specs.Sites.{MarkRef, Part, Site, part_span}
 use Rattle.run_rules.specs.Steps.{At, same_here}
-use Rattle.run_rules.specs.SpliceLaws.RunLaws.Reading.{ProgramReads}
-use Rattle.run_rules.proofs.SpliceLaws.RunLaws.FoundSpans.{Placed}
-use Rattle.run_rules.specs.SpliceLaws.Dots.{UndottedFile}
-use Rattle.run_rules.specs.SpliceLaws.Swaps.{Swap, FileIn}
+use Rattle.splice_laws.specs.RunLaws.Reading.{ProgramReads}
+use Rattle.splice_laws.proofs.RunLaws.FoundSpans.{Placed}
+use Rattle.splice_laws.specs.Dots.{UndottedFile}
+use Rattle.splice_laws.specs.Swaps.{Swap, FileIn}
 use Rattle.put_nodes.specs.Put.{FormIsPut}
 use Rattle.put_nodes.specs.SpelledNames.{AreNames}
 use Rattle.put_nodes.specs.TypeNodes.Names.{Written, type_names}

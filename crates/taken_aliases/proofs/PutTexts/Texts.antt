@@ -13,7 +13,7 @@ use Rattle.run_rules.specs.Respanned.{type_with, fields_with, decl_with, type_sp
 use Rattle.run_rules.specs.Run.{Standing, here_of}
 use Rattle.run_rules.specs.Sites.{MarkRef, Where, Inlinable, an_alias, aliased, constant_in_spec, nth_constant, less, inlinable_in, where_is, inlinable}
 use Rattle.run_rules.specs.Steps.{At}
-use Rattle.run_rules.specs.SpliceLaws.RunLaws.Reading.{FileReads, ProgramReads}
+use Rattle.splice_laws.specs.RunLaws.Reading.{FileReads, ProgramReads}
 use Rattle.put_nodes.specs.Swapped.{FormedTypeSpecs, FormedDecl}
 use Rattle.put_nodes.proofs.ReadFiles.{decl_formed}
 use Rattle.put_names.proofs.Forms.{stands}

@@ -15,12 +15,12 @@ use Rattle.run_rules.specs.Respanned.{type_with, file_with}
 use Rattle.run_rules.specs.Steps.{At}
 use Rattle.run_rules.specs.Surroundings.{Slot}
 use Rattle.run_rules.specs.Texts.{FileText, indent_at, spelling_before, first_spelling, needs_blank}
-use Rattle.run_rules.specs.SpliceLaws.Dots.{UndottedFile}
-use Rattle.run_rules.specs.SpliceLaws.Joints.{begins_with_dot}
-use Rattle.run_rules.specs.SpliceLaws.Splice.{are_apart, first_word}
-use Rattle.run_rules.specs.SpliceLaws.Swaps.{Swap, a_type, a_literal_type, FileIn}
-use Rattle.run_rules.specs.SpliceLaws.ImportSplices.FormSplices.Laws.{is_parted}
-use Rattle.run_rules.proofs.SpliceLaws.ImportSplices.FormSplices.FormLayouts.{type-spliced}
+use Rattle.splice_laws.specs.Dots.{UndottedFile}
+use Rattle.splice_laws.specs.Joints.{begins_with_dot}
+use Rattle.splice_laws.specs.Splice.{are_apart, first_word}
+use Rattle.splice_laws.specs.Swaps.{Swap, a_type, a_literal_type, FileIn}
+use Rattle.splice_laws.specs.ImportSplices.FormSplices.Laws.{is_parted}
+use Rattle.splice_laws.proofs.ImportSplices.FormSplices.FormLayouts.{type-spliced}
 use Rattle.put_nodes.proofs.FormsApart.TypesApart.{types_apart}
 use Rattle.put_nodes.specs.Put.{FormIsPut}
 use Rattle.put_nodes.proofs.NamesLaid.{indent_spaces}

@@ -6,13 +6,13 @@ use Rattle.go_tree.specs.FileBare.{bare_file}
 use Rattle.go_tree.specs.File.{Decl, File}
 use Rattle.go_tree.specs.Tree.{TypeExpr, Expr}
 use Rattle.order_runs.specs.CycleRuns.Linked.{Linked, SettlesFile}
-use Rattle.run_rules.specs.SpliceLaws.ImportSplices.AddedFile.{AreWritable}
+use Rattle.splice_laws.specs.ImportSplices.AddedFile.{AreWritable}
 use Rattle.order_runs.specs.CycleRuns.KeptImports.Files.{PutsNode, RemovesNoNames}
 use Rattle.go_layout.specs.LayoutLaws.Formed.{FormedType}
 use Rattle.order_runs.specs.CycleRuns.OrderCycles.NewNames.{FewNames}
 use Rattle.order_runs.specs.CycleRuns.OrderedSteps.Ranks.{AddsLedTo}
 use Rattle.pkg_graph.specs.Package.{Package}
-use Rattle.run_rules.specs.SpliceLaws.RunLaws.Reading.{ProgramReads}
+use Rattle.splice_laws.specs.RunLaws.Reading.{ProgramReads}
 use Rattle.run_rules.specs.FormTrees.{as_expr, type_expr}
 use Rattle.run_rules.specs.Inlining.{ReadsAs}
 use Rattle.run_rules.specs.Laws.{file_found}
@@ -26,7 +26,7 @@ use Rattle.run_rules.specs.Surroundings.{Use, Place, seen}
 use Rattle.run_rules.specs.Texts.{FileText}
 use Rattle.go_tree.specs.ScopeNames.Scopes.{expr_span}
 use Rattle.put_names.specs.ReadImports.PutInText.{PutInText}
-use Rattle.run_rules.specs.SpliceLaws.Dots.{UndottedFile}
+use Rattle.splice_laws.specs.Dots.{UndottedFile}
 use Rattle.put_names.specs.Laws.{PackagesAreWritable}
 use Rattle.put_names.specs.Uses.{IsScopedAround, IsUsedByName}
 use Rattle.put_nodes.specs.Put.{FormIsPut, IsSomeName}

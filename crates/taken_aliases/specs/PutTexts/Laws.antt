@@ -6,13 +6,13 @@ use Rattle.go_tree.specs.FileBare.{bare_file}
 use Rattle.go_tree.specs.File.{File}
 use Rattle.go_tree.specs.Tree.{NameAt, TypeExpr, named}
 use Rattle.order_runs.specs.CycleRuns.Linked.{Linked, SettlesFile}
-use Rattle.run_rules.specs.SpliceLaws.ImportSplices.AddedFile.{AreWritable}
+use Rattle.splice_laws.specs.ImportSplices.AddedFile.{AreWritable}
 use Rattle.order_runs.specs.CycleRuns.KeptImports.Files.{PutsNode, RemovesNoNames}
 use Rattle.go_layout.specs.LayoutLaws.Formed.{FormedType, FormedLiteralType}
 use Rattle.order_runs.specs.CycleRuns.OrderCycles.NewNames.{FewNames}
 use Rattle.order_runs.specs.CycleRuns.OrderCycles.Orders.{AllOrdered}
 use Rattle.order_runs.specs.CycleRuns.OrderedSteps.Ranks.{AddsLedTo}
-use Rattle.run_rules.specs.SpliceLaws.RunLaws.Reading.{ProgramReads}
+use Rattle.splice_laws.specs.RunLaws.Reading.{ProgramReads}
 use Rattle.run_rules.specs.FormTrees.{as_type}
 use Rattle.run_rules.specs.Inlining.{ReadsAs}
 use Rattle.run_rules.specs.Laws.{file_found}
@@ -24,8 +24,8 @@ use Rattle.run_rules.specs.Steps.{At}
 use Rattle.run_rules.specs.Surroundings.{Slot}
 use Rattle.run_rules.specs.Texts.{FileText}
 use Rattle.put_names.specs.ReadImports.PutInText.{PutInText}
-use Rattle.run_rules.specs.SpliceLaws.Dots.{UndottedFile}
-use Rattle.run_rules.specs.SpliceLaws.Swaps.{FileIn}
+use Rattle.splice_laws.specs.Dots.{UndottedFile}
+use Rattle.splice_laws.specs.Swaps.{FileIn}
 use Rattle.put_names.specs.Laws.{PackagesAreWritable}
 use Rattle.put_nodes.specs.Put.{FormIsPut}
 use Rattle.put_nodes.specs.SpelledNames.{AreNames}

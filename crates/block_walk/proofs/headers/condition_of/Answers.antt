@@ -4,7 +4,7 @@ use Rattle.go_tree.specs.GoTypes.Answers.{meets}
 use Rattle.go_tree.specs.GoTypes.Entities.{defined_in}
 use Rattle.go_tree.specs.GoTypes.Statements.{is_condition}
 use Rattle.go_tree.specs.GoTypes.Typing as go
-use Rattle.expr_walk.proofs.WalkArms.ExprArms.{at, expr_there}
+use Rattle.statement_walk.proofs.ExprArms.{at, expr_there}
 use Rattle.jump_rules.specs.UsedLocals.Used.{and_names, used_of}
 use Rattle.statement_walk.proofs.SimpleWalk.ConstantGroups.MemberLemmas.{place_kept}
 use Rattle.block_walk.proofs.HeaderLemmas.{condition_seen, failed, passed}

@@ -2,7 +2,7 @@ use Rattle.std.proofs.Common.{Ok, refl, subst, sym}
 use Rattle.go_tree.specs.View.{expr_of, plain_expr_option_of}
 use Rattle.go_tree.specs.GoTypes.Statements.{is_test}
 use Rattle.go_tree.specs.GoTypes.Typing as go
-use Rattle.expr_walk.specs.Walked.{IsWalkedOption}
+use Rattle.statement_walk.specs.Walked.{IsWalkedOption}
 use Rattle.jump_rules.specs.UsedLocals.Used.{and_names, used_of}
 use Rattle.block_walk.specs.Answers.{GivesTest}
 use Rattle.block_walk.proofs.HeaderLemmas.{test_is}

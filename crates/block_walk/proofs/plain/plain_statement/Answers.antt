@@ -1,7 +1,7 @@
 use Rattle.std.proofs.Common.{◌∙◌, sym}
 use Rattle.go_tree.specs.View.{stmt_of}
 use Rattle.jump_rules.specs.UsedLocals.Used.{used_of}
-use Rattle.assignment_steps.proofs.DeclaredBlocks.BlockLemmas.{within_self}
+use Rattle.statement_walk.proofs.BlockLemmas.{within_self}
 use Rattle.statement_walk.proofs.SimpleWalk.ConstantGroups.MemberLemmas.{place_kept}
 use Rattle.block_walk.proofs.SimpleLemmas.{nothing_declared}
 use Rattle.block_walk.proofs.StatementKinds.{plain_simple, simple_declares}

@@ -7,7 +7,7 @@ use Rattle.go_tree.specs.GoTypes.Operands.{typed}
 use Rattle.go_tree.specs.GoTypes.Statements.{range_types}
 use Rattle.go_tree.specs.GoTypes.Typing as go
 use Rattle.std.specs.Prelude.{is_some}
-use Rattle.expr_walk.proofs.WalkArms.ExprArms.{at, expr_there}
+use Rattle.statement_walk.proofs.ExprArms.{at, expr_there}
 use Rattle.jump_rules.specs.UsedLocals.Used.{and_names, used_of}
 use Rattle.statement_walk.proofs.SimpleWalk.ConstantGroups.MemberLemmas.{place_kept}
 use Rattle.block_walk.specs.Ranges.{range_clause}

@@ -7,9 +7,9 @@ use Rattle.go_tree.specs.GoTypes.Operands.{typed}
 use Rattle.go_tree.specs.GoTypes.Statements.{range_assigns}
 use Rattle.go_tree.specs.GoTypes.Typing as go
 use Rattle.operand_modes.proofs.OperandAnswers.KeptLemmas.{env_kept, keeps_on, there_kept}
-use Rattle.expr_walk.proofs.WalkArms.ExprArms.{at, expr_kept, expr_there}
+use Rattle.statement_walk.proofs.ExprArms.{at, expr_kept, expr_there}
 use Rattle.jump_rules.specs.UsedLocals.Used.{used_of}
-use Rattle.assignment_steps.specs.Targets.{GivesTargets}
+use Rattle.statement_walk.specs.Targets.{GivesTargets}
 use Rattle.statement_walk.proofs.SimpleWalk.ConstantGroups.MemberLemmas.{place_kept}
 use Rattle.block_walk.specs.Ranges.{range_clause}
 use Rattle.block_walk.proofs.RangeLemmas.{assigns_is, assigns_seen, clause_fails, clause_passes, left_then_over, targets_there}

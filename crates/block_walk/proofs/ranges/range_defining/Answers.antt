@@ -7,10 +7,10 @@ use Rattle.go_tree.specs.GoTypes.Entities.{extend, in_block}
 use Rattle.go_tree.specs.GoTypes.Statements.{new_by_range}
 use Rattle.go_tree.specs.GoTypes.Typing as go
 use Rattle.go_tree.specs.ScopeNames.FreeNames.{names_of}
-use Rattle.assignment_steps.specs.SpecSteps.Specs.{GivesVariables}
+use Rattle.statement_walk.specs.Specs.{GivesVariables}
 use Rattle.control_steps.specs.DeclarationSteps.Entities.{AreEntities, binds_at}
 use Rattle.control_steps.specs.LocalBlocks.Places.{IsPlace}
-use Rattle.expr_walk.proofs.WalkArms.ExprArms.{at, expr_there}
+use Rattle.statement_walk.proofs.ExprArms.{at, expr_there}
 use Rattle.jump_rules.specs.UsedLocals.Pending.{all_begun}
 use Rattle.jump_rules.specs.UsedLocals.Used.{and_names, used_of}
 use Rattle.statement_walk.proofs.SimpleWalk.ConstantGroups.MemberLemmas.{place_kept, within_self}

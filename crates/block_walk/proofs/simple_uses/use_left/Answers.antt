@@ -4,9 +4,9 @@ use Rattle.go_tree.specs.View.{expr_of}
 use Rattle.go_tree.specs.GoTypes.Typing as go
 use Rattle.typed_names.proofs.TypeExprs.NewNames.{drop_all, drop_item}
 use Rattle.operand_modes.proofs.OperandAnswers.KeptLemmas.{env_kept}
-use Rattle.expr_walk.specs.Walked.{AreAllWalked}
-use Rattle.expr_walk.proofs.Parts.{expr_walked}
-use Rattle.expr_walk.proofs.WalkArms.ExprArms.{at}
+use Rattle.statement_walk.specs.Walked.{AreAllWalked}
+use Rattle.statement_walk.proofs.Parts.{expr_walked}
+use Rattle.statement_walk.proofs.ExprArms.{at}
 use Rattle.jump_rules.specs.UsedLocals.Used.{and_names, used_of}
 use Rattle.statement_walk.specs.Uses.{UsesLeft}
 use Rattle.statement_walk.proofs.UsesLemmas.{uses_more, uses_start}

@@ -1,6 +1,6 @@
 use Rattle.std.proofs.Common.{◌≡◌, ◌∙◌, OnOk, subst, sym}
 use Rattle.go_tree.specs.View.{expr_of}
-use Rattle.expr_walk.proofs.WalkArms.ExprArms.{at}
+use Rattle.statement_walk.proofs.ExprArms.{at}
 use Rattle.jump_rules.specs.UsedLocals.Used.{and_names, used_of}
 use Rattle.block_walk.proofs.SimpleLemmas.{name_unused, side_used}
 use Rattle.block_walk.proofs.simple_uses.use_side.Goals as goal

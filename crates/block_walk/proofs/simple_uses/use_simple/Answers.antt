@@ -1,7 +1,7 @@
 use Rattle.std.proofs.Common.{◌≡◌, OnOk, subst, sym}
 use Rattle.go_tree.specs.View.{exprs_of, stmt_of}
 use Rattle.go_tree.specs.GoTypes.Typing as go
-use Rattle.expr_walk.proofs.WalkArms.ExprArms.{at}
+use Rattle.statement_walk.proofs.ExprArms.{at}
 use Rattle.jump_rules.specs.UsedLocals.Used.{and_names, used_of}
 use Rattle.statement_walk.proofs.UsesLemmas.{uses_then}
 use Rattle.block_walk.specs.Answers.{target_uses}

@@ -5,7 +5,7 @@ use Rattle.go_tree.specs.GoTypes.Typing as go
 use Rattle.jump_rules.specs.UsedLocals.Used.{and_names, used_of}
 use Rattle.operand_modes.proofs.OperandAnswers.KeptLemmas.{stands_kept}
 use Rattle.control_steps.specs.LocalBlocks.Places.{in_block_of}
-use Rattle.expr_walk.proofs.WalkArms.ExprArms.{at}
+use Rattle.statement_walk.proofs.ExprArms.{at}
 use Rattle.statement_walk.proofs.SimpleWalk.ConstantGroups.MemberLemmas.{place_here}
 use Rattle.block_walk.proofs.CaseLemmas.{bound_there, bound_well, tag_from, tag_there}
 use Rattle.block_walk.proofs.switches.switch_tag.Goals as goal

@@ -3,8 +3,8 @@ use Rattle.go_tree.specs.Tree as tree
 use Rattle.go_tree.specs.View.{expr_of, plain_expr_option_of}
 use Rattle.go_tree.specs.GoTypes.Typing as go
 use Rattle.operand_modes.specs.OperandAnswers.AccessSteps.Bounds.{GivesBound}
-use Rattle.expr_walk.specs.Walked.{IsWalkedOption}
-use Rattle.expr_walk.proofs.WalkArms.ExprArms.{at, bound_arm, expr_there}
+use Rattle.statement_walk.specs.Walked.{IsWalkedOption}
+use Rattle.statement_walk.proofs.ExprArms.{at, bound_arm, expr_there}
 use Rattle.jump_rules.specs.UsedLocals.Used.{and_names, used_of}
 use Rattle.statement_walk.proofs.SimpleWalk.ConstantGroups.MemberLemmas.{place_kept}
 use Rattle.block_walk.proofs.CaseLemmas.{bound_at, well_before}

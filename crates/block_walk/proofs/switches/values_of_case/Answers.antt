@@ -4,7 +4,7 @@ use Rattle.go_tree.specs.GoTypes.Typing as go
 use Rattle.type_table.specs.OperandRules.Values.{typed_of}
 use Rattle.jump_rules.specs.UsedLocals.Used.{and_names, used_of}
 use Rattle.operand_modes.proofs.OperandAnswers.KeptLemmas.{keeps_on, stands_kept, value_on}
-use Rattle.expr_walk.proofs.WalkArms.ExprArms.{at}
+use Rattle.statement_walk.proofs.ExprArms.{at}
 use Rattle.statement_walk.proofs.SimpleWalk.ConstantGroups.MemberLemmas.{place_kept}
 use Rattle.statement_walk.proofs.SimpleWalk.SimpleLemmas.{all_there}
 use Rattle.statement_walk.proofs.PartLemmas.{uses_here}

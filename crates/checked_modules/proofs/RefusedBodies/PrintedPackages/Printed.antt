@@ -11,7 +11,7 @@ use Rattle.pkg_graph.specs.Package.{Package}
 use Rattle.printing_files.specs.Operands.{is_name_alone, is_operand, are_operands, is_println, is_print}
 use Rattle.printing_files.specs.Decls.{is_blank, is_nothing, is_constant, are_constants, are_printing, is_function, is_printer, is_plain}
 use Rattle.printing_files.specs.Files.{prints_only}
-use Rattle.printed_constants.specs.Printed.{IsFlat, a_name, a_number, a_selection, AllFlat, no_operands, and_operand, IsPrint, a_call, PrintStmts, no_prints, and_print, FlatConstants, no_constants, and_constant, IsPrinted, some_constants, a_function, ArePrinted}
+use Rattle.run_rules.specs.Printed.{IsFlat, a_name, a_number, a_selection, AllFlat, no_operands, and_operand, IsPrint, a_call, PrintStmts, no_prints, and_print, FlatConstants, no_constants, and_constant, IsPrinted, some_constants, a_function, ArePrinted}
 use Rattle.checked_modules.specs.RefusedBodies.PrintedPackages.Packages.{files_print_only, print_only}
 use Rattle.checked_modules.specs.RefusedBodies.PrintedPackages.Laws.{PrintOnlyIsPrinted}
 

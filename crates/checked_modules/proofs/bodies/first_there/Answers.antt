@@ -1,7 +1,7 @@
 use Rattle.std.proofs.Common.{◌∙◌, None, ap, map}
 use Rattle.std.specs.List.{list_all}
 use Rattle.go_tree.specs.FileView.{decl_of}
-use Rattle.initial_values.proofs.ValuePlaces.PlaceLemmas.{place_stands}
+use Rattle.collected.proofs.PlaceLemmas.{place_stands}
 use Rattle.printing_files.specs.Decls.{is_plain}
 use Rattle.checked_modules.specs.FilePlaces.Imports.{names_imported}
 use Rattle.typed_names.specs.Scopes.{env_at}

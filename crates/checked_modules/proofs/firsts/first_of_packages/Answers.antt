@@ -1,7 +1,7 @@
 use Rattle.std.proofs.Common.{◌∙◌, ◌+◌, drop, get_or, subst}
 use Rattle.typed_names.proofs.TypeExprs.NewNames.{drop_all, drop_item}
 use Rattle.package_blocks.proofs.CollectedLemmas.{item_either}
-use Rattle.header_order.specs.FirstRefusals.Declarations.{refusal_of}
+use Rattle.collected.specs.Declarations.{refusal_of}
 use Rattle.checked_modules.proofs.FirstLemmas.{IsLeft, front_is, left_all, left_found, left_more, left_none}
 use Rattle.checked_modules.proofs.firsts.first_of_packages.Goals as goal
 

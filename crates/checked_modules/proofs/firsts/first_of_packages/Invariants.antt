@@ -1,5 +1,5 @@
 use Rattle.std.proofs.Common.{drop}
-use Rattle.header_order.specs.FirstRefusals.Declarations.{refusal_of}
+use Rattle.collected.specs.Declarations.{refusal_of}
 use Rattle.checked_modules.proofs.FirstLemmas.{Left}
 use Rattle.checked_modules.proofs.firsts.first_of_packages.Given as goal
 

@@ -1,5 +1,5 @@
 use Rattle.std.proofs.Common.{None, get_or}
-use Rattle.header_order.proofs.FirstRefusals.ToldLemmas.{item_same}
+use Rattle.collected.proofs.ToldLemmas.{item_same}
 use Rattle.checked_modules.proofs.FirstLemmas.{place_found, place_missing, place_passed}
 use Rattle.checked_modules.proofs.firsts.first_place.Goals as goal
 

@@ -1,5 +1,5 @@
 use Rattle.std.proofs.Common.{◌≡◌, ap, subst, sym}
-use Rattle.header_order.specs.FirstRefusals.Declarations.{refusal_of}
+use Rattle.collected.specs.Declarations.{refusal_of}
 use Rattle.package_blocks.proofs.NumberLemmas.{item_gone, item_there}
 use Rattle.checked_modules.specs.FilePlaces.Programs.{package_at}
 use Rattle.checked_modules.specs.Firsts.{bodies_of, place_in_packages}

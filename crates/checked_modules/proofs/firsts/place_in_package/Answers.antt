@@ -1,6 +1,6 @@
 use Rattle.std.proofs.Common.{◌∙◌, ap, sym}
 use Rattle.std.specs.Prelude.{slice_get}
-use Rattle.header_order.specs.FirstRefusals.Declarations.{refusal_of}
+use Rattle.collected.specs.Declarations.{refusal_of}
 use Rattle.checked_modules.proofs.FirstLemmas.{declaration_named, none_named, refused_named}
 use Rattle.checked_modules.proofs.firsts.place_in_package.Goals as goal
 

@@ -6,7 +6,7 @@ use Rattle.declared_types.proofs.Passed.{places_on}
 use Rattle.declared_types.specs.Steps.{KnowsPlaces}
 use Rattle.package_blocks.specs.FuncHeaders.Functions.{program_of}
 use Rattle.package_blocks.specs.Headers.{AreHeaders, listed_of}
-use Rattle.header_order.specs.FirstRefusals.Declarations.{refusal_of}
+use Rattle.collected.specs.Declarations.{refusal_of}
 use Rattle.checked_modules.specs.FilePlaces.Around.{all_around}
 use Rattle.checked_modules.specs.FilePlaces.Places.{AreFiles}
 use Rattle.checked_modules.proofs.FilePlaces.TreeLemmas.{program_is}

@@ -3,9 +3,9 @@ use Rattle.go_tree.specs.declared.spans.Span.{Span}
 use Rattle.go_tree.specs.GoTypes.Programs.{Program, headed}
 use Rattle.go_tree.specs.GoTypes.Collect.{collected}
 use Rattle.package_blocks.specs.FuncHeaders.Functions.{program_of}
-use Rattle.header_order.specs.FirstImports.Firsts.{AllUsed}
-use Rattle.header_order.specs.FirstRefusals.Declarations.{AreFirstImports}
-use Rattle.header_order.specs.FirstRefusals.Files.{file_numbers}
+use Rattle.collected.specs.Firsts.{AllUsed}
+use Rattle.collected.specs.Declarations.{AreFirstImports}
+use Rattle.collected.specs.FirstRefusalsFiles.{file_numbers}
 use Rattle.checked_modules.specs.FilePlaces.Around.{all_around}
 use Rattle.checked_modules.proofs.PackageLemmas.{all_have, all_told}
 use Rattle.checked_modules.proofs.modules.refused_declaration.Goals as goal

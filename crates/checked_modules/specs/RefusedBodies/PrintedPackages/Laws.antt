@@ -2,7 +2,7 @@
 -- declarations; Function declarations).
 use Rattle.std.specs.Prelude.{◌≡◌, true, List}
 use Rattle.pkg_graph.specs.Package.{Package}
-use Rattle.printed_constants.specs.Printed.{ArePrinted}
+use Rattle.run_rules.specs.Printed.{ArePrinted}
 use Rattle.checked_modules.specs.RefusedBodies.PrintedPackages.Packages.{print_only}
 
 -- Packages that print only are packages of constants and of functions that print them, whatever their spans.

@@ -14,14 +14,14 @@ use Rattle.pkg_graph.specs.Members.{Target, imported, member, predeclared as pre
 use Rattle.run_rules.specs.ImportRules.Unused.{spec_spans, AreImportsOf}
 use Rattle.run_rules.proofs.ImportRules.MeaningLaws.{means_append}
 use Rattle.run_rules.proofs.ImportRules.UnusedLaws.{used_names_mean_at}
-use Rattle.run_rules.proofs.SpliceLaws.ImportSplices.ImportPlaces.FilesLaid.{imports_laid}
+use Rattle.splice_laws.proofs.ImportSplices.ImportPlaces.FilesLaid.{imports_laid}
 use Rattle.run_rules.specs.Texts.{FileText}
 use Rattle.run_rules.specs.Respanned.{source_with, package_with, packages_with}
 use Rattle.run_rules.specs.Run.{as_read}
 use Rattle.run_rules.specs.Inlining.{ReadsAs}
-use Rattle.run_rules.specs.SpliceLaws.RunLaws.Reading.{FileReads, FileAt}
-use Rattle.run_rules.proofs.SpliceLaws.RunLaws.Reread.{file-reread}
-use Rattle.run_rules.proofs.SpliceLaws.RunLaws.RunsRead.{modules_read}
+use Rattle.splice_laws.specs.RunLaws.Reading.{FileReads, FileAt}
+use Rattle.splice_laws.proofs.RunLaws.Reread.{file-reread}
+use Rattle.splice_laws.proofs.RunLaws.RunsRead.{modules_read}
 use Rattle.constant_steps.specs.FormImports.ImportLaws.GraphNames.{FilesMaySettle, ImportsMeanAlike, NamesMeanAfterwards}
 
 -- ---- the imports of a file

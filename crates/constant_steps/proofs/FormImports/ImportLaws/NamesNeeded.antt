@@ -26,7 +26,7 @@ use Rattle.run_rules.specs.ImportRules.Unused.{AreImportsOf, spec_spans}
 use Rattle.run_rules.proofs.ImportRules.NeededMeans.{same_name, fresh_passes}
 use Rattle.run_rules.proofs.ImportRules.NeededNames.{needed_names_mean}
 use Rattle.run_rules.proofs.ImportRules.UnusedLaws.{used_imports_stay}
-use Rattle.run_rules.proofs.SpliceLaws.RunLaws.FilesStand.{file_laid}
+use Rattle.splice_laws.proofs.RunLaws.FilesStand.{file_laid}
 use Rattle.run_rules.specs.Surroundings.{Place}
 use Rattle.run_rules.specs.Sites.{Where}
 use Rattle.run_rules.specs.Naming.{Named, no_span, fuel_for, fresh_name, package_path, own_name, names_here, environment_here, added_import, named_packages, name_added, imports_added}

@@ -8,9 +8,9 @@ use Rattle.go_tree.specs.GoTypes.Types.{GoType, base_of}
 use Rattle.go_tree.specs.GoTypes.Entities.{Env, defined_in}
 use Rattle.go_tree.specs.GoTypes.Defined.{Method, methods}
 use Rattle.go_tree.specs.GoTypes.Primary.{find_method}
-use Rattle.run_rules.specs.SpliceLaws.Dots.{ExprDots, ExprsDots, StmtDots, StmtsDots}
-use Rattle.run_rules.specs.SpliceLaws.ImportSplices.TypedDots.TypedDots.{AnyExpr}
-use Rattle.run_rules.specs.SpliceLaws.ImportSplices.TypedDots.Unspread.{UnspreadRest}
+use Rattle.splice_laws.specs.Dots.{ExprDots, ExprsDots, StmtDots, StmtsDots}
+use Rattle.splice_laws.specs.ImportSplices.TypedDots.TypedDots.{AnyExpr}
+use Rattle.splice_laws.specs.ImportSplices.TypedDots.Unspread.{UnspreadRest}
 use Rattle.pkg_graph.specs.Package.{Package}
 use Rattle.param_choice.specs.Chosen.{has}
 use Rattle.run_rules.specs.Surroundings.{Use, whole, returned, other, Place}

@@ -11,9 +11,9 @@ use Rattle.go_tree.specs.GoTypes.Literals.{is_struct, literal_type}
 use Rattle.go_tree.specs.GoTypes.Typing.{parts, all_parts}
 use Rattle.go_tree.specs.GoTypes.Bodies.{labelled}
 use Rattle.go_tree.specs.GoTypes.Declarations.{Repeated, nothing_to_repeat}
-use Rattle.run_rules.specs.SpliceLaws.Dots.{ExprDots, ExprsDots, OptionDots, ElemsDots, ValueDots, KeyDots, StmtDots, StmtsDots, PartDots, BlockDots, LeftDots, ArmsDots, CasesDots, SpecsDots}
-use Rattle.run_rules.specs.SpliceLaws.ImportSplices.TypedDots.TypedDots.{AnyExpr}
-use Rattle.run_rules.specs.SpliceLaws.ImportSplices.TypedDots.Unspread.{UnspreadRest}
+use Rattle.splice_laws.specs.Dots.{ExprDots, ExprsDots, OptionDots, ElemsDots, ValueDots, KeyDots, StmtDots, StmtsDots, PartDots, BlockDots, LeftDots, ArmsDots, CasesDots, SpecsDots}
+use Rattle.splice_laws.specs.ImportSplices.TypedDots.TypedDots.{AnyExpr}
+use Rattle.splice_laws.specs.ImportSplices.TypedDots.Unspread.{UnspreadRest}
 use Rattle.run_rules.specs.Surroundings.{Use, whole, stored, updated, called, deferred_call, alone, other, a_slot, Place, Seen, seen, seen_type, seen_stmt, alike, into_type, head_use, later_uses, arg_uses, unary_use, operand_use, first_operand_use, right_uses, every_use, value_use, return_uses, elem_use, key_use, inner_slot, last_slot, in_slot, callee_place, comma_slot, elem_closed, after_stmt, after_first, block, looping, switching, in_heading, at_stmt, plain_slot, ranged, in_literal, repeated_by, in_constant, after_constants, before_repeats, after_variables, is_old}
 use Rattle.run_rules.specs.Places.{type_seen, written_seen, params_seen, sig_seen, old_seen, after_arms, expr_seen, all_seen, option_seen, elems_seen, key_seen, value_seen, stmt_seen, stmts_seen, first_seen, block_seen, left_seen, arms_seen, cases_seen, constants_seen, variables_seen}
 

@@ -8,10 +8,10 @@ use Rattle.go_tree.specs.Bare.{bare_expr, bare_stmt}
 use Rattle.pkg_graph.specs.Package.{SourceTree, Package}
 use Rattle.pkg_graph.specs.ModuleFiles.Pieces.{comes_before}
 use Rattle.go_tree.specs.GoTypes.Answers.{given}
-use Rattle.run_rules.specs.SpliceLaws.Dots.{ExprDots, ExprsDots, StmtDots, StmtsDots, SpecsDots, DeclDots, DeclsDots}
-use Rattle.run_rules.specs.SpliceLaws.Swaps.{an_operand, a_callee, a_stmt, a_deferred}
-use Rattle.run_rules.specs.SpliceLaws.ImportSplices.TypedDots.TypedDots.{AnyExpr}
-use Rattle.run_rules.specs.SpliceLaws.ImportSplices.TypedDots.Unspread.{UnspreadRest, UnspreadFile, UnspreadNew}
+use Rattle.splice_laws.specs.Dots.{ExprDots, ExprsDots, StmtDots, StmtsDots, SpecsDots, DeclDots, DeclsDots}
+use Rattle.splice_laws.specs.Swaps.{an_operand, a_callee, a_stmt, a_deferred}
+use Rattle.splice_laws.specs.ImportSplices.TypedDots.TypedDots.{AnyExpr}
+use Rattle.splice_laws.specs.ImportSplices.TypedDots.Unspread.{UnspreadRest, UnspreadFile, UnspreadNew}
 use Rattle.run_rules.specs.Surroundings.{Use, Place, Seen, seen, seen_type, seen_stmt, other, in_constant, value_use, alike}
 use Rattle.run_rules.specs.Places.{expr_seen}
 use Rattle.run_rules.specs.Programs.{numbered, numbered_from, is_ready, lesser, least_ready, ordered_after, in_dependency_order, top_place, body_place, constants_at_top, variables_at_top, types_at_top, receiver_seen, decl_seen}
@@ -26,9 +26,9 @@ use Rattle.run_rules.specs.Reduced.{Reduced, becomes, kept, range_of, names_in_f
 use Rattle.run_rules.specs.Texts.{dropped}
 use Rattle.run_rules.specs.Steps.{At, same_here, change_nth, changes_for, new_constants, new_variables, new_decl, new_decls}
 use Rattle.run_rules.specs.Run.{Standing, Logged, here_of, origin_of, is_commented, FormOf, Next, Run, ends, goes_on}
-use Rattle.run_rules.proofs.SpliceLaws.RunLaws.FoundSpans.{FoundIn, found_in}
-use Rattle.run_rules.specs.SpliceLaws.ImportSplices.FormSplices.Laws.{MakesForm}
-use Rattle.run_rules.proofs.SpliceLaws.ImportSplices.FormSplices.FormsFound.{step-makes-form}
+use Rattle.splice_laws.proofs.RunLaws.FoundSpans.{FoundIn, found_in}
+use Rattle.splice_laws.specs.ImportSplices.FormSplices.Laws.{MakesForm}
+use Rattle.splice_laws.proofs.ImportSplices.FormSplices.FormsFound.{step-makes-form}
 use Rattle.constant_steps.specs.WrittenLiteral.UnspreadForms.UnspreadForms.{UnspreadForm, UnspreadFiles, UnspreadPackages}
 use Rattle.constant_steps.proofs.WrittenLiteral.UnspreadForms.Spans.{decls-spanned, decls-unspanned, expr-bare, stmt-bare}
 use Rattle.constant_steps.proofs.WrittenLiteral.UnspreadForms.Rewritten.{expr-new, exprs-new, stmts-new}

@@ -14,11 +14,11 @@ use Rattle.run_rules.specs.declared.import_rules.new_import.Needed.{Needed}
 use Rattle.run_rules.specs.declared.import_rules.new_import.NewImport.{NewImport}
 use Rattle.run_rules.specs.ImportRules.SettledNames.{Wanted, AreNeeded, EachMeansIn, new_imports, settled_names}
 use Rattle.run_rules.specs.ImportRules.Unused.{AreImportsOf, AreUsed, unused_specs}
-use Rattle.run_rules.specs.SpliceLaws.ImportSplices.ImportPlaces.ReadFiles.{ReadsImportsOf}
+use Rattle.splice_laws.specs.ImportSplices.ImportPlaces.ReadFiles.{ReadsImportsOf}
 use Rattle.run_rules.specs.Marks.{text_at}
 use Rattle.run_rules.specs.Texts.{FileText}
 use Rattle.run_rules.specs.Inlining.{ModuleReads}
-use Rattle.run_rules.specs.SpliceLaws.RunLaws.Reading.{FileAt}
+use Rattle.splice_laws.specs.RunLaws.Reading.{FileAt}
 
 -- The text reads as a file with this one's package name and imports, and the names are those of these imports.
 pub record MaySettle (text : List ℕ) (file : File Span) (names : FileNames) : Type 0 where

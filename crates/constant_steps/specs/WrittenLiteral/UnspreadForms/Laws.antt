@@ -4,8 +4,8 @@ use Rattle.std.specs.Prelude.{◌≡◌, ℕ, Bool, List, Contains}
 use Rattle.go_tree.specs.declared.spans.Span.{Span}
 use Rattle.go_tree.specs.Tree.{Expr, Stmt, inner, Stmts}
 use Rattle.go_tree.specs.Bare.{bare_expr, bare_stmt}
-use Rattle.run_rules.specs.SpliceLaws.Swaps.{an_operand, a_callee, a_stmt, a_deferred}
-use Rattle.run_rules.specs.SpliceLaws.ImportSplices.TypedDots.Unspread.{UnspreadNew}
+use Rattle.splice_laws.specs.Swaps.{an_operand, a_callee, a_stmt, a_deferred}
+use Rattle.splice_laws.specs.ImportSplices.TypedDots.Unspread.{UnspreadNew}
 use Rattle.run_rules.specs.Sites.{MarkRef, Site, sites}
 use Rattle.run_rules.specs.Naming.{Named}
 use Rattle.run_rules.specs.FormTrees.{FormKind, Form, as_expr, as_dropped, as_block}

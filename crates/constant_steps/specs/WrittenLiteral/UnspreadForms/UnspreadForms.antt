@@ -2,9 +2,9 @@
 -- ... parameters).
 use Rattle.std.specs.Prelude.{List, [], ◌∷◌}
 use Rattle.pkg_graph.specs.Package.{SourceTree, Package}
-use Rattle.run_rules.specs.SpliceLaws.Dots.{StmtsDots}
-use Rattle.run_rules.specs.SpliceLaws.ImportSplices.TypedDots.TypedDots.{AnyExpr}
-use Rattle.run_rules.specs.SpliceLaws.ImportSplices.TypedDots.Unspread.{UnspreadRest, UnspreadExpr, UnspreadFile}
+use Rattle.splice_laws.specs.Dots.{StmtsDots}
+use Rattle.splice_laws.specs.ImportSplices.TypedDots.TypedDots.{AnyExpr}
+use Rattle.splice_laws.specs.ImportSplices.TypedDots.Unspread.{UnspreadRest, UnspreadExpr, UnspreadFile}
 use Rattle.run_rules.specs.FormTrees.{Form, as_expr, as_dropped, as_block, as_type}
 
 module _ {S : Type 0} where

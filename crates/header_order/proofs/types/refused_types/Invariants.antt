@@ -1,5 +1,5 @@
 use Rattle.std.proofs.Common.{◌≡◌, drop}
-use Rattle.finite_types.specs.RefusedTypes.Refusals.{AreTested}
+use Rattle.refused_headers.specs.Refusals.{AreTested}
 use Rattle.header_order.specs.Types.{TypesPassed}
 use Rattle.header_order.proofs.types.refused_types.Given as goal
 

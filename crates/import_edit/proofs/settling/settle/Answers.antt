@@ -4,7 +4,7 @@ use Rattle.go_tree.specs.declared.tokens.Token.{Token}
 use Rattle.go_tree.specs.FileView.{file_of}
 use Rattle.run_rules.specs.ImportRules.Laid.{CommentsAscend, Laid}
 use Rattle.run_rules.specs.ImportRules.Settled.{settled}
-use Rattle.run_rules.proofs.SpliceLaws.ImportSplices.ImportPlaces.CommentsStand.{comments_ascend}
+use Rattle.splice_laws.proofs.ImportSplices.ImportPlaces.CommentsStand.{comments_ascend}
 use Rattle.import_edit.proofs.ReadLaws.{read_laid, settled_once}
 use Rattle.import_edit.proofs.settling.settle.Goals as goal
 

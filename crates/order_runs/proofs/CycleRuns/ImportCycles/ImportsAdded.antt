@@ -12,7 +12,7 @@ use Rattle.run_rules.specs.Naming.{imports_added}
 use Rattle.run_rules.specs.Sites.{MarkRef, Where, Site, where_is}
 use Rattle.run_rules.specs.Steps.{At, change_nth, added_decls}
 use Rattle.run_rules.specs.Run.{Standing, Logged, Next, here_of}
-use Rattle.run_rules.proofs.SpliceLaws.RunLaws.FoundSpans.{Placed}
+use Rattle.splice_laws.proofs.RunLaws.FoundSpans.{Placed}
 use Rattle.typed_in_place.specs.ProgramsAlike.{OneByOne}
 use Rattle.typed_in_place.proofs.ProgramsReplaced.{each_one}
 use Rattle.order_runs.proofs.CycleRuns.StepCycles.AlikeStay.{OptionBy, neither, each, get-by, at-both}

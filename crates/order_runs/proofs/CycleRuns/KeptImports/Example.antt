@@ -7,8 +7,8 @@ use Rattle.go_tree.specs.declared.exprs.Rest.TheVariants.{Plain}
 use Rattle.go_tree.specs.Tree.{NameAt, Expr, ident, int_lit, selector, call, no_exprs, expr_and, Stmt, define, eval, no_stmts, stmt_and}
 use Rattle.go_tree.specs.File.{ImportSpec, ImportDecl, Decl, func}
 use Rattle.run_rules.specs.declared.import_rules.new_import.NewImport.{NewImport}
-use Rattle.run_rules.specs.SpliceLaws.ImportSplices.AddedFile.{added_spec}
-use Rattle.run_rules.specs.SpliceLaws.ImportSplices.SettledFile.{settled_decls}
+use Rattle.splice_laws.specs.ImportSplices.AddedFile.{added_spec}
+use Rattle.splice_laws.specs.ImportSplices.SettledFile.{settled_decls}
 use Rattle.pkg_graph.specs.Package.{Package, specs_in}
 use Rattle.order_runs.specs.CycleRuns.ImportCycles.LookedUp.{decl_looked_up}
 use Rattle.order_runs.specs.CycleRuns.ImportCycles.OtherImports.{import_path}

@@ -19,11 +19,11 @@ use Rattle.text_edits.specs.Applied.{applied}
 use Rattle.run_rules.specs.declared.import_rules.new_import.NewImport.{NewImport}
 use Rattle.run_rules.specs.ImportRules.Removed.{same_span}
 use Rattle.run_rules.specs.ImportRules.Settled.{settled}
-use Rattle.run_rules.specs.SpliceLaws.ImportSplices.AddedFile.{AreWritable}
-use Rattle.run_rules.specs.SpliceLaws.ImportSplices.SettledFile.{settled_decls, with_settled}
-use Rattle.run_rules.proofs.SpliceLaws.ImportSplices.FormsToo.{form_settled_go}
-use Rattle.run_rules.specs.SpliceLaws.Splice.{ReadsAs}
-use Rattle.run_rules.specs.SpliceLaws.Swaps.{Swap, FileIn, in_decls}
+use Rattle.splice_laws.specs.ImportSplices.AddedFile.{AreWritable}
+use Rattle.splice_laws.specs.ImportSplices.SettledFile.{settled_decls, with_settled}
+use Rattle.splice_laws.proofs.ImportSplices.FormsToo.{form_settled_go}
+use Rattle.splice_laws.specs.Splice.{ReadsAs}
+use Rattle.splice_laws.specs.Swaps.{Swap, FileIn, in_decls}
 use Rattle.pkg_graph.specs.Package.{Package, specs_in, import_specs}
 use Rattle.pkg_graph.specs.Members.{import_name}
 use Rattle.go_tree.specs.GoTypes.Agreement.{In}

@@ -8,7 +8,7 @@ use Rattle.go_tree.specs.Bare.{bare_name}
 use Rattle.go_tree.specs.FileBare.{bare_import_spec, bare_import_decl}
 use Rattle.run_rules.specs.declared.import_rules.new_import.NewImport.{NewImport}
 use Rattle.run_rules.specs.ImportRules.SpecText.{is_before, put, in_order}
-use Rattle.run_rules.specs.SpliceLaws.ImportSplices.AddedFile.{added_spec}
+use Rattle.splice_laws.specs.ImportSplices.AddedFile.{added_spec}
 use Rattle.pkg_graph.specs.Package.{Package, specs_in}
 use Rattle.pkg_graph.specs.Members.{package_name, name_or, import_name}
 use Rattle.go_tree.specs.GoTypes.Answers.{given, one_of}

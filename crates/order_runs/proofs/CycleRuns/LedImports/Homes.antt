@@ -22,7 +22,7 @@ use Rattle.run_rules.specs.Sites.{MarkRef, is_among_marks, Where, Inlinable, a_c
 use Rattle.run_rules.specs.Steps.{At, same_here, Found, found_by, first_found, first_step}
 use Rattle.run_rules.specs.Run.{Standing, Logged, Next, here_of, is_commented}
 use Rattle.run_rules.specs.Reduced.{Reduced, becomes, kept, reduced}
-use Rattle.run_rules.proofs.SpliceLaws.RunLaws.FoundSpans.{Placed}
+use Rattle.splice_laws.proofs.RunLaws.FoundSpans.{Placed}
 use Rattle.order_runs.proofs.CycleRuns.ImportCycles.ImportStep.{placed}
 use Rattle.order_runs.proofs.CycleRuns.OrderedSteps.Members.{in-front, in-back}
 use Rattle.order_runs.specs.CycleRuns.LedImports.Led.{IsNamed, HomeIsLed}

@@ -9,7 +9,7 @@ use Rattle.run_rules.specs.Rewriting.{Changes}
 use Rattle.run_rules.specs.Sites.{MarkRef, Site, part_span}
 use Rattle.run_rules.specs.Steps.{At, same_here, change_nth, changes_for}
 use Rattle.run_rules.specs.Run.{Standing, Logged, Next, here_of}
-use Rattle.run_rules.proofs.SpliceLaws.RunLaws.FoundSpans.{Placed}
+use Rattle.splice_laws.proofs.RunLaws.FoundSpans.{Placed}
 use Rattle.typed_in_place.specs.ProgramsAlike.{OneByOne}
 use Rattle.typed_in_place.proofs.ProgramsReplaced.{each_one, one_by_one}
 use Rattle.order_runs.proofs.CycleLaws.StepsLead.{change-at}

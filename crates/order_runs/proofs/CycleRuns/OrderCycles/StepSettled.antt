@@ -15,7 +15,7 @@ use Rattle.run_rules.specs.Sites.{MarkRef, Site, part_span}
 use Rattle.run_rules.specs.Steps.{At, same_here, change_nth, changes_for, new_decl, with_file}
 use Rattle.run_rules.specs.Cycles.{is_recursive}
 use Rattle.run_rules.specs.Run.{Standing, Logged, Next, Run, ends, goes_on, here_of, origin_of}
-use Rattle.run_rules.proofs.SpliceLaws.RunLaws.FoundSpans.{Placed}
+use Rattle.splice_laws.proofs.RunLaws.FoundSpans.{Placed}
 use Rattle.typed_in_place.specs.ProgramsAlike.{OneByOne, no_more, and_more}
 use Rattle.typed_in_place.specs.ProgramReplaced.{at_last}
 use Rattle.typed_in_place.proofs.ProgramsReplaced.{one_by_one}

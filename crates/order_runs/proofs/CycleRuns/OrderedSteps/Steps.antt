@@ -13,7 +13,7 @@ use Rattle.run_rules.specs.Naming.{imports_added}
 use Rattle.run_rules.specs.Sites.{MarkRef, Where}
 use Rattle.run_rules.specs.Steps.{At, same_here, change_nth, with_file, spec_for, added_decls}
 use Rattle.run_rules.specs.Run.{Standing, Logged, Next, here_of}
-use Rattle.run_rules.proofs.SpliceLaws.RunLaws.FoundSpans.{Placed}
+use Rattle.splice_laws.proofs.RunLaws.FoundSpans.{Placed}
 use Rattle.order_runs.specs.CycleRuns.ImportCycles.ImportSteps.{file_added, packages_added}
 use Rattle.order_runs.proofs.CycleRuns.ImportCycles.ImportStep.{placed}
 use Rattle.order_runs.specs.CycleRuns.OrderCycles.Orders.{AllOrdered}

@@ -20,7 +20,7 @@ use Rattle.run_rules.specs.Respanned.{decl_with, decls_with}
 use Rattle.run_rules.specs.Sites.{MarkRef, Inlinable, an_alias, constant_in_spec, nth_constant, less, aliased, inlinable_in, Site, part_span}
 use Rattle.run_rules.specs.Steps.{At, same_here, change_nth, changes_for, new_constants, new_variables, new_receiver_option, new_type_spec, new_decl}
 use Rattle.run_rules.specs.Run.{Standing, Logged, Next, here_of, origin_of, is_commented}
-use Rattle.run_rules.proofs.SpliceLaws.RunLaws.FoundSpans.{Placed, FoundIn, found_in}
+use Rattle.splice_laws.proofs.RunLaws.FoundSpans.{Placed, FoundIn, found_in}
 use Rattle.typed_in_place.specs.ProgramsAlike.{OneByOne, no_more, and_more}
 use Rattle.typed_in_place.proofs.ProgramsReplaced.{each_one}
 use Rattle.order_runs.proofs.CycleLaws.BareWith as spans

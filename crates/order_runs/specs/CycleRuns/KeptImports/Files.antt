@@ -10,11 +10,11 @@ use Rattle.run_rules.specs.ImportRules.Removed.{same_span}
 use Rattle.pkg_graph.specs.Package.{import_specs}
 use Rattle.pkg_graph.specs.Members.{import_name}
 use Rattle.go_tree.specs.GoTypes.Agreement.{In}
-use Rattle.run_rules.specs.SpliceLaws.Swaps.{Swap}
-use Rattle.run_rules.specs.SpliceLaws.Fits.{swap_mark}
-use Rattle.run_rules.specs.SpliceLaws.Forms.{new_layout}
-use Rattle.run_rules.specs.SpliceLaws.Splice.{splice, IsPut}
-use Rattle.run_rules.specs.SpliceLaws.ImportSplices.SettledFile.{settled_decls}
+use Rattle.splice_laws.specs.Swaps.{Swap}
+use Rattle.splice_laws.specs.Fits.{swap_mark}
+use Rattle.splice_laws.specs.Forms.{new_layout}
+use Rattle.splice_laws.specs.Splice.{splice, IsPut}
+use Rattle.splice_laws.specs.ImportSplices.SettledFile.{settled_decls}
 use Rattle.run_rules.specs.Sites.{MarkRef}
 use Rattle.run_rules.specs.Naming.{imports_added}
 use Rattle.run_rules.specs.Texts.{form_edit}

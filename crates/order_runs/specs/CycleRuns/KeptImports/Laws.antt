@@ -1,7 +1,7 @@
 -- The laws of the imports of a file as a step leaves it. Each is the contract of a function of this crate (Go
 -- specification, Import declarations; Declarations and scope).
 use Rattle.std.specs.Prelude.{List}
-use Rattle.run_rules.specs.SpliceLaws.ImportSplices.AddedFile.{AreWritable}
+use Rattle.splice_laws.specs.ImportSplices.AddedFile.{AreWritable}
 use Rattle.run_rules.specs.Sites.{MarkRef}
 use Rattle.run_rules.specs.Naming.{imports_added}
 use Rattle.run_rules.specs.Run.{Standing, Logged, Next}

@@ -15,10 +15,10 @@ use Rattle.run_rules.specs.Sites.{MarkRef, Where, an_expr, a_constant, Site, inl
 use Rattle.run_rules.specs.Forms.{is_at}
 use Rattle.run_rules.specs.Steps.{At, same_here, Found}
 use Rattle.run_rules.specs.Run.{Standing, here_of, is_commented, step_in}
-use Rattle.run_rules.specs.SpliceLaws.RunLaws.Reading.{FileReads, FileAt, ProgramReads}
-use Rattle.run_rules.proofs.SpliceLaws.RunLaws.FoundSpans.{Placed, FoundIn, found_in}
-use Rattle.run_rules.specs.SpliceLaws.ImportSplices.FormSplices.Laws.{MakesForm}
-use Rattle.run_rules.proofs.SpliceLaws.ImportSplices.FormSplices.FormsFound.{IsForm, first-form}
+use Rattle.splice_laws.specs.RunLaws.Reading.{FileReads, FileAt, ProgramReads}
+use Rattle.splice_laws.proofs.RunLaws.FoundSpans.{Placed, FoundIn, found_in}
+use Rattle.splice_laws.specs.ImportSplices.FormSplices.Laws.{MakesForm}
+use Rattle.splice_laws.proofs.ImportSplices.FormSplices.FormsFound.{IsForm, first-form}
 use Rattle.constant_steps.proofs.NamesOutside.{equal_numbers}
 use Rattle.order_runs.proofs.RunSteps.SeatedUses.{Among, first, later, Seated, sites-seated}
 use Rattle.order_runs.proofs.RunSteps.TokenPlaces.{tokens-rise}
@@ -37,11 +37,11 @@ use Rattle.constant_steps.specs.FormImports.ImportLaws.Steps.{names_standing}
 use Rattle.constant_steps.proofs.FormImports.ImportLaws.GraphImports.{map_twice}
 use Rattle.constant_steps.specs.PlaceMeanings.Laws.{AreNamesOf}
 use Rattle.constant_steps.proofs.PlaceMeanings.PlacesMean.{files_named}
-use Rattle.constant_forms.specs.declared.uses.ConstantUse.{ConstantUse}
-use Rattle.constant_forms.specs.declared.reduced.ConstantForm.{ConstantForm}
-use Rattle.constant_forms.specs.declared.reduced.ReducedConstant.TheVariants.{Becomes}
-use Rattle.constant_forms.specs.Views.{form_of, reduced_of}
-use Rattle.constant_forms.specs.Uses.{IsUse, IsReducedTo}
+use Rattle.constant_edits.specs.ConstantUse.{ConstantUse}
+use Rattle.constant_edits.specs.ConstantForm.{ConstantForm}
+use Rattle.constant_edits.specs.ReducedConstant.TheVariants.{Becomes}
+use Rattle.constant_edits.specs.Views.{form_of, reduced_of}
+use Rattle.constant_edits.specs.Uses.{IsUse, IsReducedTo}
 use Rattle.repeated_parts.specs.ImportsUnused.Uses.{all_parts}
 use Rattle.repeated_parts.specs.ImportsUnused.Told.{IsTold}
 use Rattle.printed_constants.specs.TypedParts.StandingUses.ImportUses.Steps.{StepsSwapUses}

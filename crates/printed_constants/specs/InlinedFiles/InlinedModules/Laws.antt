@@ -14,7 +14,7 @@ use Rattle.run_rules.specs.Respanned.{packages_with}
 use Rattle.run_rules.specs.Run.{Standing, Logged, Run, here_of, texts_size, the_limits}
 use Rattle.run_rules.specs.Sites.{MarkRef}
 use Rattle.run_rules.specs.Texts.{FileText}
-use Rattle.run_rules.specs.SpliceLaws.ImportSplices.AddedFile.{is_byte}
+use Rattle.splice_laws.specs.ImportSplices.AddedFile.{is_byte}
 use Rattle.constant_steps.specs.WrittenLiteral.UnspreadForms.UnspreadForms.{UnspreadPackages}
 use Rattle.order_runs.specs.RunSteps.RunPackages.{packages_of}
 use Rattle.printed_constants.specs.TypedParts.MarkedRuns.Marked.{AllOverNames}
@@ -22,7 +22,7 @@ use Rattle.printed_constants.specs.TypedParts.MarkedRuns.NamedMarks.Named.{AllNa
 use Rattle.printed_constants.specs.TypedParts.MarkedRuns.SettledConstants.Programs.{IsReady}
 use Rattle.printed_constants.specs.TypedParts.MarkedRuns.TakenNames.Laws.{KeptByRun}
 use Rattle.printed_constants.specs.TypedParts.MarkedRuns.TakenNames.Taken.{AllTake}
-use Rattle.printed_constants.specs.Printed.{ArePrinted}
+use Rattle.run_rules.specs.Printed.{ArePrinted}
 use Rattle.printed_constants.specs.PrintedRuns.Laws.{StaysWithin}
 use Rattle.printed_constants.specs.InlinedFiles.Files.{AllWrite}
 use Rattle.printed_constants.specs.InlinedFiles.InlinedModules.Modules.{IsInlinedModule}

@@ -13,12 +13,12 @@ use Rattle.run_rules.specs.Steps.{At, same_here, Found, new_decls, packages_betw
 use Rattle.run_rules.specs.Run.{Standing, Logged, Next, here_of, is_commented}
 use Rattle.run_rules.specs.Respanned.{decls_with, expr_with}
 use Rattle.run_rules.specs.Laws.{file_found}
-use Rattle.run_rules.specs.SpliceLaws.RunLaws.Reading.{ProgramReads}
-use Rattle.constant_forms.specs.declared.uses.ConstantUse.{ConstantUse}
-use Rattle.constant_forms.specs.declared.reduced.ConstantForm.{ConstantForm}
-use Rattle.constant_forms.specs.declared.reduced.ReducedConstant.TheVariants.{Becomes}
-use Rattle.constant_forms.specs.Views.{name_expr}
-use Rattle.constant_forms.specs.Uses.{IsUse, IsReducedTo}
+use Rattle.splice_laws.specs.RunLaws.Reading.{ProgramReads}
+use Rattle.constant_edits.specs.ConstantUse.{ConstantUse}
+use Rattle.constant_edits.specs.ConstantForm.{ConstantForm}
+use Rattle.constant_edits.specs.ReducedConstant.TheVariants.{Becomes}
+use Rattle.constant_edits.specs.Views.{name_expr}
+use Rattle.constant_edits.specs.Uses.{IsUse, IsReducedTo}
 use Rattle.repeated_parts.specs.ImportsUnused.Uses.{all_parts}
 use Rattle.repeated_parts.specs.ImportsUnused.Told.{IsTold}
 use Rattle.printed_constants.specs.TypedParts.StandingUses.ImportUses.Parts.{IsName, IsNoImport, StandsOnce}

@@ -14,7 +14,7 @@ use Rattle.run_rules.specs.Respanned.{name_with, expr_with, exprs_with, specs_wi
 use Rattle.run_rules.specs.Steps.{At}
 use Rattle.run_rules.specs.Run.{here_of}
 use Rattle.member_uses.specs.Uses.{Names}
-use Rattle.constant_steps.specs.PlaceMeanings.Parts.{AtParts}
+use Rattle.member_uses.specs.Parts.{AtParts}
 use Rattle.repeated_parts.specs.declared.use_search.mark_values.values.DeclaredValue.{DeclaredValue}
 use Rattle.repeated_parts.specs.UseSearch.MarkValues.Values.{expr_value, spec_values, specs_values, decl_values}
 use Rattle.repeated_parts.proofs.UseSearch.MarkValues.Written.{IsWritten, expr_written, FormedTop}

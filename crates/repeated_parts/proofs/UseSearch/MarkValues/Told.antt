@@ -25,9 +25,9 @@ use Rattle.run_rules.specs.Sites.{MarkRef, Where, a_constant, is_among_marks, ma
 use Rattle.run_rules.specs.Respanned.{expr_with, decl_with, file_with, packages_with}
 use Rattle.run_rules.specs.Steps.{At}
 use Rattle.run_rules.specs.Run.{here_of}
-use Rattle.constant_steps.specs.PlaceMeanings.Agreement.{target_of, AgreesAt}
-use Rattle.constant_steps.specs.PlaceMeanings.Parts.{AtParts}
-use Rattle.constant_steps.proofs.PlaceMeanings.PlacesMean.{places_mean}
+use Rattle.member_uses.specs.Agreement.{target_of, AgreesAt}
+use Rattle.member_uses.specs.Parts.{AtParts}
+use Rattle.member_uses.proofs.PlacesMean.{places_mean}
 use Rattle.member_uses.specs.Uses.{Names, imported_package, import_at}
 use Rattle.member_uses.specs.Views.{names_in}
 use Rattle.member_uses.specs.declared.names.FileScopes.{FileScopes}

@@ -11,9 +11,9 @@ use Rattle.run_rules.specs.Sites.{MarkRef, Where, Part, an_expr, a_type_part, Si
 use Rattle.run_rules.specs.Respanned.{decl_with, decls_with, file_with, packages_with}
 use Rattle.run_rules.specs.Steps.{At}
 use Rattle.run_rules.specs.Run.{here_of}
-use Rattle.constant_steps.specs.PlaceMeanings.Agreement.{AgreesAt}
-use Rattle.constant_steps.specs.PlaceMeanings.Parts.{AtTypes, AtPart, AtParts}
-use Rattle.constant_steps.proofs.PlaceMeanings.PlacesMean.{places_mean}
+use Rattle.member_uses.specs.Agreement.{AgreesAt}
+use Rattle.member_uses.specs.Parts.{AtTypes, AtPart, AtParts}
+use Rattle.member_uses.proofs.PlacesMean.{places_mean}
 use Rattle.member_uses.specs.PossibleUses.Parts.{parts_of}
 use Rattle.member_uses.specs.Uses.{Used, Names}
 use Rattle.member_uses.specs.Laws.{AllConstants, Knows}

@@ -10,8 +10,8 @@ use Rattle.run_rules.specs.Sites.{MarkRef, Where, a_constant, is_among_marks, wh
 use Rattle.run_rules.specs.Respanned.{file_with, packages_with}
 use Rattle.run_rules.specs.Steps.{At}
 use Rattle.run_rules.specs.Run.{here_of}
-use Rattle.constant_steps.specs.FormImports.ImportLaws.Steps.{names_standing}
-use Rattle.constant_steps.specs.PlaceMeanings.Parts.{AllScoped}
+use Rattle.member_uses.specs.Steps.{names_standing}
+use Rattle.member_uses.specs.Parts.{AllScoped}
 use Rattle.member_uses.specs.declared.names.FileScopes.{FileScopes}
 use Rattle.member_uses.specs.Laws.{Knows}
 use Rattle.member_uses.specs.Views.{names_in}

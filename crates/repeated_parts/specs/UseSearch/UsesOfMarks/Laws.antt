@@ -8,8 +8,8 @@ use Rattle.run_rules.specs.Sites.{MarkRef, Where, Site, part_span, is_among_mark
 use Rattle.run_rules.specs.Respanned.{file_with, decls_with, packages_with}
 use Rattle.run_rules.specs.Steps.{At}
 use Rattle.run_rules.specs.Run.{here_of}
-use Rattle.constant_steps.specs.PlaceMeanings.Agreement.{AgreesAt}
-use Rattle.constant_steps.specs.PlaceMeanings.Parts.{AllScoped}
+use Rattle.member_uses.specs.Agreement.{AgreesAt}
+use Rattle.member_uses.specs.Parts.{AllScoped}
 use Rattle.member_uses.specs.PossibleUses.Among.{Keyed}
 use Rattle.member_uses.specs.PossibleUses.Parts.{parts_of}
 use Rattle.member_uses.specs.Uses.{Names, member_uses}

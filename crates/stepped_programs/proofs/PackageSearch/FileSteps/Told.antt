@@ -16,7 +16,7 @@ use Rattle.run_rules.specs.Texts.{FileText}
 use Rattle.run_rules.specs.Steps.{At, Found, same_here, unused_specs}
 use Rattle.run_rules.specs.Run.{Standing, here_of, is_commented}
 use Rattle.constant_forms.specs.declared.reduced.ConstantForm.{ConstantForm}
-use Rattle.constant_edits.specs.Edits.{IsStep}
+use Rattle.printed_constants.specs.Edits.{IsStep}
 use Rattle.repeated_parts.specs.ImportsUnused.Uses.{all_parts}
 use Rattle.repeated_parts.specs.ImportsUnused.Told.{IsTold}
 use Rattle.next_file.specs.declared.file.FileFault.{FileFault}

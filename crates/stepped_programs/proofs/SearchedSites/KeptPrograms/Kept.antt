@@ -7,7 +7,7 @@ use Rattle.std.proofs.lemmas.Option.{same_Some, slice_get_within}
 use Rattle.go_tree.specs.declared.spans.Span.{Span}
 use Rattle.go_scan.specs.TokenLists.{TokenLists}
 use Rattle.run_rules.specs.ImportRules.Laid.{CommentsAscend}
-use Rattle.run_rules.proofs.SpliceLaws.ImportSplices.ImportPlaces.CommentsStand.{comments_ascend}
+use Rattle.splice_laws.proofs.ImportSplices.ImportPlaces.CommentsStand.{comments_ascend}
 use Rattle.pkg_graph.specs.Package.{Package}
 use Rattle.pkg_graph.specs.Reads.{Source}
 use Rattle.pkg_graph.specs.Views.{package_view, source_of}

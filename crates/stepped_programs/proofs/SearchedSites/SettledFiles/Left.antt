@@ -10,8 +10,8 @@ use Rattle.pkg_graph.specs.Members.{Target, package_block, import_name}
 use Rattle.constant_steps.specs.FormImports.ImportLaws.Steps.{names_standing}
 use Rattle.member_uses.specs.Uses.{Names}
 use Rattle.member_uses.specs.Laws.{Knows}
-use Rattle.run_rules.specs.SpliceLaws.RunLaws.Reading.{FileAt, OnePathEach}
-use Rattle.run_rules.proofs.SpliceLaws.RunLaws.RunsRead.{texts_other}
+use Rattle.splice_laws.specs.RunLaws.Reading.{FileAt, OnePathEach}
+use Rattle.splice_laws.proofs.RunLaws.RunsRead.{texts_other}
 use Rattle.run_rules.specs.Inlining.{ReadsAs}
 use Rattle.run_rules.specs.Marks.{text_at}
 use Rattle.run_rules.specs.Programs.{package_number}

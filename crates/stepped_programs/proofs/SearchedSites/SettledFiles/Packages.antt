@@ -13,7 +13,7 @@ use Rattle.run_rules.specs.Respanned.{package_with, packages_with}
 use Rattle.run_rules.specs.Run.{Standing, Logged, Next, here_of, origin_of, is_commented}
 use Rattle.run_rules.specs.Sites.{MarkRef, Site, part_span, members_in, member_of}
 use Rattle.run_rules.specs.Steps.{At, same_here, change_nth, changes_for, new_decls}
-use Rattle.run_rules.proofs.SpliceLaws.RunLaws.FoundSpans.{Placed, FoundIn, found_in}
+use Rattle.splice_laws.proofs.RunLaws.FoundSpans.{Placed, FoundIn, found_in}
 use Rattle.repeated_parts.proofs.UseSearch.UsesOfMarks.BlocksStay.{block_stays}
 use Rattle.module_marks.specs.Tables.{blocks_from, blocks_of}
 use Rattle.stepped_programs.proofs.SearchedSites.SettledFiles.Named.{decls_stay, decls_kept}

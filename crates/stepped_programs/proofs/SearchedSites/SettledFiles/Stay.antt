@@ -14,7 +14,7 @@ use Rattle.member_uses.specs.Uses.{Names}
 use Rattle.module_marks.specs.Views.{mark_ref_of}
 use Rattle.stepped_programs.specs.PackageSearch.Search.{is_settled}
 use Rattle.pkg_graph.specs.Package.{SourceTree, Package}
-use Rattle.run_rules.specs.SpliceLaws.RunLaws.Reading.{OnePathEach}
+use Rattle.splice_laws.specs.RunLaws.Reading.{OnePathEach}
 use Rattle.run_rules.specs.Programs.{numbered}
 use Rattle.run_rules.specs.Respanned.{decls_with, packages_with}
 use Rattle.run_rules.specs.Run.{Standing, Logged, Next, here_of}

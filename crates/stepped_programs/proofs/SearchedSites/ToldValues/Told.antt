@@ -22,7 +22,7 @@ use Rattle.repeated_parts.specs.UseSearch.MarkValues.Tables.{value_in}
 use Rattle.repeated_parts.specs.UseSearch.MarkValues.Laws.{Tells, TablesTellValues}
 use Rattle.repeated_parts.specs.UseSearch.MarkValues.Values.{expr_value}
 use Rattle.repeated_parts.proofs.UseSearch.MarkValues.Written.{IsWritten}
-use Rattle.put_names.specs.Uses.{IsDeclaredAsName, as_name, as_member}
+use Rattle.printed_constants.specs.Uses.{IsDeclaredAsName, as_name, as_member}
 use Rattle.stepped_programs.specs.SearchedSites.Told.{IsWithin, IsToldValue}
 use Rattle.stepped_programs.specs.SearchedSites.ToldValues.Laws.{ValuesAreTold}
 use Rattle.stepped_programs.proofs.SearchedSites.ToldValues.Gathered.{value_gathered, value_written}

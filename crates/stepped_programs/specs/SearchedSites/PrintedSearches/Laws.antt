@@ -3,12 +3,12 @@
 use Rattle.std.specs.Prelude.{◌≤◌, List}
 use Rattle.repeated_parts.specs.UseSearch.UsesOfMarks.Laws.{EachSound}
 use Rattle.member_uses.specs.Uses.{Names}
-use Rattle.run_rules.specs.SpliceLaws.RunLaws.Reading.{ProgramReads, OnePathEach}
+use Rattle.splice_laws.specs.RunLaws.Reading.{ProgramReads, OnePathEach}
 use Rattle.run_rules.specs.Run.{Standing, texts_size, the_limits}
 use Rattle.run_rules.specs.Sites.{MarkRef, Where}
 use Rattle.run_rules.specs.Steps.{At}
 use Rattle.stepped_programs.specs.SearchedSites.OrderedSearches.Held.{IsThere, IsSearchable}
-use Rattle.printed_constants.specs.Printed.{ArePrinted}
+use Rattle.run_rules.specs.Printed.{ArePrinted}
 
 -- The declarations of each file are as marked_uses asks, by whatever names.
 abbrev pub PrintedFilesAreSound : Type 0

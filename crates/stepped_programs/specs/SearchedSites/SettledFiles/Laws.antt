@@ -12,7 +12,7 @@ use Rattle.member_uses.specs.Laws.{Knows}
 use Rattle.module_marks.specs.declared.table.MarkTable.{MarkTable}
 use Rattle.module_marks.specs.Tables.{IsTableOf}
 use Rattle.stepped_programs.specs.declared.package_search.looks.ProgramSources.{ProgramSources}
-use Rattle.run_rules.specs.SpliceLaws.RunLaws.Reading.{OnePathEach}
+use Rattle.splice_laws.specs.RunLaws.Reading.{OnePathEach}
 use Rattle.run_rules.specs.Respanned.{file_with, packages_with}
 use Rattle.run_rules.specs.Run.{Standing, Logged, Next, here_of}
 use Rattle.run_rules.specs.Sites.{MarkRef, Where, Site}

@@ -12,7 +12,7 @@ use Rattle.run_rules.specs.Steps.{At}
 use Rattle.repeated_parts.specs.declared.use_search.mark_values.marked.PackageScopes.{PackageScopes}
 use Rattle.repeated_parts.specs.UseSearch.MarkValues.Laws.{IsDeclared}
 use Rattle.repeated_parts.specs.UseSearch.MarkValues.Tables.{Known, value_in, AreValuesOf}
-use Rattle.put_names.specs.Uses.{IsDeclaredAsName}
+use Rattle.printed_constants.specs.Uses.{IsDeclaredAsName}
 use Rattle.stepped_programs.specs.SearchedSites.Told.{IsToldValue}
 
 -- Of each marked constant that is declared as a name the table tells what it is declared as.

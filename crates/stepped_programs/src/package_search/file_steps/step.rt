@@ -11,12 +11,12 @@ ghost use Rattle.next_file.specs.Limits.{Passes};
 ghost use Rattle.stepped_programs.specs.PackageSearch.FileSteps.Steps.{IsStepFault, MakesEdits, MakesUnused};
 
 use crate::package_search::file_steps::used::used_expr;
-use constant_edits::step_edits;
 use constant_forms::ConstantForm;
 use go_scan::Tokens;
 use go_tree::{MAX_FILE_BYTES, NoMemory, Span};
 use member_uses::possible_uses::PartRef;
 use next_file::{FileFault, NewFile, Progress, new_file};
+use printed_constants::step_edits;
 use repeated_parts::use_search::FileView;
 use repeated_parts::{file_parts, unused_imports};
 use std::alloc::Global;

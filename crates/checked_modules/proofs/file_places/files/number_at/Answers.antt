@@ -1,6 +1,6 @@
 use Rattle.std.proofs.Common.{ap, sym}
 use Rattle.package_blocks.proofs.NumberLemmas.{item_gone, item_there}
-use Rattle.header_order.specs.FirstRefusals.Files.{number_in}
+use Rattle.collected.specs.FirstRefusalsFiles.{number_in}
 use Rattle.checked_modules.proofs.file_places.files.number_at.Goals as goal
 
 pub returns-in-Some : goal.returns-in-Some

@@ -1,5 +1,5 @@
 use Rattle.std.proofs.Common.{◌≡◌, ◌∙◌, ◌≤◌, length, subst}
-use Rattle.header_order.specs.Files.{counts_of, first_marks, total}
+use Rattle.collected.specs.Files.{counts_of, first_marks, total}
 use Rattle.checked_modules.proofs.FilePlaces.PlaceLemmas.{firsts_found}
 use Rattle.checked_modules.proofs.file_places.headers.first_headers.Goals as goal
 

@@ -5,7 +5,7 @@ use Rattle.go_tree.specs.FileView.{file_of}
 use Rattle.pkg_graph.specs.Package as pure
 use Rattle.pkg_graph.specs.Package.{import_specs}
 use Rattle.package_blocks.specs.Imports.{views}
-use Rattle.initial_values.specs.ValuePlaces.Places.{IsValuePlace}
+use Rattle.collected.specs.Places.{IsValuePlace}
 use Rattle.checked_modules.proofs.FilePlaces.ImportLemmas.{names_same, own_is}
 use Rattle.checked_modules.proofs.file_places.imports.own_place.Goals as goal
 

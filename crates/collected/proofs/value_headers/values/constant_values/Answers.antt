@@ -4,7 +4,7 @@ use Rattle.go_tree.specs.GoTypes.Programs.{constants}
 use Rattle.package_blocks.specs.Headers.{repeated_type, repeated_values}
 use Rattle.initial_values.specs.Spelled.{AllHaveGoodLiterals}
 use Rattle.collected.specs.ValueHeaders.Values.{GivesValues}
-use Rattle.expr_walk.proofs.WalkArms.ExprArms.{at}
+use Rattle.initial_values.proofs.ExprArms.{at}
 use Rattle.collected.proofs.ValueHeaders.ValueLemmas.{nothing_given}
 use Rattle.collected.proofs.value_headers.values.constant_values.Goals as goal
 

@@ -1,5 +1,5 @@
 use Rattle.std.proofs.Common.{◌∙◌, ◌<◌, ◌^◌, sym, ap, subst, List, length}
-use Rattle.header_order.specs.FirstRefusals.Declarations.{refusal_of}
+use Rattle.checked_modules.specs.Declarations.{refusal_of}
 use Rattle.pkg_graph.specs.declared.packages.Package.{Package}
 use Rattle.fix_run.proofs.PlannedModules.TypingFaults.{are_ordered, are_spelled, prints_views, typed_none, typed_some}
 use Rattle.fix_run.proofs.planned_modules.places.typing_fault.Goals as goal

@@ -25,7 +25,7 @@ use Rattle.run_rules.specs.Sites.{MarkRef, Where, Site, a_constant, part_span, w
 use Rattle.run_rules.specs.Steps.{At, same_here, change_nth, changes_for, means_import, named_by_import}
 use Rattle.run_rules.specs.Places.{expr_seen}
 use Rattle.run_rules.specs.Surroundings.{Seen, seen, other, inner_slot, in_slot}
-use Rattle.run_rules.proofs.SpliceLaws.RunLaws.FoundSpans.{Placed}
+use Rattle.splice_laws.proofs.RunLaws.FoundSpans.{Placed}
 use Rattle.order_runs.proofs.RunSteps.SeatedUses.{Among, first}
 use Rattle.constant_steps.proofs.MarksFound.{StandsThere, stands_there, DeclaredThere, declared_there}
 use Rattle.printed_constants.specs.TypedParts.StandingUses.ImportUses.Parts.{IsNoImport}

@@ -28,7 +28,7 @@ use Rattle.run_rules.specs.Steps.{At}
 use Rattle.run_rules.specs.Texts.{FileText}
 use Rattle.run_rules.specs.Run.{as_read}
 use Rattle.run_rules.specs.Inlining.{ReadsAs, ModuleReads}
-use Rattle.run_rules.proofs.SpliceLaws.RunLaws.PathsOwn.{HasText, its_text}
+use Rattle.splice_laws.proofs.RunLaws.PathsOwn.{HasText, its_text}
 use Rattle.constant_steps.proofs.MarksFound.{StandsThere, stands_there, DeclaredThere, declared_there, nth_mapped}
 use Rattle.order_runs.specs.CycleRuns.ImportCycles.OtherImports.{import_path}
 use Rattle.order_runs.proofs.CycleRuns.ImportCycles.ImportPaths.{qualifier-read}

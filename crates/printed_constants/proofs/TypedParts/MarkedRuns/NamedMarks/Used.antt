@@ -9,8 +9,8 @@ use Rattle.run_rules.specs.Surroundings.{Place}
 use Rattle.run_rules.specs.Sites.{MarkRef, Where, Inlinable, an_expr, is_among_marks, is_free_function, not_function, inlinable, name_mark, qualifier, member_of, qualified_mark, selected_method, marked, marked_as, called_mark, expr_mark}
 use Rattle.run_rules.specs.Steps.{At}
 use Rattle.run_rules.specs.Run.{Standing, Logged, Next}
-use Rattle.run_rules.specs.SpliceLaws.ImportSplices.FormSplices.Laws.{MakesForm}
-use Rattle.run_rules.proofs.SpliceLaws.ImportSplices.FormSplices.FormsFound.{step-makes-form}
+use Rattle.splice_laws.specs.ImportSplices.FormSplices.Laws.{MakesForm}
+use Rattle.splice_laws.proofs.ImportSplices.FormSplices.FormsFound.{step-makes-form}
 use Rattle.order_runs.proofs.RunSteps.SeatedUses.{Seated, sites-seated}
 use Rattle.put_names.specs.Uses.{UsesConstant}
 use Rattle.printed_constants.specs.TypedParts.MarkedRuns.NamedMarks.Named.{IsNamedConstant, AllNamed}

@@ -18,7 +18,7 @@ use Rattle.run_rules.specs.Surroundings.{Use, called, other, a_slot, Place, seen
 use Rattle.run_rules.specs.Places.{type_seen, sig_seen, expr_seen, all_seen, option_seen, elems_seen, key_seen, value_seen, stmts_seen}
 use Rattle.run_rules.specs.Rewriting.{new_name, new_type, new_sig, new_expr, new_all, new_option, new_elems, new_stmts}
 use Rattle.run_rules.specs.Respanned.{name_with, type_with, sig_with, expr_with, exprs_with, expr_option_with, elems_with, value_with}
-use Rattle.run_rules.specs.SpliceLaws.Swaps.{in_elems, in_func_body, in_selected, in_indexed, in_index, in_sliced, in_low, in_high, in_called, in_args, in_unary, in_star, in_left, in_right, in_first_expr, in_later_exprs, in_key, in_value, in_later_elems}
+use Rattle.splice_laws.specs.Swaps.{in_elems, in_func_body, in_selected, in_indexed, in_index, in_sliced, in_low, in_high, in_called, in_args, in_unary, in_star, in_left, in_right, in_first_expr, in_later_exprs, in_key, in_value, in_later_elems}
 use Rattle.put_nodes.proofs.Walk.{off, in_header, seven, six, one, next_most, level_most, comma_level, comma_header, callee_slot}
 use Rattle.printed_constants.proofs.TypedParts.MarkedRuns.PutForms.Puts.{Ask, Only, front, back, pick, last, no_type, no_sig, ExprPut, ExprsPut, OptionPut, ElemsPut, ValuePut, KeyPut, StmtsPut, own, part, operand, callee}
 use Rattle.printed_constants.proofs.TypedParts.MarkedRuns.PutForms.Silent.{expr_quiet, exprs_quiet, option_quiet, elems_quiet, key_quiet, value_quiet, type_quiet, sig_quiet}

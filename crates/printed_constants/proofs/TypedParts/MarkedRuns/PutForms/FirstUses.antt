@@ -13,10 +13,10 @@ use Rattle.run_rules.specs.Run.{Standing, here_of, is_commented, step_in}
 use Rattle.run_rules.specs.Sites.{MarkRef, sites}
 use Rattle.run_rules.specs.Steps.{At, same_here, Found}
 use Rattle.run_rules.specs.Texts.{FileText}
-use Rattle.run_rules.specs.SpliceLaws.RunLaws.Reading.{FileReads, FileAt, ProgramReads}
-use Rattle.run_rules.proofs.SpliceLaws.RunLaws.FoundSpans.{Placed, FoundIn, found_in}
-use Rattle.run_rules.specs.SpliceLaws.ImportSplices.FormSplices.Laws.{MakesForm}
-use Rattle.run_rules.proofs.SpliceLaws.ImportSplices.FormSplices.FormsFound.{IsForm, first-form}
+use Rattle.splice_laws.specs.RunLaws.Reading.{FileReads, FileAt, ProgramReads}
+use Rattle.splice_laws.proofs.RunLaws.FoundSpans.{Placed, FoundIn, found_in}
+use Rattle.splice_laws.specs.ImportSplices.FormSplices.Laws.{MakesForm}
+use Rattle.splice_laws.proofs.ImportSplices.FormSplices.FormsFound.{IsForm, first-form}
 use Rattle.order_runs.proofs.RunSteps.SeatedUses.{Seated, sites-seated}
 use Rattle.order_runs.proofs.RunSteps.TokenPlaces.{tokens-rise}
 use Rattle.order_runs.proofs.RunSteps.SpanPlaces.{DeclsIn}

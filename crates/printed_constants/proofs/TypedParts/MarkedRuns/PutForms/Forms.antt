@@ -9,7 +9,7 @@ use Rattle.go_tree.specs.ScopeNames.Means.{is_blank}
 use Rattle.go_tree.specs.ScopeNames.Scopes.{expr_span}
 use Rattle.pkg_graph.specs.Package.{Package}
 use Rattle.go_tree.specs.GoTypes.Entities.{is_declared_here}
-use Rattle.run_rules.specs.SpliceLaws.ImportSplices.AddedFile.{AreWritable}
+use Rattle.splice_laws.specs.ImportSplices.AddedFile.{AreWritable}
 use Rattle.run_rules.specs.Forms.{is_at}
 use Rattle.run_rules.specs.FormTrees.{Form, as_expr}
 use Rattle.run_rules.specs.Inlining.{ReadsAs}
@@ -22,18 +22,18 @@ use Rattle.run_rules.specs.Sites.{MarkRef, Part, an_expr, Site, part_span}
 use Rattle.run_rules.specs.Steps.{At, same_here, Found, changes_for, new_decl, new_decls}
 use Rattle.run_rules.specs.Surroundings.{Place, Seen, seen, is_local}
 use Rattle.run_rules.specs.Texts.{FileText}
-use Rattle.run_rules.specs.SpliceLaws.Dots.{UndottedDecls, UndottedFile}
-use Rattle.run_rules.specs.SpliceLaws.Swaps.{in_decls, FileIn}
-use Rattle.run_rules.proofs.SpliceLaws.ImportSplices.TypedDots.UndottedFiles.{files_are_undotted}
-use Rattle.run_rules.proofs.SpliceLaws.ImportSplices.TypedDots.UnspreadDots.{packages_dots}
+use Rattle.splice_laws.specs.Dots.{UndottedDecls, UndottedFile}
+use Rattle.splice_laws.specs.Swaps.{in_decls, FileIn}
+use Rattle.splice_laws.proofs.ImportSplices.TypedDots.UndottedFiles.{files_are_undotted}
+use Rattle.splice_laws.proofs.ImportSplices.TypedDots.UnspreadDots.{packages_dots}
 use Rattle.constant_steps.specs.FormImports.OwnNames.{AreInProgram}
-use Rattle.run_rules.specs.SpliceLaws.ImportSplices.FormSplices.Laws.{MakesForm}
+use Rattle.splice_laws.specs.ImportSplices.FormSplices.Laws.{MakesForm}
 use Rattle.printed_constants.specs.TypedParts.StandingUses.ImportUses.Parts as parts
 use Rattle.printed_constants.specs.TypedParts.StandingUses.ImportUses.Parts.{IsName, IsNoImport}
 use Rattle.constant_steps.specs.PlaceMeanings.Agreement.{BlockIsLocal}
 use Rattle.constant_steps.specs.PlaceMeanings.Parts.{AllScoped, AtPart, AtParts}
 use Rattle.constant_steps.proofs.PlaceMeanings.PlacesMean.{blocks_local}
-use Rattle.run_rules.proofs.SpliceLaws.RunLaws.FoundSpans.{Placed}
+use Rattle.splice_laws.proofs.RunLaws.FoundSpans.{Placed}
 use Rattle.order_runs.proofs.RunSteps.SeatedUses.{Among, first, later, Seated}
 use Rattle.printed_constants.specs.TypedParts.ScopedParts.Laws.{WellTypedFilesAreScoped}
 use Rattle.printed_constants.proofs.TypedParts.StandingUses.Named.{constant_named}

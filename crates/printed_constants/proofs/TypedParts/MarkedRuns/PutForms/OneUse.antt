@@ -10,7 +10,7 @@ use Rattle.go_tree.specs.File.{Decl}
 use Rattle.go_tree.specs.FileBare.{bare_decl}
 use Rattle.go_tree.specs.ScopeNames.Scopes.{expr_span}
 use Rattle.order_runs.proofs.CycleLaws.BareWith.{decl-with}
-use Rattle.run_rules.specs.SpliceLaws.Swaps.{Swap, DeclIn, DeclsIn, in_this_decl, in_later_decls}
+use Rattle.splice_laws.specs.Swaps.{Swap, DeclIn, DeclsIn, in_this_decl, in_later_decls}
 use Rattle.run_rules.specs.Forms.{is_at}
 use Rattle.run_rules.specs.FormTrees.{as_expr, keep_span}
 use Rattle.run_rules.specs.Quiet.{Quiet, AllQuiet}

@@ -21,7 +21,7 @@ use Rattle.run_rules.specs.Places.{after_arms, expr_seen, all_seen, option_seen,
 use Rattle.run_rules.specs.Programs.{top_place, body_place, constants_at_top, variables_at_top, decl_seen}
 use Rattle.run_rules.specs.Steps as steps
 use Rattle.run_rules.specs.Respanned.{expr_with, exprs_with, expr_option_with, elems_with, value_with, stmt_with, stmts_with, stmt_option_with, arms_with, cases_with, specs_with, decl_with}
-use Rattle.run_rules.specs.SpliceLaws.Swaps.{DeclIn, in_constants, in_variables}
+use Rattle.splice_laws.specs.Swaps.{DeclIn, in_constants, in_variables}
 use Rattle.put_nodes.specs.Swapped.{FormedDecl}
 use Rattle.put_nodes.proofs.Walk.{off, in_header, clash, one, comma_header, callee_slot}
 use Rattle.printed_constants.proofs.TypedParts.MarkedRuns.PutForms.Puts.{Ask, Only, last, ExprPut, ExprsPut, OptionPut, ElemsPut, ValuePut, StmtPut, StmtsPut, FirstPut, ArmsPut, CasesPut, SpecsPut, ConstantsPut, VariablesPut, Put, own, operand, in_header_part, optional, plain_put, braced_put, key_put}

@@ -16,7 +16,7 @@ use Rattle.run_rules.specs.Places.{type_seen, written_seen, params_seen, sig_see
 use Rattle.run_rules.specs.Rewriting.{Changes, new_expr, new_all, new_option, new_elems, new_value, new_stmt, new_stmts, new_first, new_arms, new_cases, new_constants, new_variables}
 use Rattle.run_rules.specs.Respanned.{expr_with, exprs_with, expr_option_with, elems_with, value_with, stmt_with, stmts_with, stmt_option_with, arms_with, cases_with, specs_with}
 use Rattle.run_rules.specs.Quiet.{Quiet, AllQuiet}
-use Rattle.run_rules.specs.SpliceLaws.Swaps.{Swap, an_operand, a_callee, a_deferred, OperandIn, this_operand, inside_operand, CalleeIn, this_callee, inside_callee, PartOfExpr, OptionIn, in_option, ExprsIn, ElemsIn, ValueIn, in_plain, in_braced, SimpleIn, PartIn, in_part, PartOfStmt, in_simple, StmtsIn, ArmsIn, CasesIn, SpecsIn}
+use Rattle.splice_laws.specs.Swaps.{Swap, an_operand, a_callee, a_deferred, OperandIn, this_operand, inside_operand, CalleeIn, this_callee, inside_callee, PartOfExpr, OptionIn, in_option, ExprsIn, ElemsIn, ValueIn, in_plain, in_braced, SimpleIn, PartIn, in_part, PartOfStmt, in_simple, StmtsIn, ArmsIn, CasesIn, SpecsIn}
 use Rattle.put_nodes.specs.Swapped.{StandsAs, as_operand, as_callee, as_deferred, IsOldName, old_name}
 use Rattle.put_nodes.proofs.Walk.{clash, deferred_this, deferred_part}
 

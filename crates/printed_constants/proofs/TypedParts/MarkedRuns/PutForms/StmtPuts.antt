@@ -11,7 +11,7 @@ use Rattle.run_rules.specs.Surroundings.{whole, stored, updated, deferred_call, 
 use Rattle.run_rules.specs.Places.{written_seen, old_seen, after_arms, expr_seen, all_seen, option_seen, stmt_seen, stmts_seen, first_seen, arms_seen, cases_seen, constants_seen, variables_seen}
 use Rattle.run_rules.specs.Rewriting.{new_name, new_names, new_expr, new_all, new_option, new_stmt, new_stmts, new_first, new_arms, new_cases, new_constants, new_variables}
 use Rattle.run_rules.specs.Respanned.{name_with, type_option_with, expr_with, exprs_with, expr_option_with, stmt_with, stmts_with, stmt_option_with, arms_with, cases_with, specs_with}
-use Rattle.run_rules.specs.SpliceLaws.Swaps.{in_eval, in_step, in_assigned, in_assign, in_define, in_const, in_var, in_return, in_block, in_arms, in_else, in_for_first, in_for_test, in_for_post, in_for_body, in_range_left, in_range, in_range_body, in_switch_first, in_tag, in_cases, in_label, inside_stmt, in_later_stmts, in_arm_first, in_arm_test, in_arm_body, in_later_arms, in_case, in_case_body, in_later_cases, in_spec_values, in_later_specs}
+use Rattle.splice_laws.specs.Swaps.{in_eval, in_step, in_assigned, in_assign, in_define, in_const, in_var, in_return, in_block, in_arms, in_else, in_for_first, in_for_test, in_for_post, in_for_body, in_range_left, in_range, in_range_body, in_switch_first, in_tag, in_cases, in_label, inside_stmt, in_later_stmts, in_arm_first, in_arm_test, in_arm_body, in_later_arms, in_case, in_case_body, in_later_cases, in_spec_values, in_later_specs}
 use Rattle.put_nodes.proofs.Walk.{one}
 use Rattle.printed_constants.proofs.TypedParts.MarkedRuns.PutForms.Puts.{Ask, Only, front, back, pick, last, no_written, no_old, ExprPut, ExprsPut, OptionPut, StmtPut, StmtsPut, FirstPut, ArmsPut, CasesPut, ConstantsPut, VariablesPut, simple, other_part, operand, deferred, in_list}
 use Rattle.printed_constants.proofs.TypedParts.MarkedRuns.PutForms.Silent.{expr_quiet, exprs_quiet, option_quiet, stmt_quiet, stmts_quiet, first_quiet, arms_quiet, cases_quiet, constants_quiet, variables_quiet, written_quiet, defined}

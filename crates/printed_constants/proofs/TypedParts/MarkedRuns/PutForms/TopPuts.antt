@@ -13,7 +13,7 @@ use Rattle.run_rules.specs.Programs.{top_place, body_place, constants_at_top, va
 use Rattle.run_rules.specs.Quiet.{AllQuiet}
 use Rattle.run_rules.specs.Steps as steps
 use Rattle.run_rules.specs.Respanned.{name_with, type_option_with, sig_with, exprs_with, specs_with, receiver_with, func_with}
-use Rattle.run_rules.specs.SpliceLaws.Swaps.{in_spec_values, in_later_specs, DeclIn, in_function}
+use Rattle.splice_laws.specs.Swaps.{in_spec_values, in_later_specs, DeclIn, in_function}
 use Rattle.printed_constants.proofs.TypedParts.MarkedRuns.PutForms.Puts.{Ask, Only, front, back, pick, last, no_written, no_sig, ExprsPut, StmtsPut, SpecsPut, Put}
 use Rattle.printed_constants.proofs.TypedParts.MarkedRuns.PutForms.Silent.{exprs_quiet, written_quiet, sig_quiet, names_quiet}
 

@@ -2,7 +2,7 @@
 use Rattle.std.proofs.Common.{◌≡◌, refl, ℕ, zero, suc, ◌<◌, List, [], ◌∷◌, Some, length, arith}
 use Rattle.std.specs.Prelude.{slice_get}
 use Rattle.go_tree.specs.Tree.{ident, selector}
-use Rattle.constant_forms.specs.declared.uses.ConstantValue.TheVariants.{Plain, Qualified}
+use Rattle.constant_edits.specs.ConstantValue.TheVariants.{Plain, Qualified}
 use Rattle.put_names.specs.Uses.{as_name, as_member}
 use Rattle.printed_constants.specs.TypedParts.MarkedRuns.PutForms.Laws.{ValuesAreNames}
 

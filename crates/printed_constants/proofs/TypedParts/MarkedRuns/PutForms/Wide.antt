@@ -7,17 +7,17 @@ use Rattle.go_tree.specs.File.{File}
 use Rattle.go_tree.specs.GoWords.Terminals.{lexemes}
 use Rattle.go_read.specs.SpellsSpans.{span_to}
 use Rattle.text_edits.specs.declared.edit.Edit.{Edit}
-use Rattle.run_rules.proofs.SpliceLaws.ImportSplices.ImportPlaces.TokensStand.{Stand, tokens_stand}
+use Rattle.splice_laws.proofs.ImportSplices.ImportPlaces.TokensStand.{Stand, tokens_stand}
 use Rattle.run_rules.specs.Run.{Standing, here_of}
 use Rattle.run_rules.specs.Steps.{At, Found}
 use Rattle.run_rules.specs.Texts.{FileText}
-use Rattle.run_rules.specs.SpliceLaws.Fits.{swap_mark}
-use Rattle.run_rules.specs.SpliceLaws.Joints.{Spans, of_one, of_more}
-use Rattle.run_rules.specs.SpliceLaws.Splice.{IsPut}
-use Rattle.run_rules.specs.SpliceLaws.Swaps.{Swap}
-use Rattle.run_rules.proofs.SpliceLaws.Files.{replaced}
-use Rattle.run_rules.proofs.SpliceLaws.Rises.{tokens_rise}
-use Rattle.run_rules.proofs.SpliceLaws.Wholes.{stands_among}
+use Rattle.splice_laws.specs.Fits.{swap_mark}
+use Rattle.splice_laws.specs.Joints.{Spans, of_one, of_more}
+use Rattle.splice_laws.specs.Splice.{IsPut}
+use Rattle.splice_laws.specs.Swaps.{Swap}
+use Rattle.splice_laws.proofs.Files.{replaced}
+use Rattle.splice_laws.proofs.Rises.{tokens_rise}
+use Rattle.splice_laws.proofs.Wholes.{stands_among}
 use Rattle.run_by_steps.specs.NextPrograms.Made.{PutsForm}
 
 module _ (text : List ℕ) where

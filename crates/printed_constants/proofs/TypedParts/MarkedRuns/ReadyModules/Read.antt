@@ -5,7 +5,7 @@ use Rattle.std.specs.List.{list_all}
 use Rattle.std.proofs.lemmas.Option.{same_Some}
 use Rattle.go_tree.specs.declared.spans.Span.{Span}
 use Rattle.go_tree.specs.GoWords.Tokens.Characters.{each}
-use Rattle.run_rules.specs.SpliceLaws.ImportSplices.AddedFile.{is_byte}
+use Rattle.splice_laws.specs.ImportSplices.AddedFile.{is_byte}
 use Rattle.pkg_graph.specs.Package.{SourceTree, Package}
 use Rattle.pkg_graph.specs.Reads.{Source}
 use Rattle.go_translation.specs.Packages.{are_well_typed}
@@ -14,9 +14,9 @@ use Rattle.run_rules.specs.Texts.{FileText}
 use Rattle.run_rules.specs.Steps.{At}
 use Rattle.run_rules.specs.Run.{as_read}
 use Rattle.run_rules.specs.Inlining.{ModuleReads, standing_as_read}
-use Rattle.run_rules.specs.SpliceLaws.RunLaws.Reading.{FileAt, OnePathEach}
-use Rattle.run_rules.proofs.SpliceLaws.RunLaws.RunsRead.{modules_read}
-use Rattle.run_rules.proofs.SpliceLaws.RunLaws.PathsOwn.{paths_own}
+use Rattle.splice_laws.specs.RunLaws.Reading.{FileAt, OnePathEach}
+use Rattle.splice_laws.proofs.RunLaws.RunsRead.{modules_read}
+use Rattle.splice_laws.proofs.RunLaws.PathsOwn.{paths_own}
 use Rattle.order_runs.specs.RunSteps.RunPackages.{members_of}
 use Rattle.order_runs.specs.CycleRuns.OrderedSteps.Laws.{ReadModulesAreOrdered}
 use Rattle.order_runs.proofs.CycleRuns.OrderedSteps.Modules.{package-at}

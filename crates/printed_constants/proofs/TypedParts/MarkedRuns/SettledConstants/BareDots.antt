@@ -6,7 +6,7 @@ use Rattle.go_tree.specs.Tree.{Expr, ident, int_lit, rune_lit, str_lit, composit
 use Rattle.go_tree.specs.File.{Decl, values, types, func}
 use Rattle.go_tree.specs.FileBare.{bare_decl}
 use Rattle.go_tree.specs.Bare.{bare_expr, bare_exprs, bare_expr_option, bare_elems, bare_value, bare_value_option, bare_stmt, bare_stmts, bare_stmt_option, bare_block_option, bare_range_left, bare_arms, bare_cases, bare_value_specs}
-use Rattle.run_rules.specs.SpliceLaws.Dots.{ExprDots, ExprsDots, OptionDots, ElemsDots, ValueDots, KeyDots, StmtDots, StmtsDots, PartDots, BlockDots, LeftDots, ArmsDots, CasesDots, SpecsDots, DeclDots, DeclsDots, ends_in_number, last_in_number, NoNumber, UndottedRest}
+use Rattle.splice_laws.specs.Dots.{ExprDots, ExprsDots, OptionDots, ElemsDots, ValueDots, KeyDots, StmtDots, StmtsDots, PartDots, BlockDots, LeftDots, ArmsDots, CasesDots, SpecsDots, DeclDots, DeclsDots, ends_in_number, last_in_number, NoNumber, UndottedRest}
 
 module _ {S : Type 0} where
   still_no_number : (e : Expr S) → NoNumber e → NoNumber (bare_expr e)

@@ -14,15 +14,15 @@ use Rattle.run_rules.specs.Respanned.{decls_with}
 use Rattle.run_rules.specs.Run.{Standing, Logged, Next, here_of}
 use Rattle.run_rules.specs.Sites.{MarkRef}
 use Rattle.run_rules.specs.Steps.{At}
-use Rattle.run_rules.specs.SpliceLaws.RunLaws.Reading.{ProgramReads}
-use Rattle.run_rules.specs.SpliceLaws.ImportSplices.FormSplices.Laws.{MakesForm}
-use Rattle.run_rules.proofs.SpliceLaws.ImportSplices.FormSplices.FormsFound.{step-makes-form}
+use Rattle.splice_laws.specs.RunLaws.Reading.{ProgramReads}
+use Rattle.splice_laws.specs.ImportSplices.FormSplices.Laws.{MakesForm}
+use Rattle.splice_laws.proofs.ImportSplices.FormSplices.FormsFound.{step-makes-form}
 use Rattle.order_runs.proofs.CycleRuns.ImportCycles.ImportStep.{placed}
 use Rattle.order_runs.proofs.RunSteps.SeatedUses.{Among, first, later, Seated, sites-seated}
-use Rattle.run_rules.specs.SpliceLaws.Dots.{UndottedDecls, UndottedFile}
-use Rattle.run_rules.specs.SpliceLaws.ImportSplices.TypedDots.Unspread.{UnspreadDecls, UnspreadUndotted, UnspreadAreUndotted}
-use Rattle.run_rules.proofs.SpliceLaws.ImportSplices.TypedDots.UndottedFiles.{files_are_undotted}
-use Rattle.run_rules.proofs.SpliceLaws.ImportSplices.TypedDots.UnspreadDots.{packages_dots}
+use Rattle.splice_laws.specs.Dots.{UndottedDecls, UndottedFile}
+use Rattle.splice_laws.specs.ImportSplices.TypedDots.Unspread.{UnspreadDecls, UnspreadUndotted, UnspreadAreUndotted}
+use Rattle.splice_laws.proofs.ImportSplices.TypedDots.UndottedFiles.{files_are_undotted}
+use Rattle.splice_laws.proofs.ImportSplices.TypedDots.UnspreadDots.{packages_dots}
 use Rattle.constant_steps.specs.WrittenLiteral.UnspreadForms.UnspreadForms.{UnspreadFiles, UnspreadPackages}
 use Rattle.order_runs.specs.CycleRuns.OrderCycles.Orders.{AllOrdered}
 use Rattle.order_runs.specs.CycleRuns.Linked.{Linked}

@@ -8,8 +8,8 @@ use Rattle.run_rules.specs.Programs.{linked}
 use Rattle.run_rules.specs.Run.{Standing, Logged, Next, Run, ends, goes_on}
 use Rattle.run_rules.specs.Sites.{MarkRef, Inlinable, an_expr, inlinable, is_function, not_function}
 use Rattle.run_rules.specs.Steps.{At}
-use Rattle.run_rules.specs.SpliceLaws.RunLaws.Reading.{ProgramReads, OnePathEach}
-use Rattle.run_rules.proofs.SpliceLaws.RunLaws.RunsRead.{steps_keep_reading}
+use Rattle.splice_laws.specs.RunLaws.Reading.{ProgramReads, OnePathEach}
+use Rattle.splice_laws.proofs.RunLaws.RunsRead.{steps_keep_reading}
 use Rattle.printed_constants.specs.TypedParts.StandingUses.ImportUses.Parts as parts
 use Rattle.printed_constants.specs.TypedParts.StandingUses.ImportUses.Parts.{IsName}
 use Rattle.printed_constants.proofs.TypedParts.StandingUses.Named.{constant_named}

@@ -21,7 +21,7 @@ use Rattle.run_rules.specs.Run.{Standing, Logged, Next, here_of}
 use Rattle.run_rules.specs.Sites.{MarkRef, Where, Inlinable, a_constant, an_alias, aliased, an_expr, constant_in_spec, less, nth_constant, inlinable_in, where_is, inlinable, mark_of, imported_by, not_function, outer, import_number, qualifier, member_of, marked_as, expr_mark}
 use Rattle.run_rules.specs.Steps.{At}
 use Rattle.run_rules.specs.Surroundings.{Place, is_local}
-use Rattle.run_rules.specs.SpliceLaws.RunLaws.Reading.{FileReads, FileAt, ProgramReads}
+use Rattle.splice_laws.specs.RunLaws.Reading.{FileReads, FileAt, ProgramReads}
 use Rattle.run_by_steps.proofs.SpelledNames.Read.{read_names_are_identifiers, identifiers_are_named}
 use Rattle.put_names.specs.WrittenNames.NamedPackages.{PackagesAreNamed}
 use Rattle.put_names.proofs.WrittenNames.ImportNames.{SpecsNamed, names_of_imports}

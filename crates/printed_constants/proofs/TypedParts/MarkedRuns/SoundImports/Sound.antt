@@ -49,7 +49,7 @@ use Rattle.order_runs.proofs.CycleRuns.ImportCycles.ImportStep.{placed, added-sa
 use Rattle.order_runs.proofs.CycleRuns.ImportCycles.ImportsAdded.{names-stay}
 use Rattle.order_runs.proofs.CycleRuns.ImportCycles.ImportsRead.{numbers-stay}
 use Rattle.order_runs.proofs.CycleRuns.ImportCycles.LeadAlike.{same-beside}
-use Rattle.run_rules.proofs.SpliceLaws.RunLaws.FoundSpans.{Placed}
+use Rattle.splice_laws.proofs.RunLaws.FoundSpans.{Placed}
 use Rattle.order_runs.specs.ImportSteps.ImportingSteps.{MayBeDeclared}
 use Rattle.order_runs.specs.CycleRuns.OrderCycles.Orders.{AllOrdered}
 use Rattle.order_runs.specs.CycleRuns.OrderCycles.NewNames.{NamesByPath, FewNames}

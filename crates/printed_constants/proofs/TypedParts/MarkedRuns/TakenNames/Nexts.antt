@@ -18,7 +18,7 @@ use Rattle.run_rules.specs.Naming.{imports_added}
 use Rattle.run_rules.specs.FormTrees.{as_expr}
 use Rattle.run_rules.specs.Steps.{At, same_here, change_nth, changes_for, new_decl, added_decls, packages_between}
 use Rattle.run_rules.specs.Run.{Standing, Logged, Next, here_of, origin_of, is_commented}
-use Rattle.run_rules.proofs.SpliceLaws.RunLaws.FoundSpans.{Placed}
+use Rattle.splice_laws.proofs.RunLaws.FoundSpans.{Placed}
 use Rattle.constant_steps.specs.StepLaws.SwapPrograms.{members_put}
 use Rattle.order_runs.specs.CycleRuns.StepCycles.PackagesAlike.{import_key}
 use Rattle.order_runs.proofs.CycleRuns.StepCycles.Orders.{NumberedBy, rows-by, order-by}

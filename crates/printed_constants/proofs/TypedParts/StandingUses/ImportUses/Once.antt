@@ -15,10 +15,10 @@ use Rattle.run_rules.specs.Sites.{Where, an_expr}
 use Rattle.run_rules.specs.Steps.{named_by_import}
 use Rattle.constant_steps.specs.PlaceMeanings.Agreement.{AgreesAt}
 use Rattle.constant_steps.specs.PlaceMeanings.Parts.{IsScoped, AllScoped, AtParts}
-use Rattle.constant_forms.specs.Views.{name_expr}
+use Rattle.constant_edits.specs.Views.{name_expr}
 use Rattle.run_rules.specs.FormTrees.{a_name}
-use Rattle.constant_forms.specs.declared.packages.NamedPackage.{NamedPackage}
-use Rattle.constant_forms.specs.declared.reduced.ConstantForm.{ConstantForm}
+use Rattle.constant_edits.specs.NamedPackage.{NamedPackage}
+use Rattle.constant_edits.specs.ConstantForm.{ConstantForm}
 use Rattle.repeated_parts.specs.ImportsUnused.Uses.{one_if, is_import, import_at, form_import, named_import}
 use Rattle.printed_constants.specs.TypedParts.StandingUses.ImportUses.Parts.{EachSeen, IsTyped, IsKeyed, IsName, IsElsewhere, StandsOnce, here, later as further}
 use Rattle.printed_constants.specs.TypedParts.StandingUses.ImportUses.Parts as parts_are

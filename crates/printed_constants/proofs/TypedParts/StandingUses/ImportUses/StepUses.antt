@@ -31,8 +31,8 @@ use Rattle.member_uses.specs.PossibleUses.Parts.{parts_of}
 use Rattle.constant_steps.specs.PlaceMeanings.Agreement.{AgreesAt}
 use Rattle.constant_steps.specs.PlaceMeanings.Parts.{AllScoped, AtParts}
 use Rattle.constant_steps.proofs.PlaceMeanings.PlacesMean.{places_mean}
-use Rattle.constant_forms.specs.declared.reduced.ConstantForm.{ConstantForm}
-use Rattle.constant_forms.specs.Views.{name_expr}
+use Rattle.constant_edits.specs.ConstantForm.{ConstantForm}
+use Rattle.constant_edits.specs.Views.{name_expr}
 use Rattle.repeated_parts.specs.ImportsUnused.Uses.{one_if, is_import, form_import, named_import, uses_among, all_parts}
 use Rattle.printed_constants.specs.TypedParts.StandingUses.ImportUses.Parts.{EachSeen, IsTyped, IsKeyed, IsElsewhere, IsNoImport, IsPlain, DottedImports, at_the_end, before_a_dot, past_another}
 use Rattle.printed_constants.specs.TypedParts.StandingUses.ImportUses.Steps.{EachDecl, IsStanding, IsStep, StepsSwapUses}

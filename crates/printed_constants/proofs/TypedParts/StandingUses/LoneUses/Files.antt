@@ -10,14 +10,14 @@ use Rattle.go_read.specs.SpellsTypes.{Lexemes}
 use Rattle.go_read.specs.SpellsSpans.{start_of, span_to}
 use Rattle.go_read.specs.SpellsFiles.{SpellsTops, SpellsFront, no_tops_rule, more_tops_rule, front_rule}
 use Rattle.run_rules.specs.Sites.{an_expr}
-use Rattle.run_rules.proofs.SpliceLaws.Grafts.{Within, here, later}
-use Rattle.run_rules.proofs.SpliceLaws.Pasts.{imports_past, top_past}
-use Rattle.run_rules.proofs.SpliceLaws.ImportSplices.ImportPlaces.ImportsStand.{end_is}
+use Rattle.splice_laws.proofs.Grafts.{Within, here, later}
+use Rattle.splice_laws.proofs.Pasts.{imports_past, top_past}
+use Rattle.splice_laws.proofs.ImportSplices.ImportPlaces.ImportsStand.{end_is}
 use Rattle.member_uses.specs.PossibleUses.Candidates.{Candidate}
 use Rattle.member_uses.specs.PossibleUses.Parts.{parts_of}
 use Rattle.repeated_parts.specs.ImportsUnused.Uses.{all_parts}
-use Rattle.run_rules.proofs.SpliceLaws.RunLaws.NodeSpans.{AllDecl}
-use Rattle.run_rules.proofs.SpliceLaws.RunLaws.SpelledSpans.{top_all}
+use Rattle.splice_laws.proofs.RunLaws.NodeSpans.{AllDecl}
+use Rattle.splice_laws.proofs.RunLaws.SpelledSpans.{top_all}
 use Rattle.order_runs.proofs.RunSteps.TokenPlaces.{Rises, Full, full, rises-within, starts-up, ends-by, within-more, le-le, itself, full-within}
 use Rattle.order_runs.proofs.RunSteps.TokenPlaces as places
 use Rattle.order_runs.proofs.RunSteps.SpanPlaces.{DeclIn}

@@ -6,7 +6,7 @@ use Rattle.go_tree.specs.File.{Decl, values, types, func}
 use Rattle.run_rules.specs.Sites.{an_expr}
 use Rattle.member_uses.specs.PossibleUses.Candidates.{plain_part, key_part}
 use Rattle.member_uses.specs.PossibleUses.Parts.{put, put_selector, after_arms, after_block_option, after_cases, after_decl, after_elems, after_expr, after_expr_option, after_exprs, after_key, after_left, after_receiver, after_sig, after_specs, after_stmt, after_stmt_option, after_stmts, after_type, after_type_option, after_value}
-use Rattle.run_rules.proofs.SpliceLaws.RunLaws.NodeSpans.{AllExpr, AllExprs, AllExprOption, AllElems, AllValue, AllValueOption, AllStmt, AllStmts, AllStmtOption, AllBlockOption, AllLeft, AllArms, AllCases, AllSpecs, AllDecl}
+use Rattle.splice_laws.proofs.RunLaws.NodeSpans.{AllExpr, AllExprs, AllExprOption, AllElems, AllValue, AllValueOption, AllStmt, AllStmts, AllStmtOption, AllBlockOption, AllLeft, AllArms, AllCases, AllSpecs, AllDecl}
 use Rattle.printed_constants.proofs.TypedParts.StandingUses.LoneUses.Grown.{C, All, Free, all_both, none_all, free_both}
 use Rattle.printed_constants.proofs.TypedParts.StandingUses.LoneUses.Walk.{type_free, type_option_free, sig_free, types_free, receiver_free}
 

@@ -18,7 +18,7 @@ use Rattle.run_rules.specs.Sites.{MarkRef, an_expr, a_constant, Site, inlinable,
 use Rattle.run_rules.specs.Steps.{At, same_here, Found}
 use Rattle.run_rules.specs.Surroundings.{Use, Place, Seen, seen, is_local, is_old}
 use Rattle.run_rules.specs.Texts.{FileText}
-use Rattle.run_rules.proofs.SpliceLaws.ImportSplices.FormSplices.FormsFound.{IsForm, first-form}
+use Rattle.splice_laws.proofs.ImportSplices.FormSplices.FormsFound.{IsForm, first-form}
 use Rattle.printed_constants.specs.TypedParts.StandingUses.ImportUses.Parts as parts
 use Rattle.printed_constants.specs.TypedParts.StandingUses.ImportUses.Parts.{IsName}
 use Rattle.printed_constants.specs.TypedParts.StandingUses.ImportUses.Steps.{EachDecl, IsStanding}
@@ -30,7 +30,7 @@ use Rattle.member_uses.specs.PossibleUses.Among.{may_be_use, Follows, at_the_end
 use Rattle.member_uses.specs.PossibleUses.Candidates.{Candidate, plain_part, key_part}
 use Rattle.member_uses.specs.PossibleUses.Laws.{PartsAreAmongAll}
 use Rattle.member_uses.specs.PossibleUses.Parts.{put, parts_of}
-use Rattle.run_rules.proofs.SpliceLaws.RunLaws.FoundSpans.{Placed, FoundIn, found_in}
+use Rattle.splice_laws.proofs.RunLaws.FoundSpans.{Placed, FoundIn, found_in}
 use Rattle.order_runs.proofs.RunSteps.SeatedUses.{Among, first, later, Seated, sites-seated}
 use Rattle.order_runs.proofs.RunSteps.SpanPlaces.{DeclIn, DeclsIn}
 use Rattle.order_runs.proofs.RunSteps.SpelledPlaces.{front_in}

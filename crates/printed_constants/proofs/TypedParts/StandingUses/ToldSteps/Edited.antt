@@ -2,7 +2,7 @@
 use Rattle.std.proofs.Common.{◌≡◌, ◌∙◌, refl, sym, subst, List, Some}
 use Rattle.std.proofs.lemmas.Option.{same_Some}
 use Rattle.go_tree.specs.declared.spans.Span.{Span}
-use Rattle.run_rules.proofs.SpliceLaws.ImportSplices.ImportPlaces.CommentsStand.{comments_ascend}
+use Rattle.splice_laws.proofs.ImportSplices.ImportPlaces.CommentsStand.{comments_ascend}
 use Rattle.run_rules.specs.Inlining.{ReadsAs}
 use Rattle.run_rules.specs.Laws.{LiesBehindImports, file_found}
 use Rattle.run_rules.specs.Marks.{text_at}
@@ -10,9 +10,9 @@ use Rattle.run_rules.specs.Run.{Standing, here_of, is_commented, step_in}
 use Rattle.run_rules.specs.Sites.{MarkRef}
 use Rattle.run_rules.specs.Steps.{At, same_here, Found}
 use Rattle.run_rules.specs.Texts.{FileText}
-use Rattle.run_rules.specs.SpliceLaws.RunLaws.Reading.{FileReads, FileAt, ProgramReads}
-use Rattle.run_rules.proofs.SpliceLaws.RunLaws.FilesStand.{file_laid}
-use Rattle.run_rules.proofs.SpliceLaws.RunLaws.FoundSpans.{Placed, FoundIn, found_in}
+use Rattle.splice_laws.specs.RunLaws.Reading.{FileReads, FileAt, ProgramReads}
+use Rattle.splice_laws.proofs.RunLaws.FilesStand.{file_laid}
+use Rattle.splice_laws.proofs.RunLaws.FoundSpans.{Placed, FoundIn, found_in}
 use Rattle.printed_constants.specs.TypedParts.StandingUses.UsePlaces.Laws.{FoundUsesTakeNames, UsesLieBehindImports}
 use Rattle.printed_constants.specs.TypedParts.StandingUses.ToldSteps.Laws.{StepsMayBeEdited}
 

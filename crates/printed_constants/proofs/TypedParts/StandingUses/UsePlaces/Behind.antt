@@ -8,10 +8,10 @@ use Rattle.run_rules.specs.Respanned.{decl_with}
 use Rattle.run_rules.specs.Steps.{same_here}
 use Rattle.run_rules.specs.Laws.{LiesBehindImports, file_found}
 use Rattle.run_rules.specs.Run.{here_of, is_commented}
-use Rattle.run_rules.proofs.SpliceLaws.RunLaws.NodeSpans.{AllDecl}
-use Rattle.run_rules.proofs.SpliceLaws.RunLaws.SeenSpans.{decl_in}
-use Rattle.run_rules.proofs.SpliceLaws.RunLaws.FilesStand.{AllDecls, decls_behind}
-use Rattle.run_rules.proofs.SpliceLaws.RunLaws.FoundSpans.{Placed, FoundIn, found_in}
+use Rattle.splice_laws.proofs.RunLaws.NodeSpans.{AllDecl}
+use Rattle.splice_laws.proofs.RunLaws.SeenSpans.{decl_in}
+use Rattle.splice_laws.proofs.RunLaws.FilesStand.{AllDecls, decls_behind}
+use Rattle.splice_laws.proofs.RunLaws.FoundSpans.{Placed, FoundIn, found_in}
 use Rattle.printed_constants.specs.TypedParts.StandingUses.UsePlaces.Laws.{UsesLieBehindImports}
 
 one_decl : {A : Type 0} (to : A → Span) (P : Span → Type 0) (ds : List (Decl A)) (i : ℕ) (d : Decl A) → AllDecls P (map (decl_with to) ds) → slice_get ds i ≡ Some d → AllDecl P (decl_with to d)

@@ -7,9 +7,9 @@ use Rattle.go_tree.specs.Tree.{Expr}
 use Rattle.go_tree.specs.GoTypes.WellTyped.{well_typed}
 use Rattle.pkg_graph.specs.Package.{Package}
 use Rattle.pkg_graph.specs.Reads.{Source}
-use Rattle.run_rules.specs.SpliceLaws.ImportSplices.AddedFile.{AreWritable}
-use Rattle.constant_forms.specs.declared.uses.ConstantValue.{ConstantValue}
-use Rattle.constant_forms.specs.Uses.{IsValue}
+use Rattle.splice_laws.specs.ImportSplices.AddedFile.{AreWritable}
+use Rattle.constant_edits.specs.ConstantValue.{ConstantValue}
+use Rattle.constant_edits.specs.Uses.{IsValue}
 use Rattle.order_runs.specs.CycleRuns.Linked.{Linked, SettlesFile}
 use Rattle.constant_steps.specs.FormImports.OwnNames.{AreInProgram}
 use Rattle.order_runs.specs.CycleRuns.KeptImports.Files.{RemovesNoNames}

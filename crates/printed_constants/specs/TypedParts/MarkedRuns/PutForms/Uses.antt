@@ -1,8 +1,8 @@
 -- A use that a run takes next (Go specification, Constant declarations; Qualified identifiers; Declarations and scope).
 use Rattle.std.specs.Prelude.{◌≡◌, ◌<◌, ℕ, List, Some, length}
 use Rattle.go_tree.specs.Tree.{NameAt, Expr}
-use Rattle.constant_forms.specs.declared.uses.ConstantValue.{ConstantValue}
-use Rattle.constant_forms.specs.declared.uses.ConstantValue.TheVariants.{Plain, Qualified}
+use Rattle.constant_edits.specs.ConstantValue.{ConstantValue}
+use Rattle.constant_edits.specs.ConstantValue.TheVariants.{Plain, Qualified}
 use Rattle.pkg_graph.specs.Package.{Package}
 use Rattle.order_runs.specs.CycleRuns.OrderCycles.NewNames.{FewNames}
 use Rattle.put_names.specs.Uses.{IsDeclaredAsName}

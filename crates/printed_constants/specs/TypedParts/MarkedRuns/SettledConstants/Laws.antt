@@ -11,8 +11,8 @@ use Rattle.run_rules.specs.Programs.{linked}
 use Rattle.run_rules.specs.Run.{Standing, Logged, Next, Run}
 use Rattle.run_rules.specs.Sites.{MarkRef, an_expr}
 use Rattle.run_rules.specs.Steps.{At}
-use Rattle.run_rules.specs.SpliceLaws.RunLaws.Reading.{ProgramReads}
-use Rattle.run_rules.specs.SpliceLaws.Dots.{UndottedFile}
+use Rattle.splice_laws.specs.RunLaws.Reading.{ProgramReads}
+use Rattle.splice_laws.specs.Dots.{UndottedFile}
 use Rattle.order_runs.specs.CycleRuns.OrderCycles.Orders.{AllOrdered}
 use Rattle.order_runs.specs.CycleRuns.OrderedSteps.Ranks.{AddsLedTo}
 use Rattle.order_runs.specs.CycleRuns.Linked.{Linked, WritesFile, SettlesFile}

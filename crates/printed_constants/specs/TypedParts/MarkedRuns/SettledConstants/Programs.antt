@@ -7,7 +7,7 @@ use Rattle.run_rules.specs.Programs.{linked}
 use Rattle.run_rules.specs.Run.{Standing, Logged, Next, Run, ends, goes_on}
 use Rattle.run_rules.specs.Sites.{MarkRef, an_expr}
 use Rattle.run_rules.specs.Steps.{At}
-use Rattle.run_rules.specs.SpliceLaws.RunLaws.Reading.{ProgramReads, OnePathEach}
+use Rattle.splice_laws.specs.RunLaws.Reading.{ProgramReads, OnePathEach}
 use Rattle.order_runs.specs.CycleRuns.Linked.{Linked}
 use Rattle.order_runs.specs.CycleRuns.OrderCycles.NewNames.{FewNames}
 use Rattle.order_runs.specs.CycleRuns.OrderCycles.Steps.{site_added}

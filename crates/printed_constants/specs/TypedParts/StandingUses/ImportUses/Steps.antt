@@ -21,8 +21,8 @@ use Rattle.run_rules.specs.Texts.{FileText}
 use Rattle.member_uses.specs.PossibleUses.Among.{Keyed}
 use Rattle.constant_steps.specs.PlaceMeanings.Parts.{AllScoped}
 use Rattle.constant_steps.specs.PlaceMeanings.Laws.{AreNamesOf}
-use Rattle.constant_forms.specs.declared.reduced.ConstantForm.{ConstantForm}
-use Rattle.constant_forms.specs.Views.{name_expr, form_of}
+use Rattle.constant_edits.specs.ConstantForm.{ConstantForm}
+use Rattle.constant_edits.specs.Views.{name_expr, form_of}
 use Rattle.repeated_parts.specs.ImportsUnused.Uses.{all_parts}
 use Rattle.repeated_parts.specs.ImportsUnused.Told.{IsTold}
 use Rattle.printed_constants.specs.TypedParts.StandingUses.ImportUses.Parts.{IsName, IsNoImport, DottedImports, StandsOnce}

@@ -14,13 +14,13 @@ use Rattle.run_rules.specs.Run.{Standing, here_of, is_commented, step_in}
 use Rattle.run_rules.specs.Sites.{MarkRef, Where, an_expr}
 use Rattle.run_rules.specs.Steps.{At, same_here, Found, unused_specs}
 use Rattle.run_rules.specs.Texts.{FileText}
-use Rattle.run_rules.specs.SpliceLaws.RunLaws.Reading.{ProgramReads}
+use Rattle.splice_laws.specs.RunLaws.Reading.{ProgramReads}
 use Rattle.constant_edits.specs.Edits.{IsStep}
-use Rattle.constant_forms.specs.declared.uses.ConstantUse.{ConstantUse}
-use Rattle.constant_forms.specs.declared.reduced.ConstantForm.{ConstantForm}
-use Rattle.constant_forms.specs.declared.reduced.ReducedConstant.TheVariants.{Becomes}
-use Rattle.constant_forms.specs.Uses.{IsUse, IsReducedTo}
-use Rattle.constant_forms.specs.Views.{named_of, form_of}
+use Rattle.constant_edits.specs.ConstantUse.{ConstantUse}
+use Rattle.constant_edits.specs.ConstantForm.{ConstantForm}
+use Rattle.constant_edits.specs.ReducedConstant.TheVariants.{Becomes}
+use Rattle.constant_edits.specs.Uses.{IsUse, IsReducedTo}
+use Rattle.constant_edits.specs.Views.{named_of, form_of}
 use Rattle.printed_constants.specs.TypedParts.StandingUses.Laws.{AreTyped}
 use Rattle.repeated_parts.specs.ImportsUnused.Told.{IsTold}
 use Rattle.repeated_parts.specs.ImportsUnused.Uses.{all_parts}

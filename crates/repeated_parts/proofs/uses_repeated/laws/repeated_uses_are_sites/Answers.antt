@@ -2,7 +2,7 @@ use Rattle.go_tree.specs.declared.spans.Span.{Span}
 use Rattle.run_rules.specs.Respanned.{file_with}
 use Rattle.run_rules.specs.Run.{here_of}
 use Rattle.run_rules.specs.Steps.{At}
-use Rattle.constant_steps.proofs.PlaceMeanings.PlacesMean.{places_mean, read_places_mean, blocks_local, read_blocks_local}
+use Rattle.member_uses.proofs.PlacesMean.{places_mean, read_places_mean, blocks_local, read_blocks_local}
 use Rattle.repeated_parts.proofs.Walked.{flags_follow}
 use Rattle.repeated_parts.proofs.UsesRepeated.Kept.{flags_kept}
 use Rattle.repeated_parts.proofs.uses_repeated.laws.repeated_uses_are_sites.Goals as goal

@@ -8,7 +8,7 @@ use Rattle.operand_modes.specs.OperandAnswers.Lists.{GivesAll}
 use Rattle.operand_modes.proofs.OperandAnswers.KeptLemmas.{env_kept, keeps_on}
 use Rattle.go_tree.specs.ScopeNames.FreeNames.{names_of}
 use Rattle.control_steps.specs.LocalBlocks.Places.{in_block_of}
-use Rattle.call_steps.proofs.CallSteps.{arguments_there}
+use Rattle.expr_walk.proofs.CallSteps.{arguments_there}
 use Rattle.expr_walk.proofs.WalkArms.ExprArms.{at}
 use Rattle.statement_walk.specs.SimpleWalk.ConstantGroups.Groups.{numbered}
 use Rattle.statement_walk.proofs.SimpleWalk.ConstantGroups.MemberLemmas.{constants_there, place_here, place_kept, stands_numbered, written_kept, written_stays}

@@ -1,5 +1,0 @@
-use Rattle.run_rules.proofs.SpliceLaws.ImportSplices.FormSplices.FormsFound.{step-makes-form}
-use Rattle.run_rules.proofs.splice_laws.import_splices.form_splices.laws.steps_make_forms.Goals as goal
-
-pub returns : goal.returns
-returns c = λ marks st l after n. step-makes-form marks st l after n

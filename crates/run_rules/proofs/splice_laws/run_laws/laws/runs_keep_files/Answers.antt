@@ -1,8 +1,0 @@
-use Rattle.run_rules.proofs.SpliceLaws.RunLaws.FilesKept.{runs_keep_files, runs_are_inlinings}
-use Rattle.run_rules.proofs.splice_laws.run_laws.laws.runs_keep_files.Goals as goal
-
-pub returns-clause-keep : goal.returns-clause-keep
-returns-clause-keep c = runs_keep_files
-
-pub returns-clause-inlining : goal.returns-clause-inlining
-returns-clause-inlining c = runs_are_inlinings
