@@ -36,8 +36,7 @@ use Rattle.statement_walk.specs.Parts.{GivesRead, IsRead}
 use Rattle.block_walk.specs.declared.arms.OpenArm.{OpenArm}
 use Rattle.block_walk.specs.Answers.{GivesEnds, GivesLeft, GivesTest, IsBodyPlace, StaysAround, behind}
 use Rattle.block_walk.specs.Arms.{ArmValue, ArmsRead, AreArmsRead, AreOpen, none_open, one_open, GivesArm, GivesOpen, IsArm, arm_before, arms_onto, if_answer, innermost_first, opened}
-use Rattle.block_walk.specs.Walked.{AreWalkedArms, AreWalkedStmts, IsHeader, size_arms, size_stmts}
-use Rattle.statement_walk.specs.Walked as expression
+use Rattle.block_walk.specs.Walked.{AreWalkedArms, AreWalkedStmts, IsHeader, IsWalkedExpr, size_arms, size_header, size_literals, size_stmts}
 use Rattle.block_walk.proofs.EndLemmas.{left_none, none_only}
 use Rattle.block_walk.proofs.LoopLemmas.{header_declares, two_tests, used_then}
 use Rattle.block_walk.proofs.PlaceSteps.{there_in}
@@ -47,7 +46,7 @@ use Rattle.block_walk.proofs.PlaceSteps.{there_in}
 -- what is asked of an arm
 pub record IsWalkedArm (x : source.Arm) : Type 0 where
   pub header : IsHeader (boxed_stmt_option_of x.first)
-  pub test : expression.IsWalked (expr_of x.test)
+  pub test : IsWalkedExpr (expr_of x.test)
   pub block : AreWalkedStmts (stmts_of x.body.stmts)
 
 pub arm_walked :
@@ -57,14 +56,20 @@ arm_walked [] i x l p h = absurd (omega (arith, l))
 arm_walked (y ∷ xs) zero x l p h = subst IsWalkedArm (sym p) (record { header = h.0; test = h.1; block = h.2 })
 arm_walked (y ∷ xs) (suc i) x l p h = arm_walked xs i x (omega (arith, l)) p h.3
 
+-- how deep the walk over an arm can go
+abbrev pub arm_size : source.Arm → ℕ
+arm_size x =
+    size_header (boxed_stmt_option_of x.first)
+    + (size_literals (expr_of x.test) + size_stmts (stmts_of x.body.stmts))
+
 pub arm_smaller :
     (xs : List source.Arm) (i : ℕ) (x : source.Arm) → i < length xs → x ≡ get_or xs i x →
-    3 + size_stmts (stmts_of x.body.stmts) < size_arms (arms_from (map arm_of xs))
+    5 + arm_size x < size_arms (arms_from (map arm_of xs))
 arm_smaller [] i x l p = absurd (omega (arith, l))
 arm_smaller (y ∷ xs) zero x l p =
-    subst (λ x. 3 + size_stmts (stmts_of x.body.stmts) < size_arms (arms_from (map arm_of (y ∷ xs)))) (sym p) (omega arith)
+    subst (λ x. 5 + arm_size x < size_arms (arms_from (map arm_of (y ∷ xs)))) (sym p) (omega arith)
 arm_smaller (y ∷ xs) (suc i) x l p =
-    let h : 3 + size_stmts (stmts_of x.body.stmts) < size_arms (arms_from (map arm_of xs)) =
+    let h : 5 + arm_size x < size_arms (arms_from (map arm_of xs)) =
     arm_smaller xs i x (omega (arith, l)) p in
     omega (arith, h)
 

@@ -50,12 +50,12 @@ stmt_walked (y ∷ xs) (suc i) x l p h = stmt_walked xs i x (omega (arith, l)) p
 
 pub stmt_smaller :
     (xs : List source.Stmt) (i : ℕ) (x : source.Stmt) → i < length xs → x ≡ get_or xs i x →
-    1 + size_stmt (stmt_of x) < size_stmts (stmts_from (map stmt_of xs))
+    2 + size_stmt (stmt_of x) < size_stmts (stmts_from (map stmt_of xs))
 stmt_smaller [] i x l p = absurd (omega (arith, l))
 stmt_smaller (y ∷ xs) zero x l p =
-    subst (λ x. 1 + size_stmt (stmt_of x) < size_stmts (stmts_from (map stmt_of (y ∷ xs)))) (sym p) (omega arith)
+    subst (λ x. 2 + size_stmt (stmt_of x) < size_stmts (stmts_from (map stmt_of (y ∷ xs)))) (sym p) (omega arith)
 stmt_smaller (y ∷ xs) (suc i) x l p =
-    let h : 1 + size_stmt (stmt_of x) < size_stmts (stmts_from (map stmt_of xs)) = stmt_smaller xs i x (omega (arith, l)) p in
+    let h : 2 + size_stmt (stmt_of x) < size_stmts (stmts_from (map stmt_of xs)) = stmt_smaller xs i x (omega (arith, l)) p in
     omega (arith, h)
 
 -- ---- a statement and those that are left

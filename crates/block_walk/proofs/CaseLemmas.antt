@@ -44,7 +44,6 @@ use Rattle.jump_rules.specs.UsedLocals.Used.{Used, and_names}
 use Rattle.jump_rules.specs.UsedLocals.Walked.{IsWalked}
 use Rattle.jump_rules.proofs.UsedLocals.ScopeLaws.{blocks_begin}
 use Rattle.jump_rules.proofs.UsedLocals.UsedLemmas.{names_append}
-use Rattle.statement_walk.specs.Walked.{AreAllWalked}
 use Rattle.statement_walk.specs.declared.range_steps.case_steps.seen.CasesSeen.{CasesSeen}
 use Rattle.statement_walk.specs.RangeSteps.CaseSteps.Cases.{choice_after, with_case}
 use Rattle.statement_walk.proofs.RangeSteps.CaseSteps.ValueLemmas.{values_alike, values_kept}
@@ -52,7 +51,7 @@ use Rattle.statement_walk.proofs.SimpleWalk.SimpleLemmas.{types_kept}
 use Rattle.statement_walk.specs.Parts.{GivesRead, IsRead}
 use Rattle.block_walk.specs.Answers.{GivesEnds, GivesLeft, IsBodyPlace, StaysAround, behind}
 use Rattle.block_walk.specs.Cases.{AreCasesRead, CaseValue, CasesRead, GivesAdded, GivesCase, GivesTag, IsCase, IsTagIfOk, case_before}
-use Rattle.block_walk.specs.Walked.{AreWalkedCases, AreWalkedStmts, size_cases, size_stmts}
+use Rattle.block_walk.specs.Walked.{AreWalkedCases, AreWalkedExprs, AreWalkedStmts, size_cases, size_exprs, size_stmts}
 use Rattle.block_walk.proofs.EndLemmas.{left_none}
 use Rattle.block_walk.proofs.LoopLemmas.{header_declares, used_last, used_then}
 use Rattle.block_walk.proofs.PlaceSteps.{body_place_kept}
@@ -60,7 +59,7 @@ use Rattle.block_walk.proofs.PlaceSteps.{body_place_kept}
 -- ---- cases of the code
 
 pub record IsWalkedCase (x : source.Case) : Type 0 where
-  pub values : AreAllWalked (exprs_of x.values)
+  pub values : AreWalkedExprs (exprs_of x.values)
   pub block : AreWalkedStmts (stmts_of x.body)
 
 pub case_walked :
@@ -70,14 +69,18 @@ case_walked [] i x l p h = absurd (omega (arith, l))
 case_walked (y ∷ xs) zero x l p h = subst IsWalkedCase (sym p) (record { values = h.0; block = h.1 })
 case_walked (y ∷ xs) (suc i) x l p h = case_walked xs i x (omega (arith, l)) p h.2
 
+-- how deep the walk over a case can go
+abbrev pub case_size : source.Case → ℕ
+case_size x = size_exprs (exprs_of x.values) + size_stmts (stmts_of x.body)
+
 pub case_smaller :
     (xs : List source.Case) (i : ℕ) (x : source.Case) → i < length xs → x ≡ get_or xs i x →
-    3 + size_stmts (stmts_of x.body) < size_cases (cases_from (map case_of xs))
+    3 + case_size x < size_cases (cases_from (map case_of xs))
 case_smaller [] i x l p = absurd (omega (arith, l))
 case_smaller (y ∷ xs) zero x l p =
-    subst (λ x. 3 + size_stmts (stmts_of x.body) < size_cases (cases_from (map case_of (y ∷ xs)))) (sym p) (omega arith)
+    subst (λ x. 3 + case_size x < size_cases (cases_from (map case_of (y ∷ xs)))) (sym p) (omega arith)
 case_smaller (y ∷ xs) (suc i) x l p =
-    let h : 3 + size_stmts (stmts_of x.body) < size_cases (cases_from (map case_of xs)) =
+    let h : 3 + case_size x < size_cases (cases_from (map case_of xs)) =
     case_smaller xs i x (omega (arith, l)) p in
     omega (arith, h)
 

@@ -1,5 +1,6 @@
 -- First statements of headers, conditions, and statements behind each turn of a loop.
 use Rattle.std.proofs.Common.{◌≡◌, ◌∙◌, ℕ, Bool, true, false, List, [], Option, Some, None, Result, Ok, Err, refl, sym, ap, ap₂, subst}
+use Rattle.std.proofs.lemmas.Bool.{true≢false}
 use Rattle.std.specs.Prelude.{is_some}
 use Rattle.go_tree.specs.declared.spans.Span.{Span}
 use Rattle.go_tree.specs.Tree.{Expr, some_expr, StmtOption, no_stmt, some_stmt, Stmt, const_decl, var_decl, empty, eval, step, assign, define, return_, break_, continue_, inner, if_, for_, range_, switch, defer, label}
@@ -24,12 +25,11 @@ use Rattle.control_steps.proofs.LocalBlocks.SeenNames.{parts_seen}
 use Rattle.statement_walk.proofs.ExprArms.{at}
 use Rattle.jump_rules.specs.declared.used_locals.pending.PendingName.{PendingName}
 use Rattle.jump_rules.specs.UsedLocals.Used.{Used}
-use Rattle.statement_walk.specs.SimpleWalk.Simple.{IsSimple}
 use Rattle.statement_walk.specs.Parts.{AreHere, GivesRead}
 use Rattle.statement_walk.proofs.SpecsLemmas.{part_none}
 use Rattle.block_walk.specs.Answers.{GivesEnds, GivesStatement, GivesTest, without_end}
 use Rattle.block_walk.specs.Headers.{post_typed}
-use Rattle.block_walk.specs.Walked.{IsPost, is_declaration}
+use Rattle.block_walk.specs.Walked.{IsPost, IsSimple, is_declaration}
 
 -- ---- first statements
 
@@ -111,8 +111,8 @@ test_is env e = by (defined_in env) (parts env e)
 
 pub post_declared : (c : Ctx) (env : Env) (t : Stmt Span) → is_declaration t ≡ true → IsPost t → post_typed c env t ≡ false
 post_declared c env (define _ ns es) h w = refl
-post_declared c env (const_decl _ _ ss) h w = absurd w
-post_declared c env (var_decl _ _ ss) h w = absurd w
+post_declared c env (const_decl _ _ ss) h w = absurd (true≢false (w refl).2)
+post_declared c env (var_decl _ _ ss) h w = absurd (true≢false (w refl).2)
 post_declared c env (empty _) h w = absurd (cc)
 post_declared c env (eval _ e) h w = absurd (cc)
 post_declared c env (step _ e up) h w = absurd (cc)
@@ -121,12 +121,12 @@ post_declared c env (return_ _ es) h w = absurd (cc)
 post_declared c env (break_ _ l) h w = absurd (cc)
 post_declared c env (continue_ _ l) h w = absurd (cc)
 post_declared c env (defer _ e) h w = absurd (cc)
-post_declared c env (inner _ b) h w = absurd w
-post_declared c env (if_ _ bs last) h w = absurd w
-post_declared c env (for_ _ i t p _ b) h w = absurd w
-post_declared c env (range_ _ l e _ b) h w = absurd w
-post_declared c env (switch _ i t cs) h w = absurd w
-post_declared c env (label _ n s) h w = absurd w
+post_declared c env (inner _ b) h w = absurd (cc)
+post_declared c env (if_ _ bs last) h w = absurd (cc)
+post_declared c env (for_ _ i t p _ b) h w = absurd (cc)
+post_declared c env (range_ _ l e _ b) h w = absurd (cc)
+post_declared c env (switch _ i t cs) h w = absurd (cc)
+post_declared c env (label _ n s) h w = absurd (cc)
 
 typed_alone : (o : Option Bool) → is_some (second_of o (Some no_names)) ≡ is_some o
 typed_alone None = refl
@@ -141,15 +141,15 @@ post_is c env (return_ s es) w = typed_alone (stmt c env (return_ s es))
 post_is c env (break_ s l) w = typed_alone (stmt c env (break_ s l))
 post_is c env (continue_ s l) w = typed_alone (stmt c env (continue_ s l))
 post_is c env (defer s e) w = typed_alone (stmt c env (defer s e))
-post_is c env (const_decl _ _ ss) w = absurd w
-post_is c env (var_decl _ _ ss) w = absurd w
-post_is c env (define _ ns es) w = absurd w
-post_is c env (inner _ b) w = absurd w
-post_is c env (if_ _ bs last) w = absurd w
-post_is c env (for_ _ i t p _ b) w = absurd w
-post_is c env (range_ _ l e _ b) w = absurd w
-post_is c env (switch _ i t cs) w = absurd w
-post_is c env (label _ n s) w = absurd w
+post_is c env (const_decl _ _ ss) w = absurd (true≢false w.2)
+post_is c env (var_decl _ _ ss) w = absurd (true≢false w.2)
+post_is c env (define _ ns es) w = absurd (true≢false w.2)
+post_is c env (inner _ b) w = absurd (true≢false w.1)
+post_is c env (if_ _ bs last) w = absurd (true≢false w.1)
+post_is c env (for_ _ i t p _ b) w = absurd (true≢false w.1)
+post_is c env (range_ _ l e _ b) w = absurd (true≢false w.1)
+post_is c env (switch _ i t cs) w = absurd (true≢false w.1)
+post_is c env (label _ n s) w = absurd (true≢false w.1)
 
 pub post_known :
     (c : Ctx) (env : Env) (t : Stmt Span) → IsSimple t → (total q : Used) (r : Result Bool Refusal) →

@@ -8,3 +8,7 @@ pub mod LoopLemmas
 pub mod ArmLemmas
 pub mod CaseLemmas
 pub mod RangeLemmas
+pub mod LiteralLemmas
+pub mod FineLiterals
+pub mod WalkedLiterals
+pub mod LiteralBlocks

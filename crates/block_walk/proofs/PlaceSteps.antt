@@ -17,7 +17,6 @@ use Rattle.control_steps.specs.LocalBlocks.Places.{IsPlace}
 use Rattle.control_steps.proofs.LocalBlocks.PlaceLemmas.{blocks_begin, places_are_environments}
 use Rattle.jump_rules.specs.declared.around.Around.{Around}
 use Rattle.jump_rules.specs.Labels.{IsAround}
-use Rattle.statement_walk.specs.Walked.{IsWalked}
 use Rattle.statement_walk.proofs.ExprArms.{at}
 use Rattle.statement_walk.proofs.SimpleWalk.ConstantGroups.MemberLemmas.{place_kept}
 use Rattle.statement_walk.proofs.SimpleWalk.SimpleLemmas.{body_kept}
@@ -83,8 +82,8 @@ there_in k m g bs s u names block a b c env here ts h p =
 -- the names that an expression uses there
 pub used_here :
     (k : Tables) (bs : List Names) (s : Scope) (block : List (List ℕ)) (env : Env) → IsPlace k.env k.consts bs s block env →
-    (e : Expr Span) → IsWalked e → used (at k bs s) e ≡ used env e
-used_here k bs s block env p e h =
+    (e : Expr Span) → used (at k bs s) e ≡ used env e
+used_here k bs s block env p e =
     sym
     (ap (λ env. used env e) (places_are_environments k.env k.consts bs s block env p)
-    ∙ used_seen (at k bs s) env.here e h)
+    ∙ used_seen (at k bs s) env.here e)

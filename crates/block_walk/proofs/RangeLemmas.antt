@@ -31,8 +31,6 @@ use Rattle.go_tree.specs.declared.const_eval.consts.Const.{Const}
 use Rattle.statement_walk.specs.Specs.{GivesVariables}
 use Rattle.statement_walk.specs.TargetList.{TargetList}
 use Rattle.statement_walk.specs.Targets.{AreTargetsIfOk, GivesTargets}
-use Rattle.statement_walk.specs.Walked.{AreAllWalked}
-use Rattle.statement_walk.specs.Walked as expression
 use Rattle.statement_walk.proofs.ExprArms.{at}
 use Rattle.statement_walk.proofs.SimpleWalk.ConstantGroups.MemberLemmas.{place_kept}
 use Rattle.statement_walk.proofs.SimpleWalk.SeenStatements.{targets_seen}
@@ -112,26 +110,26 @@ module _ (m n : Tables) (g : Keeps m n) (bs : List Names) (s : Scope) (block : L
 -- the names that are used there
 module _ (k : Tables) (bs : List Names) (s : Scope) (block : List (List ℕ)) (env : Env)
     (p : IsPlace k.env k.consts bs s block (in_block env)) where
-  pub used_before : (e : Expr Span) → expression.IsWalked e → used (at k bs s) e ≡ used env e
-  used_before e h = used_here k bs s block (in_block env) p e h ∙ used_seen env [] e h
+  pub used_before : (e : Expr Span) → used (at k bs s) e ≡ used env e
+  used_before e = used_here k bs s block (in_block env) p e ∙ used_seen env [] e
 
-  pub left_before : (es : Exprs Span) → AreAllWalked es → used_left (at k bs s) es ≡ used_left env es
-  left_before es h =
+  pub left_before : (es : Exprs Span) → used_left (at k bs s) es ≡ used_left env es
+  left_before es =
       sym
       (ap (λ env. used_left env es) (places_are_environments k.env k.consts bs s block (in_block env) p)
-      ∙ left_seen (at k bs s) [] es h)
-      ∙ left_seen env [] es h
+      ∙ left_seen (at k bs s) [] es)
+      ∙ left_seen env [] es
 
 pub left_then_over :
     (k i : Tables) → Keeps k i → (bs : List Names) (s : Scope) → Stands k bs s → (block : List (List ℕ)) (env : Env) →
-    IsPlace k.env k.consts bs s block (in_block env) → (es : Exprs Span) (e : Expr Span) → AreAllWalked es → expression.IsWalked e →
+    IsPlace k.env k.consts bs s block (in_block env) → (es : Exprs Span) (e : Expr Span) →
     (x y z : Used) → y ≡ and_names (used_left (at k bs s) es) x → z ≡ and_names (used (at i bs s) e) y →
     z ≡ and_names (used_left env es ++ used env e) x
-left_then_over k i g bs s st block env p es e wl we x y z h u =
+left_then_over k i g bs s st block env p es e x y z h u =
     u ∙ ap (and_names (used (at i bs s) e)) h
     ∙ ap₂ (λ ns ms. and_names ns (and_names ms x))
-    (used_before i bs s block env (place_kept k i g bs s st block (in_block env) p) e we)
-    (left_before k bs s block env p es wl)
+    (used_before i bs s block env (place_kept k i g bs s st block (in_block env) p) e)
+    (left_before k bs s block env p es)
     ∙ sym (names_append (used_left env es) (used env e) x)
 
 pub targets_there :

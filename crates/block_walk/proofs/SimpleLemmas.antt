@@ -20,18 +20,22 @@ use Rattle.control_steps.specs.declared.returns.Body.{Body}
 use Rattle.control_steps.specs.Ends.{EndsAs}
 use Rattle.control_steps.specs.LocalBlocks.Places.{IsPlace, IsWithin, in_block_of}
 use Rattle.control_steps.proofs.LocalBlocks.PlaceLemmas.{places_are_environments}
-use Rattle.statement_walk.specs.Walked.{AreAllWalked, IsWalked}
 use Rattle.statement_walk.proofs.ExprArms.{at}
 use Rattle.jump_rules.specs.declared.around.Around.{Around}
 use Rattle.jump_rules.specs.declared.used_locals.pending.PendingName.{PendingName}
 use Rattle.jump_rules.specs.UsedLocals.Used.{Used, and_names}
 use Rattle.jump_rules.proofs.UsedLocals.ScopeLaws.{parts_use}
-use Rattle.statement_walk.specs.SimpleWalk.Simple.{IsSimple}
+use Rattle.statement_walk.specs.SimpleWalk.Simple.{IsSimpleAt}
+use Rattle.statement_walk.specs.FunctionLiterals.Found.{literals_in_all}
+use Rattle.statement_walk.specs.FunctionLiterals.Laws.{all_typed_at}
+use Rattle.block_walk.specs.Literals.{literals_of}
+use Rattle.block_walk.proofs.LiteralLemmas.{all_at, typed_two, walked_at}
+use Rattle.std.proofs.lemmas.Bool.{true≢false}
 use Rattle.statement_walk.proofs.SimpleWalk.ConstantGroups.MemberLemmas.{place_kept}
 use Rattle.statement_walk.specs.Parts.{AreHere, GivesRead, IsPart}
 use Rattle.statement_walk.proofs.SeenUses.{all_used_seen, used_seen}
 use Rattle.block_walk.specs.Answers.{GivesEnds, GivesStatement, IsBodyPlace, declaration_answer, side_uses, target_uses}
-use Rattle.block_walk.specs.Walked.{is_name}
+use Rattle.block_walk.specs.Walked.{IsSimple, is_name}
 
 -- ---- left sides
 
@@ -70,35 +74,35 @@ module _ (env : Env) (names : List (List ℕ)) where
   abbrev there : Env
   there = in_block_of names env
 
-  side_seen : (e : Expr Span) → IsWalked e → side_uses there e ≡ side_uses env e
-  side_seen e h = ap (λ ns. cond (is_name e) [] ns) (used_seen env names e h)
+  side_seen : (e : Expr Span) → side_uses there e ≡ side_uses env e
+  side_seen e = ap (λ ns. cond (is_name e) [] ns) (used_seen env names e)
 
-  pub left_seen : (es : Exprs Span) → AreAllWalked es → used_left there es ≡ used_left env es
-  left_seen no_exprs h = refl
-  left_seen (expr_and e es) h =
-      sides_split there e es ∙ ap₂ (λ a b. a ++ b) (side_seen e h.0) (left_seen es h.1) ∙ sym (sides_split env e es)
+  pub left_seen : (es : Exprs Span) → used_left there es ≡ used_left env es
+  left_seen no_exprs = refl
+  left_seen (expr_and e es) =
+      sides_split there e es ∙ ap₂ (λ a b. a ++ b) (side_seen e) (left_seen es) ∙ sym (sides_split env e es)
 
   pub simple_uses_seen : (t : Stmt Span) → IsSimple t → used_stmt there t ≡ used_stmt env t
   simple_uses_seen (empty _) h = refl
-  simple_uses_seen (eval _ e) h = used_seen env names e h
-  simple_uses_seen (step _ e up) h = used_seen env names e h
+  simple_uses_seen (eval _ e) h = used_seen env names e
+  simple_uses_seen (step _ e up) h = used_seen env names e
   simple_uses_seen (assign _ ls None rs) h =
-      ap₂ (λ a b. a ++ b) (left_seen ls h.0) (all_used_seen env names rs h.1)
+      ap₂ (λ a b. a ++ b) (left_seen ls) (all_used_seen env names rs)
   simple_uses_seen (assign _ ls (Some op) rs) h =
-      ap₂ (λ a b. a ++ b) (all_used_seen env names ls h.0) (all_used_seen env names rs h.1)
-  simple_uses_seen (return_ _ es) h = all_used_seen env names es h
+      ap₂ (λ a b. a ++ b) (all_used_seen env names ls) (all_used_seen env names rs)
+  simple_uses_seen (return_ _ es) h = all_used_seen env names es
   simple_uses_seen (break_ _ l) h = refl
   simple_uses_seen (continue_ _ l) h = refl
-  simple_uses_seen (defer _ e) h = used_seen env names e h
-  simple_uses_seen (const_decl _ _ ss) h = absurd h
-  simple_uses_seen (var_decl _ _ ss) h = absurd h
-  simple_uses_seen (define _ ns es) h = absurd h
-  simple_uses_seen (inner _ b) h = absurd h
-  simple_uses_seen (if_ _ bs last) h = absurd h
-  simple_uses_seen (for_ _ i t p _ b) h = absurd h
-  simple_uses_seen (range_ _ l e _ b) h = absurd h
-  simple_uses_seen (switch _ i t cs) h = absurd h
-  simple_uses_seen (label _ n s) h = absurd h
+  simple_uses_seen (defer _ e) h = used_seen env names e
+  simple_uses_seen (const_decl _ _ ss) h = absurd (true≢false h.2)
+  simple_uses_seen (var_decl _ _ ss) h = absurd (true≢false h.2)
+  simple_uses_seen (define _ ns es) h = absurd (true≢false h.2)
+  simple_uses_seen (inner _ b) h = absurd (true≢false h.1)
+  simple_uses_seen (if_ _ bs last) h = absurd (true≢false h.1)
+  simple_uses_seen (for_ _ i t p _ b) h = absurd (true≢false h.1)
+  simple_uses_seen (range_ _ l e _ b) h = absurd (true≢false h.1)
+  simple_uses_seen (switch _ i t cs) h = absurd (true≢false h.1)
+  simple_uses_seen (label _ n s) h = absurd (true≢false h.1)
 
 pub simple_uses_here :
     (k : Tables) (bs : List Names) (s : Scope) (block : List (List ℕ)) (env : Env) → IsPlace k.env k.consts bs s block env →
@@ -189,3 +193,25 @@ module _ (k : Tables) (bs : List Names) (s : Scope) (block : List (List ℕ)) (c
   short_declared sp ns es (Ok v) h = record { typed = ap (λ o. given o (λ d. Some false)) h.is; read = h }
   short_declared sp ns es (Err NotTyped) h = ap (λ o. given o (λ d. Some false)) h
   short_declared sp ns es (Err NoMemory) h = tt
+
+-- a statement may be walked at a place where its function literals are typed
+pub simple_at : (env : Env) (t : Stmt Span) → IsSimple t → all_typed_at env (literals_of t) ≡ true → IsSimpleAt env t
+simple_at env (empty _) h g = tt
+simple_at env (eval _ e) h g = walked_at env e h.0 g
+simple_at env (step _ e up) h g = walked_at env e h.0 g
+simple_at env (assign _ ls op rs) h g =
+    let k = typed_two env (literals_in_all ls) (literals_in_all rs) g in
+    (all_at env ls h.0.0 k.0, all_at env rs h.0.1 k.1)
+simple_at env (return_ _ es) h g = all_at env es h.0 g
+simple_at env (break_ _ l) h g = tt
+simple_at env (continue_ _ l) h g = tt
+simple_at env (defer _ e) h g = walked_at env e h.0 g
+simple_at env (const_decl _ _ ss) h g = absurd (true≢false h.2)
+simple_at env (var_decl _ _ ss) h g = absurd (true≢false h.2)
+simple_at env (define _ ns es) h g = absurd (true≢false h.2)
+simple_at env (inner _ b) h g = absurd (true≢false h.1)
+simple_at env (if_ _ bs last) h g = absurd (true≢false h.1)
+simple_at env (for_ _ i t p _ b) h g = absurd (true≢false h.1)
+simple_at env (range_ _ l e _ b) h g = absurd (true≢false h.1)
+simple_at env (switch _ i t cs) h g = absurd (true≢false h.1)
+simple_at env (label _ n s) h g = absurd (true≢false h.1)

@@ -6,3 +6,4 @@ pub mod Blocks
 pub mod Arms
 pub mod Cases
 pub mod Ranges
+pub mod Literals

@@ -12,25 +12,29 @@ ghost use Rattle.operator_rules.specs.AccessRules.Functions.{AreTypes};
 ghost use Rattle.operand_modes.specs.CheckerTables.Ready.{Keeps};
 ghost use Rattle.operand_modes.specs.OperandAnswers.Known.{Stands};
 ghost use Rattle.control_steps.specs.LocalBlocks.Places.{IsPlace, IsWithin};
-ghost use Rattle.statement_walk.specs.Walked.{IsWalked, IsWalkedOption};
 ghost use Rattle.jump_rules.specs.UsedLocals.Used.{and_names, used_of};
+ghost use Rattle.statement_walk.specs.FunctionLiterals.Found.{literals_in};
 ghost use Rattle.statement_walk.specs.Parts.{AreHere, GivesRead};
 ghost use Rattle.block_walk.specs.Answers.{GivesTest, IsBodyPlace};
 ghost use Rattle.block_walk.specs.Headers.{post_typed};
-ghost use Rattle.block_walk.specs.Walked.{IsHeader, IsPost, IsPostOption};
+ghost use Rattle.block_walk.specs.Literals.{AreKnown};
+ghost use Rattle.block_walk.specs.Walked.{IsHeader, IsPost, IsPostOption, IsWalkedExpr, IsWalkedOption};
 
 use crate::ends::{is_declaration, without_end};
+use crate::found::found_in_expr;
+use crate::literals::walk_literals;
 use crate::plain::{plain_statement, simple_part};
 use control_steps::{Body, LocalBlock, condition};
 use go_tree::{Expr, Stmt};
 use jump_rules::{Around, PendingNames, UsedNames};
 use operand_modes::checker_tables::Tables;
-use statement_walk::{expr, use_expr};
+use statement_walk::{expr_at, use_expr_at};
 use std::alloc::Global;
 use type_table::operand_rules::Refusal;
 use typed_names::{Blocks, Scope};
 
 /// The first statement of a header, which may be left out: what it declares, and the names that it uses.
+#[cycle(nested)]
 pub(crate) fn header(
     alloc: Global,
     tables: &mut Tables,
@@ -67,8 +71,9 @@ pub(crate) fn header(
     }
 }
 
-/// The condition of an `if`, or of a loop that has one: a truth value.
-pub(crate) fn condition_of(
+/// The condition of an `if`, or of a loop that has one: a truth value. The function literals in it are
+/// walked.
+fn condition_here(
     alloc: Global,
     tables: &mut Tables,
     scope: &Scope,
@@ -77,7 +82,8 @@ pub(crate) fn condition_of(
     e: &Expr,
 ) -> Result<(), Refusal>
     requires stands { Stands tables.old blocks.now scope.now }
-    requires walked { IsWalked (expr_of e.now) }
+    requires walked { IsWalkedExpr (expr_of e.now) }
+    requires known { AreKnown tables.old blocks.now scope.now (used_of used.old) (literals_in (expr_of e.now)) }
     ensures stands { Stands tables.new blocks.now scope.now }
     ensures keeps { Keeps tables.old tables.new }
     ensures gives { (env : Env) (block : List (List ℕ))
@@ -85,8 +91,8 @@ pub(crate) fn condition_of(
         → GivesTest (meets (go.parts env (expr_of e.now)) (go_statement.is_condition (defined_in env)))
         (and_names (go.used env (expr_of e.now)) (used_of used.old)) (used_of used.new) result }
 {
-    use_expr(alloc, tables, scope, blocks, used, e)?;
-    let operand = expr(alloc, tables, scope, blocks, e);
+    use_expr_at(alloc, tables, scope, blocks, used, e)?;
+    let operand = expr_at(alloc, tables, scope, blocks, e);
     if condition(tables, operand)? {
         Ok(())
     } else {
@@ -94,21 +100,50 @@ pub(crate) fn condition_of(
     }
 }
 
+/// The condition of an `if`, or of a loop that has one: a truth value.
+#[cycle(nested)]
+pub(crate) fn condition_of(
+    alloc: Global,
+    tables: &mut Tables,
+    scope: &mut Scope,
+    blocks: &Blocks,
+    used: &mut UsedNames,
+    e: &Expr,
+) -> Result<(), Refusal>
+    requires stands { Stands tables.old blocks.now scope.old }
+    requires walked { IsWalkedExpr (expr_of e.now) }
+    ensures stands { Stands tables.new blocks.now scope.new }
+    ensures keeps { Keeps tables.old tables.new }
+    ensures same { scope.new ≡ scope.old }
+    ensures gives { (env : Env) (block : List (List ℕ))
+        → IsPlace tables.old.env tables.old.consts blocks.now scope.old block env
+        → GivesTest (meets (go.parts env (expr_of e.now)) (go_statement.is_condition (defined_in env)))
+        (and_names (go.used env (expr_of e.now)) (used_of used.old)) (used_of used.new) result }
+{
+    let found = found_in_expr(alloc, e)?;
+    match walk_literals(alloc, tables, scope, blocks, used, found.as_slice()) {
+        Ok(()) => condition_here(alloc, tables, scope, blocks, used, e),
+        Err(refusal) => Err(refusal),
+    }
+}
+
 /// The condition of a loop, which may be left out.
+#[cycle(nested)]
 pub(crate) fn loop_condition(
     alloc: Global,
     tables: &mut Tables,
-    scope: &Scope,
+    scope: &mut Scope,
     blocks: &Blocks,
     used: &mut UsedNames,
     test: &Option<Expr>,
 ) -> Result<(), Refusal>
-    requires stands { Stands tables.old blocks.now scope.now }
+    requires stands { Stands tables.old blocks.now scope.old }
     requires walked { IsWalkedOption (plain_expr_option_of test.now) }
-    ensures stands { Stands tables.new blocks.now scope.now }
+    ensures stands { Stands tables.new blocks.now scope.new }
     ensures keeps { Keeps tables.old tables.new }
+    ensures same { scope.new ≡ scope.old }
     ensures gives { (env : Env) (block : List (List ℕ))
-        → IsPlace tables.old.env tables.old.consts blocks.now scope.now block env
+        → IsPlace tables.old.env tables.old.consts blocks.now scope.old block env
         → GivesTest (go_statement.is_test env (go.bound env (plain_expr_option_of test.now)))
         (and_names (go.used_option env (plain_expr_option_of test.now)) (used_of used.old)) (used_of used.new) result }
 {
@@ -119,23 +154,25 @@ pub(crate) fn loop_condition(
 }
 
 /// A statement behind each turn of a loop: a short declaration isn't typed there.
+#[cycle(nested)]
 fn post_statement(
     alloc: Global,
     tables: &mut Tables,
-    scope: &Scope,
+    scope: &mut Scope,
     blocks: &Blocks,
     around: &Around,
     body: &Body,
     used: &mut UsedNames,
     s: &Stmt,
 ) -> Result<bool, Refusal>
-    requires stands { Stands tables.old blocks.now scope.now }
+    requires stands { Stands tables.old blocks.now scope.old }
     requires results { AreTypes tables.old.env body.now.results.items }
     requires post { IsPost (stmt_of s.now) }
-    ensures stands { Stands tables.new blocks.now scope.now }
+    ensures stands { Stands tables.new blocks.now scope.new }
     ensures keeps { Keeps tables.old tables.new }
+    ensures same { scope.new ≡ scope.old }
     ensures gives { (c : Ctx) (env : Env) (block : List (List ℕ))
-        → IsBodyPlace tables.old blocks.now scope.now block around.now body.now c env
+        → IsBodyPlace tables.old blocks.now scope.old block around.now body.now c env
         → GivesTest (post_typed c env (stmt_of s.now)) (and_names (go.used_stmt env (stmt_of s.now)) (used_of used.old))
         (used_of used.new) result }
 {
@@ -147,23 +184,25 @@ fn post_statement(
 }
 
 /// The same, where it may be left out.
+#[cycle(nested)]
 pub(crate) fn post_of(
     alloc: Global,
     tables: &mut Tables,
-    scope: &Scope,
+    scope: &mut Scope,
     blocks: &Blocks,
     around: &Around,
     body: &Body,
     used: &mut UsedNames,
     post: &Option<Box<Stmt>>,
 ) -> Result<(), Refusal>
-    requires stands { Stands tables.old blocks.now scope.now }
+    requires stands { Stands tables.old blocks.now scope.old }
     requires results { AreTypes tables.old.env body.now.results.items }
     requires post { IsPostOption (boxed_stmt_option_of post.now) }
-    ensures stands { Stands tables.new blocks.now scope.now }
+    ensures stands { Stands tables.new blocks.now scope.new }
     ensures keeps { Keeps tables.old tables.new }
+    ensures same { scope.new ≡ scope.old }
     ensures gives { (c : Ctx) (env : Env) (block : List (List ℕ))
-        → IsBodyPlace tables.old blocks.now scope.now block around.now body.now c env
+        → IsBodyPlace tables.old blocks.now scope.old block around.now body.now c env
         → GivesTest (not (go_statement.is_define (boxed_stmt_option_of post.now))
         && is_some (go.first c env (boxed_stmt_option_of post.now)))
         (and_names (go.used_first env (boxed_stmt_option_of post.now)) (used_of used.old)) (used_of used.new) result }

@@ -11,11 +11,10 @@ ghost use Rattle.operator_rules.specs.AccessRules.Functions.{AreTypes};
 ghost use Rattle.operand_modes.specs.CheckerTables.Ready.{Keeps};
 ghost use Rattle.operand_modes.specs.OperandAnswers.Known.{Stands};
 ghost use Rattle.control_steps.specs.LocalBlocks.Places.{IsWithin};
-ghost use Rattle.statement_walk.specs.Walked.{IsWalked};
 ghost use Rattle.jump_rules.specs.UsedLocals.Used.{and_names, used_of};
 ghost use Rattle.block_walk.specs.Answers.{GivesEnds, IsBodyPlace, StaysAround};
 ghost use Rattle.block_walk.specs.Arms.{GivesArm};
-ghost use Rattle.block_walk.specs.Walked.{AreWalkedArms, AreWalkedStmts, IsHeader, IsWalkedBlock};
+ghost use Rattle.block_walk.specs.Walked.{AreWalkedArms, AreWalkedStmts, IsHeader, IsWalkedBlock, IsWalkedExpr};
 
 use crate::arms::{OpenArm, close_arms, if_answer, open_arm};
 use crate::blocks::block_statements;
@@ -44,7 +43,7 @@ fn one_arm(
     requires stands { Stands tables.old blocks.now scope.old }
     requires results { AreTypes tables.old.env body.now.results.items }
     requires header { IsHeader (boxed_stmt_option_of arm.now.first) }
-    requires test { IsWalked (expr_of arm.now.test) }
+    requires test { IsWalkedExpr (expr_of arm.now.test) }
     requires walked { AreWalkedStmts (stmts_of arm.now.body.stmts) }
     ensures stands { Stands tables.new blocks.now scope.new }
     ensures keeps { Keeps tables.old tables.new }

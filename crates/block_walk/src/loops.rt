@@ -11,10 +11,9 @@ ghost use Rattle.go_tree.specs.GoTypes.Typing as go;
 ghost use Rattle.operator_rules.specs.AccessRules.Functions.{AreTypes};
 ghost use Rattle.operand_modes.specs.CheckerTables.Ready.{Keeps};
 ghost use Rattle.operand_modes.specs.OperandAnswers.Known.{Stands};
-ghost use Rattle.statement_walk.specs.Walked.{IsWalked, IsWalkedOption};
 ghost use Rattle.jump_rules.specs.UsedLocals.Used.{and_names, used_of};
 ghost use Rattle.block_walk.specs.Answers.{GivesEnds, IsBodyPlace, StaysAround};
-ghost use Rattle.block_walk.specs.Walked.{AreWalkedStmts, IsHeader, IsPostOption, IsWalkedLeft};
+ghost use Rattle.block_walk.specs.Walked.{AreWalkedStmts, IsHeader, IsPostOption, IsWalkedExpr, IsWalkedLeft, IsWalkedOption};
 
 use crate::blocks::block_statements;
 use crate::ends::{close, is_endless, loop_answer, range_answer};
@@ -132,7 +131,7 @@ pub(crate) fn range_statement(
     requires stands { Stands tables.old blocks.now scope.old }
     requires results { AreTypes tables.old.env body.now.results.items }
     requires left { IsWalkedLeft (range_left_of left.now) }
-    requires over { IsWalked (expr_of over.now) }
+    requires over { IsWalkedExpr (expr_of over.now) }
     requires walked { AreWalkedStmts (stmts_of stmts.now) }
     ensures stands { Stands tables.new blocks.now scope.new }
     ensures keeps { Keeps tables.old tables.new }

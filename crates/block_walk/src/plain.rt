@@ -10,26 +10,29 @@ ghost use Rattle.operand_modes.specs.CheckerTables.Ready.{Keeps};
 ghost use Rattle.operand_modes.specs.OperandAnswers.Known.{Stands};
 ghost use Rattle.control_steps.specs.LocalBlocks.Places.{IsPlace, IsWithin};
 ghost use Rattle.jump_rules.specs.UsedLocals.Used.{and_names, used_of};
-ghost use Rattle.statement_walk.specs.SimpleWalk.Simple.{IsSimple};
 ghost use Rattle.statement_walk.specs.Parts.{AreHere};
 ghost use Rattle.block_walk.specs.Answers.{GivesEnds, GivesStatement, IsBodyPlace};
+ghost use Rattle.block_walk.specs.Literals.{AreKnown, literals_of};
 ghost use Rattle.block_walk.specs.Walked as walked;
-ghost use Rattle.block_walk.specs.Walked.{IsPlain};
+ghost use Rattle.block_walk.specs.Walked.{IsPlain, IsSimple};
 
 use crate::ends::{declaration_answer, is_declaration};
+use crate::found::found_in_statement;
+use crate::groups::{short, variable_group};
+use crate::literals::walk_literals;
 use crate::simple_uses::use_simple;
 use control_steps::{Body, LocalBlock};
 use go_tree::Stmt;
 use jump_rules::{Around, PendingNames, UsedNames};
 use operand_modes::checker_tables::Tables;
-use statement_walk::{constant_group, short_part, simple_statement, variable_group};
+use statement_walk::{constant_group, simple_statement};
 use std::alloc::Global;
 use type_table::operand_rules::Refusal;
 use typed_names::{Blocks, Scope};
 
 /// Whether a statement is terminating that declares nothing, or that it isn't typed; the names that it uses
-/// are used after it.
-pub(crate) fn simple_part(
+/// are used after it. The function literals in it are walked.
+fn simple_here(
     alloc: Global,
     tables: &mut Tables,
     scope: &Scope,
@@ -42,6 +45,7 @@ pub(crate) fn simple_part(
     requires stands { Stands tables.old blocks.now scope.now }
     requires results { AreTypes tables.old.env body.now.results.items }
     requires simple { IsSimple (stmt_of s.now) }
+    requires known { AreKnown tables.old blocks.now scope.now (used_of used.old) (literals_of (stmt_of s.now)) }
     ensures stands { Stands tables.new blocks.now scope.now }
     ensures keeps { Keeps tables.old tables.new }
     ensures gives { (c : Ctx) (env : Env) (block : List (List ℕ))
@@ -53,7 +57,39 @@ pub(crate) fn simple_part(
     simple_statement(alloc, tables, scope, blocks, around, body, s)
 }
 
+/// Whether a statement is terminating that declares nothing, or that it isn't typed; the names that it uses
+/// are used after it.
+#[cycle(nested)]
+pub(crate) fn simple_part(
+    alloc: Global,
+    tables: &mut Tables,
+    scope: &mut Scope,
+    blocks: &Blocks,
+    around: &Around,
+    body: &Body,
+    used: &mut UsedNames,
+    s: &Stmt,
+) -> Result<bool, Refusal>
+    requires stands { Stands tables.old blocks.now scope.old }
+    requires results { AreTypes tables.old.env body.now.results.items }
+    requires simple { IsSimple (stmt_of s.now) }
+    ensures stands { Stands tables.new blocks.now scope.new }
+    ensures keeps { Keeps tables.old tables.new }
+    ensures same { scope.new ≡ scope.old }
+    ensures gives { (c : Ctx) (env : Env) (block : List (List ℕ))
+        → IsBodyPlace tables.old blocks.now scope.old block around.now body.now c env
+        → GivesEnds (go.stmt c env (stmt_of s.now)) (and_names (go.used_stmt env (stmt_of s.now)) (used_of used.old))
+        (used_of used.new) result }
+{
+    let found = found_in_statement(alloc, s)?;
+    match walk_literals(alloc, tables, scope, blocks, used, found.as_slice()) {
+        Ok(()) => simple_here(alloc, tables, scope, blocks, around, body, used, s),
+        Err(refusal) => Err(refusal),
+    }
+}
+
 /// A declaration of constants or variables in a block.
+#[cycle(nested)]
 fn declaration(
     alloc: Global,
     tables: &mut Tables,
@@ -88,10 +124,10 @@ fn declaration(
             declaration_answer(group)
         }
         Stmt::Define { names, right, .. } => {
-            let short = short_part(
+            let defined = short(
                 alloc, tables, scope, blocks, block, used, pending, names, right,
             );
-            declaration_answer(short)
+            declaration_answer(defined)
         }
         Stmt::Empty { .. }
         | Stmt::Eval { .. }
@@ -112,6 +148,7 @@ fn declaration(
 
 /// A statement of a block in which no others stand: whether it is terminating, what it declares, and the
 /// names that it uses.
+#[cycle(nested)]
 pub(crate) fn plain_statement(
     alloc: Global,
     tables: &mut Tables,

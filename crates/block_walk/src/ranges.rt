@@ -9,20 +9,23 @@ ghost use Rattle.go_tree.specs.GoTypes.Typing as go;
 ghost use Rattle.operand_modes.specs.CheckerTables.Ready.{Keeps};
 ghost use Rattle.operand_modes.specs.OperandAnswers.Known.{Stands};
 ghost use Rattle.control_steps.specs.LocalBlocks.Places.{IsPlace, IsWithin};
-ghost use Rattle.statement_walk.specs.Walked.{AreAllWalked, IsWalked};
 ghost use Rattle.jump_rules.specs.declared.used_locals.pending.PendingName.{PendingName};
 ghost use Rattle.jump_rules.specs.UsedLocals.Used.{used_of};
+ghost use Rattle.statement_walk.specs.FunctionLiterals.Found.{literals_in, literals_in_all};
 ghost use Rattle.statement_walk.specs.Parts.{AreHere, GivesRead};
 ghost use Rattle.block_walk.specs.Ranges.{range_clause};
-ghost use Rattle.block_walk.specs.Walked.{IsWalkedLeft};
+ghost use Rattle.block_walk.specs.Literals.{AreKnown, literals_left};
+ghost use Rattle.block_walk.specs.Walked.{AreWalkedExprs, IsWalkedExpr, IsWalkedLeft};
 
+use crate::found::found_in_clause;
+use crate::literals::walk_literals;
 use crate::simple_uses::use_left;
 use control_steps::LocalBlock;
 use go_tree::{Expr, ExprList, NameAtList, RangeLeft};
 use jump_rules::{PendingNames, UsedNames};
 use operand_modes::checker_tables::Tables;
 use statement_walk::{
-    assigns, declare_entities, expr, range_variables, ranges_over, targets, use_expr,
+    assigns, declare_entities, expr_at, range_variables, ranges_over, targets, use_expr_at,
 };
 use std::alloc::Global;
 use type_table::operand_rules::Refusal;
@@ -38,7 +41,8 @@ fn range_alone(
     over: &Expr,
 ) -> Result<(), Refusal>
     requires stands { Stands tables.old blocks.now scope.now }
-    requires over { IsWalked (expr_of over.now) }
+    requires over { IsWalkedExpr (expr_of over.now) }
+    requires known { AreKnown tables.old blocks.now scope.now (used_of used.old) (literals_in (expr_of over.now)) }
     ensures stands { Stands tables.new blocks.now scope.now }
     ensures keeps { Keeps tables.old tables.new }
     ensures gives { (env : Env) (block : List (List ℕ)) (xs : List PendingName)
@@ -47,8 +51,8 @@ fn range_alone(
         (range_clause env tree.nothing (expr_of over.now)) (go.used env (expr_of over.now)) (used_of used.old)
         (used_of used.new) xs xs result }
 {
-    use_expr(alloc, tables, scope, blocks, used, over)?;
-    let operand = expr(alloc, tables, scope, blocks, over);
+    use_expr_at(alloc, tables, scope, blocks, used, over)?;
+    let operand = expr_at(alloc, tables, scope, blocks, over);
     if ranges_over(tables, operand)? {
         Ok(())
     } else {
@@ -67,8 +71,10 @@ fn range_assigning(
     over: &Expr,
 ) -> Result<(), Refusal>
     requires stands { Stands tables.old blocks.now scope.now }
-    requires left { AreAllWalked (exprs_of left.now) }
-    requires over { IsWalked (expr_of over.now) }
+    requires left { AreWalkedExprs (exprs_of left.now) }
+    requires over { IsWalkedExpr (expr_of over.now) }
+    requires known { AreKnown tables.old blocks.now scope.now (used_of used.old)
+        (literals_in_all (exprs_of left.now) ++ literals_in (expr_of over.now)) }
     ensures stands { Stands tables.new blocks.now scope.now }
     ensures keeps { Keeps tables.old tables.new }
     ensures gives { (env : Env) (block : List (List ℕ)) (xs : List PendingName)
@@ -79,8 +85,8 @@ fn range_assigning(
         xs xs result }
 {
     use_left(alloc, tables, scope, blocks, used, left)?;
-    use_expr(alloc, tables, scope, blocks, used, over)?;
-    let operand = expr(alloc, tables, scope, blocks, over);
+    use_expr_at(alloc, tables, scope, blocks, used, over)?;
+    let operand = expr_at(alloc, tables, scope, blocks, over);
     let stored = targets(alloc, tables, scope, blocks, left);
     if assigns(tables, operand, stored)? {
         Ok(())
@@ -102,7 +108,8 @@ fn range_defining(
     over: &Expr,
 ) -> Result<(), Refusal>
     requires stands { Stands tables.old blocks.now scope.old }
-    requires over { IsWalked (expr_of over.now) }
+    requires over { IsWalkedExpr (expr_of over.now) }
+    requires known { AreKnown tables.old blocks.now scope.old (used_of used.old) (literals_in (expr_of over.now)) }
     ensures stands { Stands tables.new blocks.now scope.new }
     ensures keeps { Keeps tables.old tables.new }
     ensures within { IsWithin scope.old scope.new }
@@ -114,8 +121,8 @@ fn range_defining(
         (range_clause env (tree.defines (map name_at_of names.now)) (expr_of over.now)) (go.used env (expr_of over.now))
         (used_of used.old) (used_of used.new) pending.old pending.new result }
 {
-    use_expr(alloc, tables, scope, blocks, used, over)?;
-    let operand = expr(alloc, tables, scope, blocks, over);
+    use_expr_at(alloc, tables, scope, blocks, used, over)?;
+    let operand = expr_at(alloc, tables, scope, blocks, over);
     match range_variables(alloc, tables, names, operand) {
         Ok(variables) => {
             declare_entities(alloc, scope, block, names.items(), &variables.items)?;
@@ -127,8 +134,8 @@ fn range_defining(
 }
 
 /// The clause of a `for` with `range`, in a block that begins: what it declares, and the names that it
-/// uses.
-pub(crate) fn range_header(
+/// uses. The function literals in it are walked.
+fn range_here(
     alloc: Global,
     tables: &mut Tables,
     scope: &mut Scope,
@@ -141,7 +148,9 @@ pub(crate) fn range_header(
 ) -> Result<(), Refusal>
     requires stands { Stands tables.old blocks.now scope.old }
     requires left { IsWalkedLeft (range_left_of left.now) }
-    requires over { IsWalked (expr_of over.now) }
+    requires over { IsWalkedExpr (expr_of over.now) }
+    requires known { AreKnown tables.old blocks.now scope.old (used_of used.old)
+        (literals_left (range_left_of left.now) ++ literals_in (expr_of over.now)) }
     ensures stands { Stands tables.new blocks.now scope.new }
     ensures keeps { Keeps tables.old tables.new }
     ensures within { IsWithin scope.old scope.new }
@@ -160,5 +169,43 @@ pub(crate) fn range_header(
         RangeLeft::Defines(names) => range_defining(
             alloc, tables, scope, blocks, block, used, pending, names, over,
         ),
+    }
+}
+
+/// The clause of a `for` with `range`, in a block that begins: what it declares, and the names that it
+/// uses.
+#[cycle(nested)]
+pub(crate) fn range_header(
+    alloc: Global,
+    tables: &mut Tables,
+    scope: &mut Scope,
+    blocks: &Blocks,
+    block: &mut LocalBlock,
+    used: &mut UsedNames,
+    pending: &mut PendingNames,
+    left: &RangeLeft,
+    over: &Expr,
+) -> Result<(), Refusal>
+    requires stands { Stands tables.old blocks.now scope.old }
+    requires left { IsWalkedLeft (range_left_of left.now) }
+    requires over { IsWalkedExpr (expr_of over.now) }
+    ensures stands { Stands tables.new blocks.now scope.new }
+    ensures keeps { Keeps tables.old tables.new }
+    ensures within { IsWithin scope.old scope.new }
+    ensures start { block.new.start ≡ block.old.start }
+    ensures gives { (env : Env)
+        → IsPlace tables.old.env tables.old.consts blocks.now scope.old block.old.names (in_block env)
+        → AreHere (in_block env) pending.old
+        → GivesRead tables.new blocks.now scope.new block.new.names (in_block env)
+        (range_clause env (range_left_of left.now) (expr_of over.now))
+        (go.used_range env (range_left_of left.now) ++ go.used env (expr_of over.now)) (used_of used.old)
+        (used_of used.new) pending.old pending.new result }
+{
+    let found = found_in_clause(alloc, left, over)?;
+    match walk_literals(alloc, tables, scope, blocks, used, found.as_slice()) {
+        Ok(()) => range_here(
+            alloc, tables, scope, blocks, block, used, pending, left, over,
+        ),
+        Err(refusal) => Err(refusal),
     }
 }

@@ -1,22 +1,23 @@
-//! The names that statements use in which no others stand (Go specification, Declarations and scope;
-//! Assignment statements).
+//! The names that statements use in which no others stand, where those of the function literals in them are
+//! used already (Go specification, Declarations and scope; Assignment statements).
 
-ghost use Rattle.std.specs.Prelude.{◌≡◌, OnOk};
+ghost use Rattle.std.specs.Prelude.{◌≡◌, OnOk, true};
 ghost use Rattle.go_tree.specs.View.{expr_of, exprs_of, stmt_of};
 ghost use Rattle.go_tree.specs.GoTypes.Typing as go;
 ghost use Rattle.typed_names.specs.Scopes.{env_at};
 ghost use Rattle.operand_modes.specs.CheckerTables.Ready.{Keeps};
 ghost use Rattle.operand_modes.specs.OperandAnswers.Known.{Stands};
-ghost use Rattle.statement_walk.specs.Walked.{AreAllWalked, IsWalked};
 ghost use Rattle.jump_rules.specs.UsedLocals.Used.{and_names, used_of};
-ghost use Rattle.statement_walk.specs.SimpleWalk.Simple.{IsSimple};
+ghost use Rattle.statement_walk.specs.FunctionLiterals.Uses.{HasUsedLiterals, HaveUsedLiterals, all_used_in};
 ghost use Rattle.block_walk.specs.Answers.{side_uses, target_uses};
+ghost use Rattle.block_walk.specs.Literals.{literals_of};
 ghost use Rattle.block_walk.specs.Walked as walked;
+ghost use Rattle.block_walk.specs.Walked.{IsSimple};
 
 use go_tree::{BinOp, Expr, ExprList, NoMemory, Stmt};
 use jump_rules::UsedNames;
 use operand_modes::checker_tables::Tables;
-use statement_walk::{use_expr, use_exprs};
+use statement_walk::{use_expr_at, use_exprs_at};
 use std::alloc::Global;
 use typed_names::{Blocks, Scope};
 
@@ -52,7 +53,8 @@ fn use_side(
     e: &Expr,
 ) -> Result<(), NoMemory>
     requires stands { Stands tables.old blocks.now scope.now }
-    requires walked { IsWalked (expr_of e.now) }
+    requires literals { HasUsedLiterals (env_at tables.old.env tables.old.consts blocks.now scope.now)
+        (used_of used.old) (expr_of e.now) }
     ensures stands { Stands tables.new blocks.now scope.now }
     ensures keeps { Keeps tables.old tables.new }
     ensures uses { OnOk result (used_of used.new ≡ and_names
@@ -61,7 +63,7 @@ fn use_side(
     if is_name(e) {
         Ok(())
     } else {
-        use_expr(alloc, tables, scope, blocks, used, e)
+        use_expr_at(alloc, tables, scope, blocks, used, e)
     }
 }
 
@@ -75,7 +77,8 @@ pub(crate) fn use_left(
     es: &ExprList,
 ) -> Result<(), NoMemory>
     requires stands { Stands tables.old blocks.now scope.now }
-    requires walked { AreAllWalked (exprs_of es.now) }
+    requires literals { HaveUsedLiterals (env_at tables.old.env tables.old.consts blocks.now scope.now)
+        (used_of used.old) (exprs_of es.now) }
     ensures stands { Stands tables.new blocks.now scope.now }
     ensures keeps { Keeps tables.old tables.new }
     ensures uses { OnOk result (used_of used.new ≡ and_names
@@ -99,7 +102,8 @@ fn use_targets(
     op: &Option<BinOp>,
 ) -> Result<(), NoMemory>
     requires stands { Stands tables.old blocks.now scope.now }
-    requires walked { AreAllWalked (exprs_of es.now) }
+    requires literals { HaveUsedLiterals (env_at tables.old.env tables.old.consts blocks.now scope.now)
+        (used_of used.old) (exprs_of es.now) }
     ensures stands { Stands tables.new blocks.now scope.now }
     ensures keeps { Keeps tables.old tables.new }
     ensures uses { OnOk result (used_of used.new ≡ and_names
@@ -108,7 +112,7 @@ fn use_targets(
 {
     match op {
         None => use_left(alloc, tables, scope, blocks, used, es),
-        Some(_) => use_exprs(alloc, tables, scope, blocks, used, es),
+        Some(_) => use_exprs_at(alloc, tables, scope, blocks, used, es),
     }
 }
 
@@ -124,6 +128,8 @@ pub(crate) fn use_simple(
 ) -> Result<(), NoMemory>
     requires stands { Stands tables.old blocks.now scope.now }
     requires simple { IsSimple (stmt_of s.now) }
+    requires literals { all_used_in (env_at tables.old.env tables.old.consts blocks.now scope.now)
+        (used_of used.old) (literals_of (stmt_of s.now)) ≡ true }
     ensures stands { Stands tables.new blocks.now scope.now }
     ensures keeps { Keeps tables.old tables.new }
     ensures uses { OnOk result (used_of used.new ≡ and_names
@@ -131,8 +137,8 @@ pub(crate) fn use_simple(
         (used_of used.old)) }
 {
     match s {
-        Stmt::Eval { e, .. } => use_expr(alloc, tables, scope, blocks, used, e),
-        Stmt::Step { e, .. } => use_expr(alloc, tables, scope, blocks, used, e),
+        Stmt::Eval { e, .. } => use_expr_at(alloc, tables, scope, blocks, used, e),
+        Stmt::Step { e, .. } => use_expr_at(alloc, tables, scope, blocks, used, e),
         Stmt::Assign {
             left,
             op,
@@ -140,10 +146,10 @@ pub(crate) fn use_simple(
             ..
         } => {
             use_targets(alloc, tables, scope, blocks, used, left, op)?;
-            use_exprs(alloc, tables, scope, blocks, used, right)
+            use_exprs_at(alloc, tables, scope, blocks, used, right)
         }
-        Stmt::Return { values, .. } => use_exprs(alloc, tables, scope, blocks, used, values),
-        Stmt::Defer { call, .. } => use_expr(alloc, tables, scope, blocks, used, call),
+        Stmt::Return { values, .. } => use_exprs_at(alloc, tables, scope, blocks, used, values),
+        Stmt::Defer { call, .. } => use_expr_at(alloc, tables, scope, blocks, used, call),
         Stmt::Break { .. } => Ok(()),
         Stmt::Continue { .. } => Ok(()),
         Stmt::Empty { .. } => Ok(()),

@@ -15,11 +15,10 @@ ghost use Rattle.operator_rules.specs.AccessRules.Functions.{AreTypes};
 ghost use Rattle.operand_modes.specs.CheckerTables.Ready.{Keeps};
 ghost use Rattle.operand_modes.specs.OperandAnswers.Known.{Stands};
 ghost use Rattle.control_steps.specs.RightSides.Values.{SameValue};
-ghost use Rattle.statement_walk.specs.Walked.{AreAllWalked, IsWalkedOption};
 ghost use Rattle.jump_rules.specs.UsedLocals.Used.{and_names, used_of};
 ghost use Rattle.block_walk.specs.Answers.{GivesEnds, IsBodyPlace, StaysAround};
 ghost use Rattle.block_walk.specs.Cases.{GivesCase, GivesTag, IsTagIfOk};
-ghost use Rattle.block_walk.specs.Walked.{AreWalkedCases, AreWalkedStmts, IsHeader};
+ghost use Rattle.block_walk.specs.Walked.{AreWalkedCases, AreWalkedExprs, AreWalkedStmts, IsHeader, IsWalkedOption};
 
 use crate::blocks::block_statements;
 use crate::ends::{behind, close};
@@ -51,7 +50,7 @@ fn one_case(
     requires stands { Stands tables.old blocks.now scope.old }
     requires results { AreTypes tables.old.env body.now.results.items }
     requires tag { IsValue tables.old.env tables.old.consts tag }
-    requires values { AreAllWalked (exprs_of case.now.values) }
+    requires values { AreWalkedExprs (exprs_of case.now.values) }
     requires walked { AreWalkedStmts (stmts_of case.now.body) }
     ensures stands { Stands tables.new blocks.now scope.new }
     ensures keeps { Keeps tables.old tables.new }

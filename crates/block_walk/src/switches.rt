@@ -15,17 +15,21 @@ ghost use Rattle.operand_modes.specs.OperandAnswers.Known.{Stands};
 ghost use Rattle.operand_modes.specs.OperandAnswers.AccessSteps.Bounds.{GivesBound};
 ghost use Rattle.control_steps.specs.LocalBlocks.Places.{IsPlace};
 ghost use Rattle.control_steps.specs.RightSides.Values.{AreValuesIfOk, GivesValuesAlike, SameValue};
-ghost use Rattle.statement_walk.specs.Walked.{AreAllWalked, IsWalked, IsWalkedOption};
 ghost use Rattle.jump_rules.specs.UsedLocals.Used.{and_names, used_of};
+ghost use Rattle.statement_walk.specs.FunctionLiterals.Found.{literals_in_all, literals_in_option};
 ghost use Rattle.block_walk.specs.Cases.{GivesAdded, GivesTag, IsTagIfOk};
+ghost use Rattle.block_walk.specs.Literals.{AreKnown};
+ghost use Rattle.block_walk.specs.Walked.{AreWalkedExprs, IsWalkedOption};
 
+use crate::found::{found_in_all, found_in_option};
+use crate::literals::walk_literals;
 use control_steps::tag;
 use go_tree::{Case, Expr, ExprList};
 use jump_rules::{UsedNames, breaks_in};
 use operand_modes::ValueList;
 use operand_modes::checker_tables::Tables;
 use operand_modes::operand_answers::bound;
-use statement_walk::{CasesSeen, all_exprs, case_values, expr, use_expr, use_exprs};
+use statement_walk::{CasesSeen, all_exprs_at, case_values, expr_at, use_expr_at, use_exprs_at};
 use std::alloc::Global;
 use type_table::operand_rules::{Refusal, Value};
 use typed_names::{Blocks, Scope};
@@ -41,6 +45,8 @@ fn tag_bound(
 ) -> Result<Option<Value>, Refusal>
     requires stands { Stands tables.old blocks.now scope.now }
     requires walked { IsWalkedOption (plain_expr_option_of e.now) }
+    requires known { AreKnown tables.old blocks.now scope.now (used_of used.old)
+        (literals_in_option (plain_expr_option_of e.now)) }
     ensures stands { Stands tables.new blocks.now scope.now }
     ensures keeps { Keeps tables.old tables.new }
     ensures uses { (env : Env) (block : List (List ℕ))
@@ -53,15 +59,16 @@ fn tag_bound(
     match e {
         None => Ok(None),
         Some(e) => {
-            use_expr(alloc, tables, scope, blocks, used, e)?;
-            let operand = expr(alloc, tables, scope, blocks, e);
+            use_expr_at(alloc, tables, scope, blocks, used, e)?;
+            let operand = expr_at(alloc, tables, scope, blocks, e);
             bound(tables, operand)
         }
     }
 }
 
-/// The value that the cases of a switch are compared with: its tag, or `true`.
-pub(crate) fn switch_tag(
+/// The value that the cases of a switch are compared with: its tag, or `true`. The function literals in the
+/// tag are walked.
+fn tag_here(
     alloc: Global,
     tables: &mut Tables,
     scope: &Scope,
@@ -71,6 +78,8 @@ pub(crate) fn switch_tag(
 ) -> Result<Value, Refusal>
     requires stands { Stands tables.old blocks.now scope.now }
     requires walked { IsWalkedOption (plain_expr_option_of e.now) }
+    requires known { AreKnown tables.old blocks.now scope.now (used_of used.old)
+        (literals_in_option (plain_expr_option_of e.now)) }
     ensures stands { Stands tables.new blocks.now scope.now }
     ensures keeps { Keeps tables.old tables.new }
     ensures there { IsTagIfOk tables.new.env tables.new.consts result }
@@ -86,8 +95,40 @@ pub(crate) fn switch_tag(
     tag(tables, compared)
 }
 
-/// The values of a case, each of which may be compared with the tag.
-pub(crate) fn values_of_case(
+/// The value that the cases of a switch are compared with: its tag, or `true`.
+#[cycle(nested)]
+pub(crate) fn switch_tag(
+    alloc: Global,
+    tables: &mut Tables,
+    scope: &mut Scope,
+    blocks: &Blocks,
+    used: &mut UsedNames,
+    e: &Option<Expr>,
+) -> Result<Value, Refusal>
+    requires stands { Stands tables.old blocks.now scope.old }
+    requires walked { IsWalkedOption (plain_expr_option_of e.now) }
+    ensures stands { Stands tables.new blocks.now scope.new }
+    ensures keeps { Keeps tables.old tables.new }
+    ensures same { scope.new ≡ scope.old }
+    ensures there { IsTagIfOk tables.new.env tables.new.consts result }
+    ensures uses { (env : Env) (block : List (List ℕ))
+        → IsPlace tables.old.env tables.old.consts blocks.now scope.old block env → OnOk result (used_of used.new
+        ≡ and_names (go.used_option env (plain_expr_option_of e.now)) (used_of used.old)) }
+    ensures gives { (env : Env) (block : List (List ℕ))
+        → IsPlace tables.old.env tables.old.consts blocks.now scope.old block env
+        → GivesTag tables.new.env tables.new.consts
+        (go_statement.tag_of env (go.bound env (plain_expr_option_of e.now))) result }
+{
+    let found = found_in_option(alloc, e)?;
+    match walk_literals(alloc, tables, scope, blocks, used, found.as_slice()) {
+        Ok(()) => tag_here(alloc, tables, scope, blocks, used, e),
+        Err(refusal) => Err(refusal),
+    }
+}
+
+/// The values of a case, each of which may be compared with the tag. The function literals in them are
+/// walked.
+fn values_here(
     alloc: Global,
     tables: &mut Tables,
     scope: &Scope,
@@ -98,7 +139,9 @@ pub(crate) fn values_of_case(
 ) -> Result<ValueList, Refusal>
     requires stands { Stands tables.old blocks.now scope.now }
     requires tag { IsValue tables.old.env tables.old.consts tag }
-    requires walked { AreAllWalked (exprs_of es.now) }
+    requires walked { AreWalkedExprs (exprs_of es.now) }
+    requires known { AreKnown tables.old blocks.now scope.now (used_of used.old)
+        (literals_in_all (exprs_of es.now)) }
     ensures stands { Stands tables.new blocks.now scope.now }
     ensures keeps { Keeps tables.old tables.new }
     ensures there { AreValuesIfOk tables.new.env tables.new.consts result }
@@ -112,9 +155,44 @@ pub(crate) fn values_of_case(
         (go_operand.all_typed os) (λ vs. only_if (list_all (go_statement.case_value (defined_in env) w) vs) (Some vs))))
         result }
 {
-    use_exprs(alloc, tables, scope, blocks, used, es)?;
-    let right = all_exprs(alloc, tables, scope, blocks, es);
+    use_exprs_at(alloc, tables, scope, blocks, used, es)?;
+    let right = all_exprs_at(alloc, tables, scope, blocks, es);
     case_values(alloc, tables, tag, right)
+}
+
+/// The values of a case, each of which may be compared with the tag.
+#[cycle(nested)]
+pub(crate) fn values_of_case(
+    alloc: Global,
+    tables: &mut Tables,
+    scope: &mut Scope,
+    blocks: &Blocks,
+    used: &mut UsedNames,
+    tag: Value,
+    es: &ExprList,
+) -> Result<ValueList, Refusal>
+    requires stands { Stands tables.old blocks.now scope.old }
+    requires tag { IsValue tables.old.env tables.old.consts tag }
+    requires walked { AreWalkedExprs (exprs_of es.now) }
+    ensures stands { Stands tables.new blocks.now scope.new }
+    ensures keeps { Keeps tables.old tables.new }
+    ensures same { scope.new ≡ scope.old }
+    ensures there { AreValuesIfOk tables.new.env tables.new.consts result }
+    ensures uses { (env : Env) (block : List (List ℕ))
+        → IsPlace tables.old.env tables.old.consts blocks.now scope.old block env
+        → OnOk result (used_of used.new ≡ and_names (go.used_all env (exprs_of es.now)) (used_of used.old)) }
+    ensures gives { (env : Env) (block : List (List ℕ))
+        → IsPlace tables.old.env tables.old.consts blocks.now scope.old block env → (w : go_operand.Typed)
+        → SameValue w (typed_of tables.old.env tables.old.consts tag)
+        → GivesValuesAlike tables.new.env tables.new.consts (given (go.all_parts env (exprs_of es.now)) (λ os. given
+        (go_operand.all_typed os) (λ vs. only_if (list_all (go_statement.case_value (defined_in env) w) vs) (Some vs))))
+        result }
+{
+    let found = found_in_all(alloc, es)?;
+    match walk_literals(alloc, tables, scope, blocks, used, found.as_slice()) {
+        Ok(()) => values_here(alloc, tables, scope, blocks, used, tag, es),
+        Err(refusal) => Err(refusal),
+    }
 }
 
 /// Adds a case to those of a switch that were seen, by the answers for its values and for its statements.

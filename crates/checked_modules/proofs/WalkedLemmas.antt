@@ -8,8 +8,8 @@ use Rattle.go_tree.specs.Tree.{Expr, ident, int_lit, selector, call, Exprs, no_e
 use Rattle.go_tree.specs.File.{Func}
 use Rattle.go_tree.specs.ConstEval.Literals.{integer_value}
 use Rattle.type_table.specs.OperandRules.Folding.{is_literal_kind}
-use Rattle.block_walk.specs.ExprWalkWalked.{AreAllWalked, IsLiteralOf, IsWalked}
-use Rattle.block_walk.specs.Walked.{AreWalkedStmts, IsWalkedStmt}
+use Rattle.block_walk.specs.ExprWalkWalked.{IsLiteralOf}
+use Rattle.block_walk.specs.Walked.{AreWalkedExprs, AreWalkedStmts, IsWalkedExpr, IsWalkedStmt}
 use Rattle.go_tree.specs.ConstEval.Exact.{number}
 use Rattle.printing_files.specs.Decls.{are_printing, is_function, is_nothing, is_printer, is_printing}
 use Rattle.printing_files.specs.Operands.{are_operands, is_name_alone, is_operand, is_print, is_println, is_short_decimal}
@@ -22,26 +22,26 @@ literal_walked s p =
     let l = short_decimals s p in
     record { spelled = record { literal = l.0; kind = ap (is_literal_kind kind.UntypedInt) l.1 }; value = l.1 }
 
-name_walked : (e : Expr Span) → is_name_alone e ≡ true → IsWalked e
+name_walked : (e : Expr Span) → is_name_alone e ≡ true → IsWalkedExpr e
 name_walked (ident s n) p = tt
 name_walked e p = absurd (true≢false (sym p))
 
-operand_walked : (e : Expr Span) → is_operand e ≡ true → IsWalked e
+operand_walked : (e : Expr Span) → is_operand e ≡ true → IsWalkedExpr e
 operand_walked (ident s n) p = tt
 operand_walked (selector s b n) p = name_walked b p
 operand_walked (int_lit s n) p = literal_walked n p
 operand_walked e p = absurd (true≢false (sym p))
 
-operands_walked : (es : Exprs Span) → are_operands es ≡ true → AreAllWalked es
+operands_walked : (es : Exprs Span) → are_operands es ≡ true → AreWalkedExprs es
 operands_walked no_exprs p = tt
 operands_walked (expr_and e es) p =
     let k = and_both (is_operand e) (are_operands es) p in (operand_walked e k.0, operands_walked es k.1)
 
-println_walked : (e : Expr Span) → is_println e ≡ true → IsWalked e
+println_walked : (e : Expr Span) → is_println e ≡ true → IsWalkedExpr e
 println_walked (ident s n) p = tt
 println_walked e p = absurd (true≢false (sym p))
 
-print_walked : (e : Expr Span) → is_print e ≡ true → IsWalked e
+print_walked : (e : Expr Span) → is_print e ≡ true → IsWalkedExpr e
 print_walked (call s f xs Plain) p =
     let k = and_both (is_println f) (are_operands xs) p in (println_walked f k.0, operands_walked xs k.1)
 print_walked e p = absurd (true≢false (sym p))

@@ -1,6 +1,6 @@
 pub use Rattle.assignment_steps.proofs.DeclaredBlocks.BlockLemmas
 pub use Rattle.expr_walk.proofs.WalkArms.ExprArms
-pub use Rattle.expr_walk.proofs.Parts
+pub use Rattle.expr_walk.proofs.LaterWalks
 pub mod RangeSteps
 pub mod SimpleWalk
 pub mod DeclaredLemmas

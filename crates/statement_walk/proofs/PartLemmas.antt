@@ -28,7 +28,6 @@ use Rattle.go_tree.specs.GoTypes.Typing.{used_all}
 use Rattle.type_table.specs.declared.operand_rules.values.Refusal.{Refusal}
 use Rattle.type_table.specs.declared.operand_rules.values.Refusal.TheVariants.{NotTyped, NoMemory}
 use Rattle.control_steps.proofs.LocalBlocks.PlaceLemmas.{places_are_environments}
-use Rattle.expr_walk.specs.Walked.{AreAllWalked}
 use Rattle.expr_walk.proofs.WalkArms.ExprArms.{at}
 use Rattle.statement_walk.specs.DeclaredVariables.{AreDeclared, GivesNews, GivesVariablesHere}
 use Rattle.statement_walk.specs.Parts.{AreHere, GivesRead, IsRead}
@@ -193,11 +192,11 @@ module _ (k : Tables) (bs : List Names) (s : Scope) (block : List (List ℕ)) (e
 -- what a place uses, as the tables tell
 pub uses_here :
     (k : Tables) (bs : List Names) (s : Scope) (block : List (List ℕ)) (env : Env) → IsPlace k.env k.consts bs s block env →
-    (es : Exprs Span) → AreAllWalked es → used_all (at k bs s) es ≡ used_all env es
-uses_here k bs s block env p es h =
+    (es : Exprs Span) → used_all (at k bs s) es ≡ used_all env es
+uses_here k bs s block env p es =
     sym
     (ap (λ env. used_all env es) (places_are_environments k.env k.consts bs s block env p)
-    ∙ all_used_seen (at k bs s) env.here es h)
+    ∙ all_used_seen (at k bs s) env.here es)
 
 -- a part that is refused
 module _ (k : Tables) (bs : List Names) (s : Scope) (block : List (List ℕ)) (env : Env) (o : Option Declared)

@@ -7,7 +7,7 @@ use Rattle.go_tree.specs.GoTypes.Defined.{Defined}
 use Rattle.go_tree.specs.GoTypes.Types.{GoType}
 use Rattle.go_tree.specs.GoTypes.Entities.{Env}
 use Rattle.go_tree.specs.GoTypes.Literals.{inner_type, is_struct}
-use Rattle.go_tree.specs.GoTypes.Typing.{used_key, used_value}
+use Rattle.statement_walk.specs.FunctionLiterals.Uses.{outer_key, outer_value}
 use Rattle.type_table.specs.declared.nodes.TypeId.{TypeId}
 use Rattle.type_table.specs.TypeRelations.Environment.{defined_types}
 use Rattle.type_table.specs.declared.operand_rules.values.ValueType.TheVariants.{Typed}
@@ -60,10 +60,10 @@ uses_more a b c bs s ns rest p q total w g k h =
 
 -- ---- elements of composite literals
 
--- the names of a key and of a value
+-- the names of a key and of a value, but for those in function literals
 abbrev pub element_uses : Env → List Defined → Option GoType → ValueOption Span → Value Span → List (List ℕ)
 element_uses env ds t x v =
-    used_key env (under_option ds t) x ++ used_value env (given (under_option ds t) (inner_type ds)) v
+    outer_key env (under_option ds t) x ++ outer_value env (given (under_option ds t) (inner_type ds)) v
 
 module _ (k m : Tables) (g : Keeps k m) (bs : List Names) (s : Scope) (known : Stands k bs s) (t : Option TypeId)
     (there : IfSome t (λ t. IsType k.env (Typed t))) where

@@ -1,3 +1,4 @@
 pub mod Params
 pub mod Found
 pub mod Laws
+pub mod Uses

@@ -18,7 +18,7 @@ ghost use Rattle.statement_walk.specs.SimpleWalk.ConstantGroups.Groups.{repeated
 ghost use Rattle.statement_walk.specs.Parts.{AreHere, GivesRead};
 
 use crate::simple_walk::{own_or_repeated, repeated_member};
-use crate::uses::use_exprs;
+use crate::walked_uses::use_exprs;
 use control_steps::LocalBlock;
 use go_tree::{ConstSpec, ConstSpecList};
 use jump_rules::{PendingNames, UsedNames, use_type_option};

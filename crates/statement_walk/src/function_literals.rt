@@ -10,7 +10,7 @@ mod signatures;
 
 pub use ends::end_params;
 pub use found::{find_in_all, find_literals};
-pub use laws::literals_refuse;
+pub use laws::{literals_are_used, literals_refuse};
 pub use operands::literal_operand;
 pub use params::param_part;
 pub use signatures::{literal_body, signature};

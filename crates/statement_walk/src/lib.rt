@@ -16,13 +16,14 @@ mod simple_walk;
 mod uses;
 mod values;
 mod variables;
+mod walked_uses;
 
 pub use assignment_steps::declare_entities;
 pub use constants::{constant_group, constant_part};
-pub use expr_walk::{all_exprs, expr};
+pub use expr_walk::{all_exprs_at, expr_at};
 pub use function_literals::{
-    end_params, find_in_all, find_literals, literal_body, literal_operand, literals_refuse,
-    param_part, signature,
+    end_params, find_in_all, find_literals, literal_body, literal_operand, literals_are_used,
+    literals_refuse, param_part, signature,
 };
 pub use groups::variable_group;
 pub use laws::constants_use_alike;
@@ -34,5 +35,5 @@ pub use shorts::define_statement;
 pub use simple_walk::{
     has_none, own_or_repeated, repeated_member, simple_statement, targets, written_type,
 };
-pub use uses::{use_expr, use_exprs};
 pub use variables::variable_spec;
+pub use walked_uses::{use_expr, use_expr_at, use_exprs, use_exprs_at};

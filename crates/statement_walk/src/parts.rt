@@ -9,18 +9,20 @@ ghost use Rattle.std.specs.Option.{option_map};
 ghost use Rattle.go_tree.specs.GoTypes.Entities.{Env};
 ghost use Rattle.go_tree.specs.GoTypes.Typing as go;
 ghost use Rattle.go_tree.specs.ScopeNames.FreeNames.{free_type_option};
+ghost use Rattle.typed_names.specs.Scopes.{env_at};
 ghost use Rattle.operand_modes.specs.CheckerTables.Ready.{Keeps};
 ghost use Rattle.operand_modes.specs.OperandAnswers.Known.{Stands};
 ghost use Rattle.control_steps.specs.LocalBlocks.Places.{IsPlace, IsWithin};
-ghost use Rattle.expr_walk.specs.Walked.{AreAllWalked};
+ghost use Rattle.expr_walk.specs.Walked.{AreAllWalkedAt};
 ghost use Rattle.jump_rules.specs.UsedLocals.Used.{used_of};
 ghost use Rattle.statement_walk.specs.DeclaredVariables.{spec_variables};
+ghost use Rattle.statement_walk.specs.FunctionLiterals.Uses.{HaveUsedLiterals};
 ghost use Rattle.statement_walk.specs.Parts.{AreHere, GivesRead};
 
 use crate::begins::begin_defined;
 use crate::shorts::define_statement;
-use crate::uses::use_exprs;
 use crate::variables::variable_spec;
+use crate::walked_uses::use_exprs_at;
 use control_steps::LocalBlock;
 use go_tree::{ExprList, NameAtList, VarSpec};
 use jump_rules::{PendingNames, UsedNames, use_type_option};
@@ -43,7 +45,10 @@ pub fn short_part(
     values: &ExprList,
 ) -> Result<(), Refusal>
     requires stands { Stands tables.old blocks.now scope.old }
-    requires walked { AreAllWalked (exprs_of values.now) }
+    requires walked { AreAllWalkedAt (env_at tables.old.env tables.old.consts blocks.now scope.old)
+        (exprs_of values.now) }
+    requires literals { HaveUsedLiterals (env_at tables.old.env tables.old.consts blocks.now scope.old)
+        (used_of used.old) (exprs_of values.now) }
     ensures stands { Stands tables.new blocks.now scope.new }
     ensures keeps { Keeps tables.old tables.new }
     ensures within { IsWithin scope.old scope.new }
@@ -55,7 +60,7 @@ pub fn short_part(
         (go.used_stmt env (tree.define s (map name_at_of names.now) (exprs_of values.now)))
         (used_of used.old) (used_of used.new) pending.old pending.new result }
 {
-    use_exprs(alloc, tables, scope, blocks, used, values)?;
+    use_exprs_at(alloc, tables, scope, blocks, used, values)?;
     match define_statement(alloc, tables, scope, blocks, block, names, values) {
         Ok(defined) => {
             begin_defined(alloc, used, pending, names.items(), &defined.items)?;
@@ -78,7 +83,10 @@ pub fn spec_part(
     spec: &VarSpec,
 ) -> Result<(), Refusal>
     requires stands { Stands tables.old blocks.now scope.old }
-    requires walked { AreAllWalked (exprs_of spec.now.values) }
+    requires walked { AreAllWalkedAt (env_at tables.old.env tables.old.consts blocks.now scope.old)
+        (exprs_of spec.now.values) }
+    requires literals { HaveUsedLiterals (env_at tables.old.env tables.old.consts blocks.now scope.old)
+        (used_of used.old) (exprs_of spec.now.values) }
     ensures stands { Stands tables.new blocks.now scope.new }
     ensures keeps { Keeps tables.old tables.new }
     ensures within { IsWithin scope.old scope.new }
@@ -91,7 +99,7 @@ pub fn spec_part(
         (used_of used.old) (used_of used.new) pending.old pending.new result }
 {
     use_type_option(alloc, used, &spec.of)?;
-    use_exprs(alloc, tables, scope, blocks, used, &spec.values)?;
+    use_exprs_at(alloc, tables, scope, blocks, used, &spec.values)?;
     match variable_spec(alloc, tables, scope, blocks, block, spec) {
         Ok(()) => {
             pending.begin_all(alloc, used, spec.names.items(), true)?;

@@ -7,11 +7,12 @@ ghost use Rattle.go_tree.specs.View.{exprs_of, name_at_of};
 ghost use Rattle.go_tree.specs.GoTypes.Entities.{Env};
 ghost use Rattle.go_tree.specs.GoTypes.Typing as go;
 ghost use Rattle.go_tree.specs.ScopeNames.FreeNames.{names_of};
+ghost use Rattle.typed_names.specs.Scopes.{env_at};
 ghost use Rattle.operand_modes.specs.CheckerTables.Ready.{Keeps};
 ghost use Rattle.operand_modes.specs.OperandAnswers.Known.{Stands};
 ghost use Rattle.control_steps.specs.LocalBlocks.Places.{IsPlace, IsWithin};
 ghost use Rattle.assignment_steps.specs.DefineSteps.Defined.{AreNew, GivesShort};
-ghost use Rattle.expr_walk.specs.Walked.{AreAllWalked};
+ghost use Rattle.expr_walk.specs.Walked.{AreAllWalkedAt};
 ghost use Rattle.statement_walk.specs.DeclaredVariables.{GivesNews};
 
 use crate::values::declared_values;
@@ -35,7 +36,8 @@ fn defined_names(
     values: &ExprList,
 ) -> Result<DefinedList, Refusal>
     requires stands { Stands tables.old blocks.now scope.now }
-    requires walked { AreAllWalked (exprs_of values.now) }
+    requires walked { AreAllWalkedAt (env_at tables.old.env tables.old.consts blocks.now scope.now)
+        (exprs_of values.now) }
     ensures stands { Stands tables.new blocks.now scope.now }
     ensures keeps { Keeps tables.old tables.new }
     ensures there { IfOk result (AreNew tables.new.env tables.new.consts) }
@@ -61,7 +63,8 @@ pub fn define_statement(
     values: &ExprList,
 ) -> Result<DefinedList, Refusal>
     requires stands { Stands tables.old blocks.now scope.old }
-    requires walked { AreAllWalked (exprs_of values.now) }
+    requires walked { AreAllWalkedAt (env_at tables.old.env tables.old.consts blocks.now scope.old)
+        (exprs_of values.now) }
     ensures stands { Stands tables.new blocks.now scope.new }
     ensures keeps { Keeps tables.old tables.new }
     ensures within { IsWithin scope.old scope.new }

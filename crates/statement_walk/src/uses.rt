@@ -1,5 +1,5 @@
-//! The names that expressions use: any that occurs, but for a key that is the field of a struct (Go
-//! specification, Declarations and scope; Composite literals).
+//! The names that expressions use outside the function literals in them: any that occurs, but for a key
+//! that is the field of a struct (Go specification, Declarations and scope; Composite literals).
 
 ghost use Rattle.std.specs.Prelude.{◌≡◌, ◌++◌, [], IfSome, OnOk};
 ghost use Rattle.go_tree.specs.View.{boxed_expr_option_of, elems_of, expr_of, exprs_of, held_value_option_of, type_of};
@@ -7,7 +7,6 @@ ghost use Rattle.go_tree.specs.View.{value_of};
 ghost use Rattle.go_tree.specs.GoTypes.Answers.{given};
 ghost use Rattle.go_tree.specs.GoTypes.Literals as go_literal;
 ghost use Rattle.go_tree.specs.GoTypes.TypeNames as type_name;
-ghost use Rattle.go_tree.specs.GoTypes.Typing as go;
 ghost use Rattle.go_tree.specs.ScopeNames.FreeNames.{free_type};
 ghost use Rattle.type_table.specs.TypeRelations.Environment.{defined_types};
 ghost use Rattle.type_table.specs.declared.operand_rules.values.ValueType.TheVariants.{Typed};
@@ -16,10 +15,10 @@ ghost use Rattle.operator_rules.specs.Settling.{typed_option};
 ghost use Rattle.typed_names.specs.Scopes.{env_at};
 ghost use Rattle.operand_modes.specs.CheckerTables.Ready.{Keeps};
 ghost use Rattle.operand_modes.specs.OperandAnswers.Known.{Stands};
-ghost use Rattle.expr_walk.specs.Walked.{AreAllWalked, AreWalkedElems, IsWalked, IsWalkedKey, IsWalkedOption};
-ghost use Rattle.expr_walk.specs.Walked.{IsWalkedValue};
 ghost use Rattle.jump_rules.specs.UsedLocals.Used.{and_names, used_of};
 ghost use Rattle.statement_walk.specs.Uses.{under_option};
+ghost use Rattle.statement_walk.specs.FunctionLiterals.Uses.{outer_all, outer_elems, outer_key, outer_option};
+ghost use Rattle.statement_walk.specs.FunctionLiterals.Uses.{outer_uses, outer_value};
 
 use crate::literal_types::{
     has_fields, known_type, type_of_braces, type_of_elements, type_of_keys,
@@ -31,9 +30,10 @@ use std::alloc::Global;
 use type_table::TypeId;
 use typed_names::{Blocks, Scope};
 
-/// The names that stand in an expression are used. The tables only grow.
+/// The names that stand in an expression are used, but for those in its function literals. The tables only
+/// grow.
 #[cycle(uses)]
-pub fn use_expr(
+pub(crate) fn use_expr(
     alloc: Global,
     tables: &mut Tables,
     scope: &Scope,
@@ -42,11 +42,10 @@ pub fn use_expr(
     e: &Expr,
 ) -> Result<(), NoMemory>
     requires stands { Stands tables.old blocks.now scope.now }
-    requires walked { IsWalked (expr_of e.now) }
     ensures stands { Stands tables.new blocks.now scope.now }
     ensures keeps { Keeps tables.old tables.new }
     ensures uses { OnOk result (used_of used.new ≡ and_names
-        (go.used (env_at tables.old.env tables.old.consts blocks.now scope.now) (expr_of e.now)) (used_of used.old)) }
+        (outer_uses (env_at tables.old.env tables.old.consts blocks.now scope.now) (expr_of e.now)) (used_of used.old)) }
 {
     match e {
         Expr::Ident { name, .. } => used.add(alloc, name.items()),
@@ -77,7 +76,7 @@ pub fn use_expr(
             use_expr(alloc, tables, scope, blocks, used, callee)?;
             use_exprs(alloc, tables, scope, blocks, used, args)
         }
-        Expr::FuncLit { .. } => unreachable!("no function literal is walked"),
+        Expr::FuncLit { .. } => Ok(()),
     }
 }
 
@@ -92,11 +91,10 @@ fn use_bound(
     e: &Option<Box<Expr>>,
 ) -> Result<(), NoMemory>
     requires stands { Stands tables.old blocks.now scope.now }
-    requires walked { IsWalkedOption (boxed_expr_option_of e.now) }
     ensures stands { Stands tables.new blocks.now scope.now }
     ensures keeps { Keeps tables.old tables.new }
     ensures uses { OnOk result (used_of used.new ≡ and_names
-        (go.used_option (env_at tables.old.env tables.old.consts blocks.now scope.now) (boxed_expr_option_of e.now))
+        (outer_option (env_at tables.old.env tables.old.consts blocks.now scope.now) (boxed_expr_option_of e.now))
         (used_of used.old)) }
 {
     match e {
@@ -107,7 +105,7 @@ fn use_bound(
 
 /// So are those of expressions in order.
 #[cycle(uses)]
-pub fn use_exprs(
+pub(crate) fn use_exprs(
     alloc: Global,
     tables: &mut Tables,
     scope: &Scope,
@@ -116,11 +114,10 @@ pub fn use_exprs(
     es: &ExprList,
 ) -> Result<(), NoMemory>
     requires stands { Stands tables.old blocks.now scope.now }
-    requires walked { AreAllWalked (exprs_of es.now) }
     ensures stands { Stands tables.new blocks.now scope.now }
     ensures keeps { Keeps tables.old tables.new }
     ensures uses { OnOk result (used_of used.new ≡ and_names
-        (go.used_all (env_at tables.old.env tables.old.consts blocks.now scope.now) (exprs_of es.now))
+        (outer_all (env_at tables.old.env tables.old.consts blocks.now scope.now) (exprs_of es.now))
         (used_of used.old)) }
 {
     for e in es.items() {
@@ -141,11 +138,10 @@ fn use_literal(
     elems: &ElemList,
 ) -> Result<(), NoMemory>
     requires stands { Stands tables.old blocks.now scope.now }
-    requires walked { AreWalkedElems (elems_of elems.now) }
     ensures stands { Stands tables.new blocks.now scope.now }
     ensures keeps { Keeps tables.old tables.new }
     ensures uses { OnOk result (used_of used.new ≡ and_names (free_type [] (type_of of.now)
-        ++ go.used_elems (env_at tables.old.env tables.old.consts blocks.now scope.now)
+        ++ outer_elems (env_at tables.old.env tables.old.consts blocks.now scope.now)
         (under_option (defined_types tables.old.env)
         (type_name.type_meant (env_at tables.old.env tables.old.consts blocks.now scope.now) (type_of of.now)))
         (elems_of elems.now)) (used_of used.old)) }
@@ -168,11 +164,10 @@ fn use_elements(
 ) -> Result<(), NoMemory>
     requires stands { Stands tables.old blocks.now scope.now }
     requires of { IfSome t (λ t. IsType tables.old.env (Typed t)) }
-    requires walked { AreWalkedElems (elems_of elems.now) }
     ensures stands { Stands tables.new blocks.now scope.now }
     ensures keeps { Keeps tables.old tables.new }
     ensures uses { OnOk result (used_of used.new ≡ and_names
-        (go.used_elems (env_at tables.old.env tables.old.consts blocks.now scope.now)
+        (outer_elems (env_at tables.old.env tables.old.consts blocks.now scope.now)
         (under_option (defined_types tables.old.env) (typed_option tables.old.env t)) (elems_of elems.now))
         (used_of used.old)) }
 {
@@ -195,14 +190,12 @@ fn use_element(
 ) -> Result<(), NoMemory>
     requires stands { Stands tables.old blocks.now scope.now }
     requires of { IfSome t (λ t. IsType tables.old.env (Typed t)) }
-    requires key { IsWalkedKey (held_value_option_of x.now.key) }
-    requires value { IsWalkedValue (value_of x.now.value) }
     ensures stands { Stands tables.new blocks.now scope.now }
     ensures keeps { Keeps tables.old tables.new }
     ensures uses { OnOk result (used_of used.new ≡ and_names
-        (go.used_key (env_at tables.old.env tables.old.consts blocks.now scope.now)
+        (outer_key (env_at tables.old.env tables.old.consts blocks.now scope.now)
         (under_option (defined_types tables.old.env) (typed_option tables.old.env t)) (held_value_option_of x.now.key)
-        ++ go.used_value (env_at tables.old.env tables.old.consts blocks.now scope.now)
+        ++ outer_value (env_at tables.old.env tables.old.consts blocks.now scope.now)
         (given (under_option (defined_types tables.old.env) (typed_option tables.old.env t))
         (go_literal.inner_type (defined_types tables.old.env))) (value_of x.now.value)) (used_of used.old)) }
 {
@@ -224,11 +217,10 @@ fn use_key(
 ) -> Result<(), NoMemory>
     requires stands { Stands tables.old blocks.now scope.now }
     requires of { IfSome t (λ t. IsType tables.old.env (Typed t)) }
-    requires walked { IsWalkedKey (held_value_option_of key.now) }
     ensures stands { Stands tables.new blocks.now scope.now }
     ensures keeps { Keeps tables.old tables.new }
     ensures uses { OnOk result (used_of used.new ≡ and_names
-        (go.used_key (env_at tables.old.env tables.old.consts blocks.now scope.now)
+        (outer_key (env_at tables.old.env tables.old.consts blocks.now scope.now)
         (under_option (defined_types tables.old.env) (typed_option tables.old.env t)) (held_value_option_of key.now))
         (used_of used.old)) }
 {
@@ -258,11 +250,10 @@ fn use_value(
 ) -> Result<(), NoMemory>
     requires stands { Stands tables.old blocks.now scope.now }
     requires to { IfSome to (λ t. IsType tables.old.env (Typed t)) }
-    requires walked { IsWalkedValue (value_of x.now) }
     ensures stands { Stands tables.new blocks.now scope.now }
     ensures keeps { Keeps tables.old tables.new }
     ensures uses { OnOk result (used_of used.new ≡ and_names
-        (go.used_value (env_at tables.old.env tables.old.consts blocks.now scope.now)
+        (outer_value (env_at tables.old.env tables.old.consts blocks.now scope.now)
         (typed_option tables.old.env to) (value_of x.now)) (used_of used.old)) }
 {
     match x {

@@ -4,12 +4,13 @@ ghost use Rattle.std.specs.Prelude.{◌≡◌, IfOk, map};
 ghost use Rattle.go_tree.specs.View.{exprs_of, name_at_of, var_spec_of};
 ghost use Rattle.go_tree.specs.GoTypes.Entities.{Env};
 ghost use Rattle.go_tree.specs.ScopeNames.FreeNames.{names_of};
+ghost use Rattle.typed_names.specs.Scopes.{env_at};
 ghost use Rattle.operand_modes.specs.CheckerTables.Ready.{Keeps};
 ghost use Rattle.operand_modes.specs.OperandAnswers.Known.{Stands};
 ghost use Rattle.control_steps.specs.DeclarationSteps.Entities.{AreEntities};
 ghost use Rattle.assignment_steps.specs.SpecSteps.Specs.{GivesVariables};
 ghost use Rattle.control_steps.specs.LocalBlocks.Places.{IsPlace, IsWithin};
-ghost use Rattle.expr_walk.specs.Walked.{AreAllWalked};
+ghost use Rattle.expr_walk.specs.Walked.{AreAllWalkedAt};
 ghost use Rattle.statement_walk.specs.DeclaredVariables.{GivesVariablesHere, spec_variables};
 
 use crate::simple_walk::{has_none, written_type};
@@ -32,7 +33,8 @@ fn spec_entities(
     spec: &VarSpec,
 ) -> Result<EntityList, Refusal>
     requires stands { Stands tables.old blocks.now scope.now }
-    requires walked { AreAllWalked (exprs_of spec.now.values) }
+    requires walked { AreAllWalkedAt (env_at tables.old.env tables.old.consts blocks.now scope.now)
+        (exprs_of spec.now.values) }
     ensures stands { Stands tables.new blocks.now scope.now }
     ensures keeps { Keeps tables.old tables.new }
     ensures there { IfOk result (AreEntities tables.new.env tables.new.consts) }
@@ -59,7 +61,8 @@ pub fn variable_spec(
     spec: &VarSpec,
 ) -> Result<(), Refusal>
     requires stands { Stands tables.old blocks.now scope.old }
-    requires walked { AreAllWalked (exprs_of spec.now.values) }
+    requires walked { AreAllWalkedAt (env_at tables.old.env tables.old.consts blocks.now scope.old)
+        (exprs_of spec.now.values) }
     ensures stands { Stands tables.new blocks.now scope.new }
     ensures keeps { Keeps tables.old tables.new }
     ensures within { IsWithin scope.old scope.new }

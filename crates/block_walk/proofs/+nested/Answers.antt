@@ -1,4 +1,4 @@
-use Rattle.std.proofs.Common.{◌≡◌, ◌∙◌, ◌+◌, ◌++◌, ◌&&◌, drop, Err, Ok, OnOk, None, Some, true, false, not, ap, arith, map, refl, subst, sym}
+use Rattle.std.proofs.Common.{[], ◌≡◌, ◌<◌, rules, ◌∙◌, ◌+◌, ◌++◌, ◌&&◌, drop, Err, Ok, OnOk, None, Some, true, false, not, ap, arith, map, refl, subst, sym}
 use Rattle.go_tree.specs.Tree as tree
 use Rattle.go_tree.specs.View.{arm_of, arms_of, boxed_stmt_option_of, case_of, cases_of, expr_of, held_block_option_of, name_at_of, plain_expr_option_of, range_left_of, stmt_of, stmts_of}
 use Rattle.go_tree.specs.Lists.{arms_from, cases_from, stmts_from}
@@ -14,7 +14,7 @@ use Rattle.operand_modes.proofs.OperandAnswers.KeptLemmas.{keeps_on, value_on}
 use Rattle.jump_rules.specs.UsedLocals.Used.{and_names, used_of}
 use Rattle.statement_walk.proofs.SimpleWalk.ConstantGroups.MemberLemmas.{place_kept}
 use Rattle.statement_walk.proofs.SimpleWalk.SimpleLemmas.{types_kept}
-use Rattle.block_walk.specs.Answers.{GivesEnds, GivesLeft, GivesStatement, StaysAround, behind}
+use Rattle.block_walk.specs.Answers.{GivesEnds, GivesLeft, GivesStatement, IsBodyPlace, StaysAround, behind}
 use Rattle.block_walk.specs.Arms.{ArmsRead, GivesArm, innermost_first, opened}
 use Rattle.block_walk.specs.Blocks.{BlockRead}
 use Rattle.block_walk.specs.Cases.{GivesTag, IsTagIfOk}
@@ -30,7 +30,67 @@ use Rattle.block_walk.proofs.HeaderLemmas.{first_given}
 use Rattle.block_walk.proofs.LoopLemmas.{loop_left}
 use Rattle.block_walk.proofs.RangeLemmas.{range_left}
 use Rattle.block_walk.proofs.SimpleLemmas.{outer_done, within_same}
-use Rattle.block_walk.proofs.StatementKinds.{plain_walked}
+use Rattle.block_walk.proofs.StatementKinds.{const_is, plain_simple, post_simple, simple_declares, var_is}
+use Rattle.std.specs.Prelude.{is_some}
+use Rattle.go_tree.specs.declared.stmts.ConstDecl.{out-ConstDecl}
+use Rattle.go_tree.specs.declared.stmts.VarDecl.{out-VarDecl}
+use Rattle.go_tree.specs.GoTypes.Statements.{is_define, is_test}
+use Rattle.go_tree.specs.View.{const_specs_of, exprs_of, var_specs_of}
+use Rattle.statement_walk.proofs.BlockLemmas.{within_self}
+use Rattle.statement_walk.proofs.ExprArms.{at}
+use Rattle.statement_walk.specs.Parts.{GivesRead}
+use Rattle.block_walk.specs.Answers.{GivesTest}
+use Rattle.block_walk.specs.Headers.{post_typed}
+use Rattle.block_walk.specs.Walked.{IsHeader, IsPlain, IsPost, IsPostOption, IsWalkedOption, size_header, size_option, size_stmt}
+use Rattle.block_walk.proofs.HeaderLemmas.{first_none, first_read, post_declared, post_known, test_is, test_without}
+use Rattle.block_walk.proofs.SimpleLemmas.{const_declared, short_declared, var_declared}
+use Rattle.std.specs.List.{list_all}
+use Rattle.std.specs.Option.{option_map}
+use Rattle.go_tree.specs.View.{type_of, var_spec_of}
+use Rattle.go_tree.specs.ScopeNames.FreeNames.{free_type_option}
+use Rattle.go_tree.specs.GoTypes.Answers.{meets, only_if}
+use Rattle.go_tree.specs.GoTypes.Entities.{defined_in}
+use Rattle.go_tree.specs.GoTypes.Operands.{all_typed}
+use Rattle.go_tree.specs.GoTypes.Statements.{case_value, is_condition}
+use Rattle.type_table.specs.OperandRules.Values.{typed_of}
+use Rattle.control_steps.specs.LocalBlocks.Places.{IsPlace}
+use Rattle.statement_walk.specs.DeclaredVariables.{spec_variables}
+use Rattle.statement_walk.specs.FunctionLiterals.Found.{literals_in, literals_in_all, literals_in_option, seen}
+use Rattle.block_walk.specs.Literals.{AreKnown, AreLiterals, GivesLiterals, literals_left, literals_of, size_found}
+use Rattle.block_walk.specs.Walked.{size_left, size_literals}
+use Rattle.block_walk.proofs.CaseLemmas.{alike_same, alike_self}
+use Rattle.block_walk.proofs.FineLiterals.{fine_all, fine_clause, fine_define, fine_expr, fine_option, fine_simple, fine_spec, meets_first}
+use Rattle.block_walk.proofs.LiteralLemmas.{all_at, all_size, all_walked, left_size, left_walked, literals_of_size, literals_of_walked, literals_on, literals_size, literals_walked, option_size, option_walked, two_found}
+use Rattle.block_walk.proofs.WalkedLiterals.{ends_after, ends_refused, given_around, given_here, read_after, read_refused, tag_not_typed, tag_used, test_after, test_refused, values_not_typed, values_used}
+use Rattle.go_tree.specs.View.{sig_of}
+use Rattle.go_tree.specs.GoTypes.Bodies.{body_ctx}
+use Rattle.func_types.specs.Answers.{func_of}
+use Rattle.std.specs.Prelude.{codes}
+use Rattle.control_steps.specs.LocalBlocks.Places.{in_block_of}
+use Rattle.control_steps.proofs.LocalBlocks.PlaceLemmas.{blocks_begin}
+use Rattle.statement_walk.proofs.SimpleWalk.ConstantGroups.MemberLemmas.{place_here}
+use Rattle.statement_walk.specs.FunctionLiterals.Params.{sig_declares}
+use Rattle.statement_walk.specs.Parts.{AreHere, IsRead}
+use Rattle.block_walk.proofs.LiteralBlocks.{are_types, body_known, body_refused, found_cut, found_smaller, found_walked, inside, literal_bad, literal_fine, literals_end, literals_known, literals_more, literals_refused, literals_start, params_ended}
+use Rattle.std.proofs.Common.{Bool, Option}
+use Rattle.go_tree.specs.GoTypes.Answers.{without}
+use Rattle.go_tree.specs.GoTypes.Bodies.{body_binds, literal_env}
+use Rattle.go_tree.specs.GoTypes.Entities.{extend}
+use Rattle.go_tree.specs.GoTypes.TypeNames.{func_type}
+use Rattle.go_tree.specs.ScopeNames.FreeNames.{sig_names}
+use Rattle.control_steps.specs.Ends.{EndsAs}
+use Rattle.operand_modes.proofs.OperandAnswers.KeptLemmas.{env_kept}
+use Rattle.block_walk.proofs.EndLemmas.{ends_alone}
+use Rattle.block_walk.proofs.LiteralBlocks.{body_ends, body_uses, used_by_body}
+use Rattle.std.proofs.Common.{◌∷◌}
+use Rattle.block_walk.specs.Literals.{LiteralsRead}
+use Rattle.typed_names.proofs.TypeExprs.NewNames.{drop_all}
+use Rattle.go_tree.specs.GoTypes.Typing.{declares_variables, used_variables}
+use Rattle.block_walk.specs.Walked.{AreWalkedSpecs}
+use Rattle.statement_walk.proofs.SpecsLemmas.{group_end, group_more, group_refused, group_start}
+use Rattle.block_walk.proofs.LiteralLemmas.{spec_smaller, spec_walked}
+use Rattle.operator_rules.specs.AccessRules.Functions.{AreTypes}
+use Rattle.block_walk.specs.Literals.{IsLiteral, size_literal}
 use Rattle.block_walk.proofs.+nested.Goals as goal
 
 -- ---- statements
@@ -42,9 +102,12 @@ blocks::statement-outer_statement-requires t c =
       (c.requires.stands, (c.requires.results, (c.requires.walked, sym c.holds_others.ensures ∙ c.if-holds_others.true))),
     )
 
-pub blocks::statement-plain_statement-requires-clause-plain : goal.blocks::statement-plain_statement-requires-clause-plain
-blocks::statement-plain_statement-requires-clause-plain t c =
-    plain_walked (stmt_of c.args.s.now) (sym c.holds_others.ensures ∙ c.if-holds_others.false) c.requires.walked
+pub blocks::statement-plain_statement-requires : goal.blocks::statement-plain_statement-requires
+blocks::statement-plain_statement-requires t c =
+    let d = c.decreases in (
+      omega (arith, d),
+      (c.requires.stands, (c.requires.results, (c.requires.walked, sym c.holds_others.ensures ∙ c.if-holds_others.false))),
+    )
 
 pub blocks::statement-returns-else-holds_others-clause-around : goal.blocks::statement-returns-else-holds_others-clause-around
 blocks::statement-returns-else-holds_others-clause-around t c = around_stays c.args.around.now c.plain_statement.result
@@ -154,6 +217,30 @@ blocks::block_statements-returns-clause-gives t c =
     c.begin-block.ensures.names c.args.around.now c.args.body.now ctx env p)
 
 -- ---- statements in which others stand
+
+pub blocks::outer_statement-for_statement-requires : goal.blocks::outer_statement-for_statement-requires
+blocks::outer_statement-for_statement-requires t c =
+    let w = subst (λ x. IsWalkedStmt (stmt_of x)) c.in-For.is c.requires.walked in
+    let d = rw c.in-For.is at c.decreases in (
+      omega (arith, d),
+      (c.requires.stands, (c.requires.results, (w.0, (w.1, (w.2, w.3))))),
+    )
+
+pub blocks::outer_statement-range_statement-requires : goal.blocks::outer_statement-range_statement-requires
+blocks::outer_statement-range_statement-requires t c =
+    let w = subst (λ x. IsWalkedStmt (stmt_of x)) c.in-Range.is c.requires.walked in
+    let d = rw c.in-Range.is at c.decreases in (
+      omega (arith, d),
+      (c.requires.stands, (c.requires.results, (w.0, (w.1, w.2)))),
+    )
+
+pub blocks::outer_statement-switch_statement-requires : goal.blocks::outer_statement-switch_statement-requires
+blocks::outer_statement-switch_statement-requires t c =
+    let w = subst (λ x. IsWalkedStmt (stmt_of x)) c.in-Switch.is c.requires.walked in
+    let d = rw c.in-Switch.is at c.decreases in (
+      omega (arith, d),
+      (c.requires.stands, (c.requires.results, (w.0, (w.1, w.2)))),
+    )
 
 pub blocks::outer_statement-if_statement-requires : goal.blocks::outer_statement-if_statement-requires
 blocks::outer_statement-if_statement-requires t c =
@@ -330,16 +417,27 @@ loops::loop_block-returns-clause-gives t c =
     (loop_place c.args.tables.now c.args.blocks.now c.args.scope.now names c.args.around.now c.args.body.now ctx env p
     c.enter_loop.new.around (c.enter_loop.ensures ctx p.around))
 
-pub loops::for_statement-loop_condition-passes-requires-clause-stands : goal.loops::for_statement-loop_condition-passes-requires-clause-stands
-loops::for_statement-loop_condition-passes-requires-clause-stands t c = c.header-declared.ensures.stands
+pub loops::for_statement-header-declared-requires : goal.loops::for_statement-header-declared-requires
+loops::for_statement-header-declared-requires t c =
+    let d = c.decreases in (omega (arith, d), (c.requires.stands, (c.requires.results, c.requires.header)))
 
-pub loops::for_statement-post_of-steps-requires-clause-results : goal.loops::for_statement-post_of-steps-requires-clause-results
-loops::for_statement-post_of-steps-requires-clause-results t c =
+pub loops::for_statement-loop_condition-passes-requires : goal.loops::for_statement-loop_condition-passes-requires
+loops::for_statement-loop_condition-passes-requires t c =
+    let d = c.decreases in (omega (arith, d), (c.header-declared.ensures.stands, c.requires.test))
+
+pub loops::for_statement-post_of-steps-requires : goal.loops::for_statement-post_of-steps-requires
+loops::for_statement-post_of-steps-requires t c =
     let k = c.args.tables.now in
     let m = c.header-declared.new.tables in
     let n = c.loop_condition-passes.new.tables in
     let g = keeps_on k m n c.header-declared.ensures.keeps c.loop_condition-passes.ensures.keeps in
-    types_kept k.env n.env g.types c.args.body.now.results.items c.requires.results
+    let d = c.decreases in (
+      omega (arith, d),
+      (
+        c.loop_condition-passes.ensures.stands,
+        (types_kept k.env n.env g.types c.args.body.now.results.items c.requires.results, c.requires.post),
+      ),
+    )
 
 pub loops::for_statement-loop_block-turn-requires : goal.loops::for_statement-loop_block-turn-requires
 loops::for_statement-loop_block-turn-requires t c =
@@ -361,7 +459,7 @@ loops::for_statement-loop_block-turn-requires t c =
 pub loops::for_statement-returns-clause-same : goal.loops::for_statement-returns-clause-same
 loops::for_statement-returns-clause-same t c =
     c.end.ensures c.args.scope.now
-    (subst (IsWithin c.args.scope.now) (sym c.loop_block-turn.ensures.same) c.header-declared.ensures.within)
+    (subst (IsWithin c.args.scope.now) (sym (c.loop_block-turn.ensures.same ∙ c.post_of-steps.ensures.same ∙ c.loop_condition-passes.ensures.same)) c.header-declared.ensures.within)
     (c.header-declared.ensures.start ∙ c.begin-block.ensures.start)
 
 pub loops::for_statement-returns-clause-stands : goal.loops::for_statement-returns-clause-stands
@@ -433,15 +531,22 @@ loops::for_statement-returns-clause-gives t c =
     (λ here q. c.loop_condition-passes.ensures.gives here now q) c.post_of-steps.result
     (λ here q.
     c.post_of-steps.ensures.gives ctx here now
+    (subst (λ u. IsBodyPlace n bs u now a b ctx here) (sym c.loop_condition-passes.ensures.same)
     (there_in k n (keeps_on k m n f g) bs s u names now a b ctx env here c.requires.results p
-    (place_kept m n g bs u c.header-declared.ensures.stands now here q)))
+    (place_kept m n g bs u c.header-declared.ensures.stands now here q))))
     c.loop_block-turn.result
     (λ here q.
     c.loop_block-turn.ensures.gives ctx here now
+    (subst (λ u. IsBodyPlace o bs u now a b ctx here)
+    (sym (c.post_of-steps.ensures.same ∙ c.loop_condition-passes.ensures.same))
     (there_in k o (keeps_on k m o f (keeps_on m n o g h)) bs s u names now a b ctx env here c.requires.results p
-    (place_kept m o (keeps_on m n o g h) bs u c.header-declared.ensures.stands now here q)))))
+    (place_kept m o (keeps_on m n o g h) bs u c.header-declared.ensures.stands now here q))))))
 
 -- ---- ranges
+
+pub loops::range_statement-range_header-declared-requires : goal.loops::range_statement-range_header-declared-requires
+loops::range_statement-range_header-declared-requires t c =
+    let d = c.decreases in (omega (arith, d), (c.requires.stands, (c.requires.left, c.requires.over)))
 
 pub loops::range_statement-loop_block-turn-requires : goal.loops::range_statement-loop_block-turn-requires
 loops::range_statement-loop_block-turn-requires t c =
@@ -515,6 +620,14 @@ loops::range_statement-returns-clause-gives t c =
 
 -- ---- `if`
 
+pub ifs::one_arm-header-declared-requires : goal.ifs::one_arm-header-declared-requires
+ifs::one_arm-header-declared-requires t c =
+    let d = c.decreases in (omega (arith, d), (c.requires.stands, (c.requires.results, c.requires.header)))
+
+pub ifs::one_arm-condition_of-passes-requires : goal.ifs::one_arm-condition_of-passes-requires
+ifs::one_arm-condition_of-passes-requires t c =
+    let d = c.decreases in (omega (arith, d), (c.header-declared.ensures.stands, c.requires.test))
+
 pub ifs::one_arm-block_statements-ends-requires : goal.ifs::one_arm-block_statements-ends-requires
 ifs::one_arm-block_statements-ends-requires t c =
     let k = c.args.tables.now in
@@ -531,7 +644,8 @@ ifs::one_arm-block_statements-ends-requires t c =
 
 pub ifs::one_arm-returns-clause-within : goal.ifs::one_arm-returns-clause-within
 ifs::one_arm-returns-clause-within t c =
-    subst (IsWithin c.args.scope.now) (sym c.block_statements-ends.ensures.same) c.header-declared.ensures.within
+    subst (IsWithin c.args.scope.now) (sym (c.block_statements-ends.ensures.same ∙ c.condition_of-passes.ensures.same))
+    c.header-declared.ensures.within
 
 pub ifs::one_arm-returns-clause-around : goal.ifs::one_arm-returns-clause-around
 ifs::one_arm-returns-clause-around t c =
@@ -566,7 +680,7 @@ ifs::one_arm-returns-clause-gives t c =
     subst (GivesArm o bs c.block_statements-ends.new.scope ctx (in_block env) arm x z) (sym c.open_arm.ensures)
     (subst
     (λ u. GivesArm o bs u ctx (in_block env) arm x z (opened ys (behind c.header-declared.result (behind c.condition_of-passes.result c.block_statements-ends.result))))
-    (sym c.block_statements-ends.ensures.same)
+    (sym (c.block_statements-ends.ensures.same ∙ c.condition_of-passes.ensures.same))
     (arm_read ctx (in_block env) arm m o bs u now x y v z ys c.header-declared.result
     (first_given m bs u now (in_block env) (go.first ctx (in_block env) (boxed_stmt_option_of c.args.arm.now.first)) (go.used_first (in_block env) (boxed_stmt_option_of c.args.arm.now.first)) x y
     c.new-pending.result ys c.header-declared.result c.new-pending.ensures
@@ -574,8 +688,9 @@ ifs::one_arm-returns-clause-gives t c =
     (λ here q. c.condition_of-passes.ensures.gives here now q) c.block_statements-ends.result
     (λ here q.
     c.block_statements-ends.ensures.gives ctx here now
+    (subst (λ u. IsBodyPlace n bs u now a b ctx here) (sym c.condition_of-passes.ensures.same)
     (there_in k n (keeps_on k m n f g) bs s u names now a b ctx env here c.requires.results p
-    (place_kept m n g bs u c.header-declared.ensures.stands now here q)))
+    (place_kept m n g bs u c.header-declared.ensures.stands now here q))))
     (λ here q. place_kept m o (keeps_on m n o g h) bs u c.header-declared.ensures.stands now here q)))
 
 pub ifs::last_block-returns-in-None-clause-gives : goal.ifs::last_block-returns-in-None-clause-gives
@@ -716,6 +831,10 @@ ifs::if_statement-returns-clause-gives t c =
 
 -- ---- switches
 
+pub switch_walk::one_case-values_of_case-values-requires : goal.switch_walk::one_case-values_of_case-values-requires
+switch_walk::one_case-values_of_case-values-requires t c =
+    let d = c.decreases in (omega (arith, d), (c.requires.stands, (c.requires.tag, c.requires.values)))
+
 pub switch_walk::one_case-block_statements-ends-requires : goal.switch_walk::one_case-block_statements-ends-requires
 switch_walk::one_case-block_statements-ends-requires t c =
     let k = c.args.tables.now in
@@ -735,6 +854,10 @@ pub switch_walk::one_case-add_case-requires : goal.switch_walk::one_case-add_cas
 switch_walk::one_case-add_case-requires t c =
     values_stay c.values_of_case-values.new.tables c.block_statements-ends.new.tables c.block_statements-ends.ensures.keeps
     c.values_of_case-values.result c.values_of_case-values.ensures.there
+
+pub switch_walk::one_case-returns-clause-same : goal.switch_walk::one_case-returns-clause-same
+switch_walk::one_case-returns-clause-same t c =
+    c.block_statements-ends.ensures.same ∙ c.values_of_case-values.ensures.same
 
 pub switch_walk::one_case-returns-clause-around : goal.switch_walk::one_case-returns-clause-around
 switch_walk::one_case-returns-clause-around t c =
@@ -757,8 +880,10 @@ switch_walk::one_case-returns-clause-gives t c =
     c.values_of_case-values.result (c.values_of_case-values.ensures.gives env names p.place w h)
     (c.values_of_case-values.ensures.uses env names p.place) c.block_statements-ends.result
     (c.block_statements-ends.ensures.gives ctx env names
+    (subst (λ u. IsBodyPlace m bs u names c.args.around.now c.args.body.now ctx env)
+    (sym c.values_of_case-values.ensures.same)
     (body_place_kept k m c.values_of_case-values.ensures.keeps bs s c.requires.stands names c.args.around.now c.args.body.now
-    ctx env c.requires.results p))
+    ctx env c.requires.results p)))
     c.add_case.result c.add_case.ensures
 
 pub switch_walk::all_cases-returns-in-Err-clause-gives : goal.switch_walk::all_cases-returns-in-Err-clause-gives
@@ -861,6 +986,14 @@ switch_walk::all_cases-returns-clause-gives t c =
     c.loop-case.invariant c.requires.stands c.requires.results good c.loop-case-test.false c.choice.result
     c.choice.ensures ctx env names p v h))
 
+pub switch_walk::switch_statement-header-declared-requires : goal.switch_walk::switch_statement-header-declared-requires
+switch_walk::switch_statement-header-declared-requires t c =
+    let d = c.decreases in (omega (arith, d), (c.requires.stands, (c.requires.results, c.requires.header)))
+
+pub switch_walk::switch_statement-switch_tag-compared-requires : goal.switch_walk::switch_statement-switch_tag-compared-requires
+switch_walk::switch_statement-switch_tag-compared-requires t c =
+    let d = c.decreases in (omega (arith, d), (c.header-declared.ensures.stands, c.requires.tag))
+
 pub switch_walk::switch_statement-all_cases-ends-requires : goal.switch_walk::switch_statement-all_cases-ends-requires
 switch_walk::switch_statement-all_cases-ends-requires t c =
     let k = c.args.tables.now in
@@ -880,7 +1013,7 @@ switch_walk::switch_statement-all_cases-ends-requires t c =
 pub switch_walk::switch_statement-returns-clause-same : goal.switch_walk::switch_statement-returns-clause-same
 switch_walk::switch_statement-returns-clause-same t c =
     c.end.ensures c.args.scope.now
-    (subst (IsWithin c.args.scope.now) (sym c.all_cases-ends.ensures.same) c.header-declared.ensures.within)
+    (subst (IsWithin c.args.scope.now) (sym (c.all_cases-ends.ensures.same ∙ c.switch_tag-compared.ensures.same)) c.header-declared.ensures.within)
     (c.header-declared.ensures.start ∙ c.begin-block.ensures.start)
 
 pub switch_walk::switch_statement-returns-clause-stands : goal.switch_walk::switch_statement-returns-clause-stands
@@ -940,19 +1073,1102 @@ switch_walk::switch_statement-returns-clause-gives t c =
     (c.header-declared.ensures.gives ctx (in_block env) start)) r
     (λ here q.
     c.all_cases-ends.ensures.gives (in_switch ctx) here now
+    (subst (λ u. IsBodyPlace n bs u now d b (in_switch ctx) here) (sym c.switch_tag-compared.ensures.same)
     (switch_place n bs u now a d b ctx here
     (there_in k n (keeps_on k m n f g) bs s u names now a b ctx env here c.requires.results p
     (place_kept m n g bs u c.header-declared.ensures.stands now here q))
-    (c.enter_switch.ensures ctx p.around))
+    (c.enter_switch.ensures ctx p.around)))
     (tag_of here (go.bound here tag)) (c.switch_tag-compared.ensures.gives here now q))
     (λ here q.
     cases_well (v ≡ and_names (go.used_option here tag) y) n.env n.consts c.switch_tag-compared.result
     (λ w. given (go.clauses (in_switch ctx) here w cs) choice) (and_names (go.used_cases here cs) v) z r
     (λ o e.
     c.all_cases-ends.ensures.gives (in_switch ctx) here now
+    (subst (λ u. IsBodyPlace n bs u now d b (in_switch ctx) here) (sym c.switch_tag-compared.ensures.same)
     (switch_place n bs u now a d b ctx here
     (there_in k n (keeps_on k m n f g) bs s u names now a b ctx env here c.requires.results p
     (place_kept m n g bs u c.header-declared.ensures.stands now here q))
-    (c.enter_switch.ensures ctx p.around))
+    (c.enter_switch.ensures ctx p.around)))
     o e)
     (c.switch_tag-compared.ensures.uses here now q))))
+
+-- ---- headers, and statements in which no others stand
+
+pub headers::header-returns-in-None-clause-within : goal.headers::header-returns-in-None-clause-within
+headers::header-returns-in-None-clause-within t c = within_self c.args.scope.now
+
+pub headers::header-returns-in-None-clause-gives : goal.headers::header-returns-in-None-clause-gives
+headers::header-returns-in-None-clause-gives t c =
+    λ ctx env p h.
+    let k = c.args.tables.now in
+    let bs = c.args.blocks.now in
+    let s = c.args.scope.now in
+    let block = c.args.block.now.names in
+    let x = used_of c.args.used.now in
+    let xs = c.args.pending.now in
+    subst
+    (λ i. GivesRead {T = Unit {0}} k bs s block env (go.first ctx env (boxed_stmt_option_of i)) (go.used_first env (boxed_stmt_option_of i)) x x xs xs (Ok tt))
+    (sym c.in-None.is) (first_none k bs s block ctx env x x xs xs p.place h)
+
+pub headers::header-returns-in-Some-clause-gives : goal.headers::header-returns-in-Some-clause-gives
+headers::header-returns-in-Some-clause-gives t c =
+    λ ctx env p h.
+    let n = c.plain_statement-read.new.tables in
+    let bs = c.args.blocks.now in
+    let u = c.plain_statement-read.new.scope in
+    let now = c.plain_statement-read.new.block.names in
+    let x = used_of c.args.used.now in
+    let y = used_of c.plain_statement-read.new.used in
+    let xs = c.args.pending.now in
+    let ys = c.plain_statement-read.new.pending in
+    let r = c.without_end.result in
+    subst
+    (λ i. GivesRead n bs u now env (go.first ctx env (boxed_stmt_option_of i)) (go.used_first env (boxed_stmt_option_of i)) x y xs ys r)
+    (sym c.in-Some.is)
+    (subst
+    (λ t. GivesRead n bs u now env (go.first ctx env (tree.some_stmt (stmt_of t))) (go.used_first env (tree.some_stmt (stmt_of t))) x y xs ys r)
+    c.deref.ensures
+    (subst
+    (GivesRead n bs u now env (go.first ctx env (tree.some_stmt (stmt_of c.deref.result.now))) (go.used_first env (tree.some_stmt (stmt_of c.deref.result.now))) x y xs ys)
+    (sym c.without_end.ensures)
+    (first_read n bs u now ctx env x y xs ys (stmt_of c.deref.result.now) c.plain_statement-read.result
+    (c.plain_statement-read.ensures.gives ctx env p h))))
+
+pub headers::loop_condition-returns-in-None-clause-gives : goal.headers::loop_condition-returns-in-None-clause-gives
+headers::loop_condition-returns-in-None-clause-gives t c =
+    λ env block p.
+    let x = used_of c.args.used.now in
+    subst
+    (λ o. GivesTest {T = Unit {0}} (is_test env (go.bound env (plain_expr_option_of o))) (and_names (go.used_option env (plain_expr_option_of o)) x) x (Ok tt))
+    (sym c.in-None.is) (refl, refl)
+
+pub headers::loop_condition-returns-in-Some-clause-gives : goal.headers::loop_condition-returns-in-Some-clause-gives
+headers::loop_condition-returns-in-Some-clause-gives t c =
+    λ env block p.
+    let x = used_of c.args.used.now in
+    let y = used_of c.condition_of.new.used in
+    let e = expr_of c.in-Some.e in
+    subst
+    (λ o. GivesTest (is_test env (go.bound env (plain_expr_option_of o))) (and_names (go.used_option env (plain_expr_option_of o)) x) y c.condition_of.result)
+    (sym c.in-Some.is)
+    (subst (λ b. GivesTest b (and_names (go.used env e) x) y c.condition_of.result) (test_is env e)
+    (c.condition_of.ensures.gives env block p))
+
+pub headers::post_of-returns-in-None-clause-gives : goal.headers::post_of-returns-in-None-clause-gives
+headers::post_of-returns-in-None-clause-gives t c =
+    λ ctx env block p.
+    let x = used_of c.args.used.now in
+    subst
+    (λ o. GivesTest {T = Unit {0}} (not (is_define (boxed_stmt_option_of o)) && is_some (go.first ctx env (boxed_stmt_option_of o))) (and_names (go.used_first env (boxed_stmt_option_of o)) x) x (Ok tt))
+    (sym c.in-None.is) (refl, refl)
+
+pub headers::post_of-returns-in-Some-clause-gives : goal.headers::post_of-returns-in-Some-clause-gives
+headers::post_of-returns-in-Some-clause-gives t c =
+    λ ctx env block p.
+    let x = used_of c.args.used.now in
+    let y = used_of c.post_statement-read.new.used in
+    let r = c.without_end.result in
+    let t = stmt_of c.deref.result.now in
+    subst
+    (λ o. GivesTest (not (is_define (boxed_stmt_option_of o)) && is_some (go.first ctx env (boxed_stmt_option_of o))) (and_names (go.used_first env (boxed_stmt_option_of o)) x) y r)
+    (sym c.in-Some.is)
+    (subst (λ t. GivesTest (post_typed ctx env (stmt_of t)) (and_names (go.used_stmt env (stmt_of t)) x) y r) c.deref.ensures
+    (subst (GivesTest (post_typed ctx env t) (and_names (go.used_stmt env t) x) y) (sym c.without_end.ensures)
+    (test_without (post_typed ctx env t) (and_names (go.used_stmt env t) x) y c.post_statement-read.result
+    (c.post_statement-read.ensures.gives ctx env block p))))
+
+pub headers::post_statement-returns-then-is_declaration-clause-gives : goal.headers::post_statement-returns-then-is_declaration-clause-gives
+headers::post_statement-returns-then-is_declaration-clause-gives t c =
+    λ ctx env block p.
+    post_declared ctx env (stmt_of c.args.s.now) (sym c.is_declaration.ensures ∙ c.if-is_declaration.true) c.requires.post
+
+pub headers::post_statement-returns-else-is_declaration-clause-gives : goal.headers::post_statement-returns-else-is_declaration-clause-gives
+headers::post_statement-returns-else-is_declaration-clause-gives t c =
+    λ ctx env block p.
+    let t = stmt_of c.args.s.now in
+    post_known ctx env t (post_simple t (sym c.is_declaration.ensures ∙ c.if-is_declaration.false) c.requires.post)
+    (and_names (go.used_stmt env t) (used_of c.args.used.now)) (used_of c.simple_part.new.used) c.simple_part.result
+    (c.simple_part.ensures.gives ctx env block p)
+
+pub plain::declaration-returns-in-Const-clause-gives : goal.plain::declaration-returns-in-Const-clause-gives
+plain::declaration-returns-in-Const-clause-gives t c =
+    λ ctx env p h.
+    let n = c.constant_group-group.new.tables in
+    let bs = c.args.blocks.now in
+    let u = c.constant_group-group.new.scope in
+    let now = c.constant_group-group.new.block.names in
+    let x = used_of c.args.used.now in
+    let y = used_of c.constant_group-group.new.used in
+    let xs = c.args.pending.now in
+    let ys = c.constant_group-group.new.pending in
+    let w = c.in-Const.declared in
+    let d = out-ConstDecl w in
+    subst (λ t. GivesStatement n bs u now ctx env t x y xs ys c.declaration_answer.result)
+    (sym (ap stmt_of c.in-Const.is ∙ const_is w))
+    (subst (GivesStatement n bs u now ctx env (tree.const_decl d.span d.grouped (const_specs_of d.specs)) x y xs ys)
+    (sym c.declaration_answer.ensures)
+    (const_declared n bs u now ctx env x y xs ys d.span d.grouped (const_specs_of d.specs) c.constant_group-group.result
+    (c.constant_group-group.ensures.gives env p h)))
+
+pub plain::declaration-returns-in-Var-clause-gives : goal.plain::declaration-returns-in-Var-clause-gives
+plain::declaration-returns-in-Var-clause-gives t c =
+    λ ctx env p h.
+    let n = c.variable_group-group.new.tables in
+    let bs = c.args.blocks.now in
+    let u = c.variable_group-group.new.scope in
+    let now = c.variable_group-group.new.block.names in
+    let x = used_of c.args.used.now in
+    let y = used_of c.variable_group-group.new.used in
+    let xs = c.args.pending.now in
+    let ys = c.variable_group-group.new.pending in
+    let w = c.in-Var.declared in
+    let d = out-VarDecl w in
+    subst (λ t. GivesStatement n bs u now ctx env t x y xs ys c.declaration_answer-in-Var.result)
+    (sym (ap stmt_of c.in-Var.is ∙ var_is w))
+    (subst (GivesStatement n bs u now ctx env (tree.var_decl d.span d.grouped (var_specs_of d.specs)) x y xs ys)
+    (sym c.declaration_answer-in-Var.ensures)
+    (var_declared n bs u now ctx env x y xs ys d.span d.grouped (var_specs_of d.specs) c.variable_group-group.result
+    (c.variable_group-group.ensures.gives env p h)))
+
+pub plain::declaration-returns-in-Define-clause-gives : goal.plain::declaration-returns-in-Define-clause-gives
+plain::declaration-returns-in-Define-clause-gives t c =
+    λ ctx env p h.
+    let n = c.short-defined.new.tables in
+    let bs = c.args.blocks.now in
+    let u = c.short-defined.new.scope in
+    let now = c.short-defined.new.block.names in
+    let x = used_of c.args.used.now in
+    let y = used_of c.short-defined.new.used in
+    let xs = c.args.pending.now in
+    let ys = c.short-defined.new.pending in
+    let ns = map name_at_of c.in-Define.names in
+    let es = exprs_of c.in-Define.right in
+    subst (λ t. GivesStatement n bs u now ctx env (stmt_of t) x y xs ys c.declaration_answer-in-Define.result)
+    (sym c.in-Define.is)
+    (subst (GivesStatement n bs u now ctx env (tree.define c.in-Define.span ns es) x y xs ys)
+    (sym c.declaration_answer-in-Define.ensures)
+    (short_declared n bs u now ctx env x y xs ys c.in-Define.span ns es c.short-defined.result
+    (c.short-defined.ensures.gives env c.in-Define.span p h)))
+
+pub plain::plain_statement-returns-then-is_declaration-clause-gives : goal.plain::plain_statement-returns-then-is_declaration-clause-gives
+plain::plain_statement-returns-then-is_declaration-clause-gives t c = λ ctx env p h. c.declaration.ensures.gives ctx env p.place h
+
+pub plain::plain_statement-returns-else-is_declaration-clause-within : goal.plain::plain_statement-returns-else-is_declaration-clause-within
+plain::plain_statement-returns-else-is_declaration-clause-within t c =
+    within_same c.args.scope.now c.simple_part.new.scope c.simple_part.ensures.same
+
+pub plain::plain_statement-returns-else-is_declaration-clause-gives : goal.plain::plain_statement-returns-else-is_declaration-clause-gives
+plain::plain_statement-returns-else-is_declaration-clause-gives t c =
+    λ ctx env p h.
+    let f = c.simple_part in
+    let s = stmt_of c.args.s.now in
+    let names = c.args.block.now.names in
+    outer_done c.args.tables.now f.new.tables f.ensures.keeps c.args.blocks.now c.args.scope.now f.new.scope c.requires.stands
+    f.ensures.same names c.args.around.now c.args.body.now ctx env s (used_of c.args.used.now) (used_of f.new.used)
+    c.args.pending.now f.result
+    (simple_declares env s (plain_simple s (sym c.is_declaration.ensures ∙ c.if-is_declaration.false) c.requires.plain)) p h
+    (f.ensures.gives ctx env names p)
+
+pub headers::header-plain_statement-read-requires : goal.headers::header-plain_statement-read-requires
+headers::header-plain_statement-read-requires t c =
+    let d = c.decreases in
+    let h =
+    ap (λ o. size_header (boxed_stmt_option_of o)) c.in-Some.is
+    ∙ ap (λ x. size_header (tree.some_stmt (stmt_of x))) (sym c.deref.ensures) in
+    let w =
+    subst (λ x. IsPlain (stmt_of x)) (sym c.deref.ensures)
+    (subst (λ o. IsHeader (boxed_stmt_option_of o)) c.in-Some.is c.requires.header) in (
+      omega (arith, d, h),
+      (c.requires.stands, (c.requires.results, w)),
+    )
+
+pub headers::loop_condition-condition_of-requires : goal.headers::loop_condition-condition_of-requires
+headers::loop_condition-condition_of-requires t c =
+    let d = c.decreases in
+    let h = ap (λ o. size_option (plain_expr_option_of o)) c.in-Some.is in (
+      omega (arith, d, h),
+      (c.requires.stands, subst (λ o. IsWalkedOption (plain_expr_option_of o)) c.in-Some.is c.requires.walked),
+    )
+
+pub headers::post_of-post_statement-read-requires : goal.headers::post_of-post_statement-read-requires
+headers::post_of-post_statement-read-requires t c =
+    let d = c.decreases in
+    let h =
+    ap (λ o. size_header (boxed_stmt_option_of o)) c.in-Some.is
+    ∙ ap (λ x. size_header (tree.some_stmt (stmt_of x))) (sym c.deref.ensures) in
+    let w =
+    subst (λ x. IsPost (stmt_of x)) (sym c.deref.ensures)
+    (subst (λ o. IsPostOption (boxed_stmt_option_of o)) c.in-Some.is c.requires.post) in (
+      omega (arith, d, h),
+      (c.requires.stands, (c.requires.results, w)),
+    )
+
+pub headers::post_statement-simple_part-requires : goal.headers::post_statement-simple_part-requires
+headers::post_statement-simple_part-requires t c =
+    let d = c.decreases in
+    let w = post_simple (stmt_of c.args.s.now) (sym c.is_declaration.ensures ∙ c.if-is_declaration.false) c.requires.post in (
+      omega (arith, d),
+      (c.requires.stands, (c.requires.results, w)),
+    )
+
+pub plain::plain_statement-declaration-requires : goal.plain::plain_statement-declaration-requires
+plain::plain_statement-declaration-requires t c =
+    let d = c.decreases in (
+      omega (arith, d),
+      (c.requires.stands, (c.requires.plain, sym c.is_declaration.ensures ∙ c.if-is_declaration.true)),
+    )
+
+pub plain::plain_statement-simple_part-requires : goal.plain::plain_statement-simple_part-requires
+plain::plain_statement-simple_part-requires t c =
+    let d = c.decreases in
+    let w = plain_simple (stmt_of c.args.s.now) (sym c.is_declaration.ensures ∙ c.if-is_declaration.false) c.requires.plain in (
+      omega (arith, d),
+      (c.requires.stands, (c.requires.results, w)),
+    )
+
+pub plain::declaration-constant_group-group-requires-clause-walked : goal.plain::declaration-constant_group-group-requires-clause-walked
+plain::declaration-constant_group-group-requires-clause-walked t c =
+    subst IsWalkedStmt (const_is c.in-Const.declared) (subst (λ x. IsWalkedStmt (stmt_of x)) c.in-Const.is c.requires.plain.0)
+
+pub plain::declaration-variable_group-group-requires : goal.plain::declaration-variable_group-group-requires
+plain::declaration-variable_group-group-requires t c =
+    let d = c.decreases in
+    let h = ap (λ x. size_stmt (stmt_of x)) c.in-Var.is ∙ ap size_stmt (var_is c.in-Var.declared) in (
+      omega (arith, d, h),
+      (
+        c.requires.stands,
+        subst IsWalkedStmt (var_is c.in-Var.declared) (subst (λ x. IsWalkedStmt (stmt_of x)) c.in-Var.is c.requires.plain.0),
+      ),
+    )
+
+pub plain::declaration-short-defined-requires : goal.plain::declaration-short-defined-requires
+plain::declaration-short-defined-requires t c =
+    let d = c.decreases in
+    let h = ap (λ x. size_stmt (stmt_of x)) c.in-Define.is in (
+      omega (arith, d, h),
+      (c.requires.stands, subst (λ x. IsWalkedStmt (stmt_of x)) c.in-Define.is c.requires.plain.0),
+    )
+
+-- ---- parts of statements behind the function literals in them
+
+pub headers::condition_of-walk_literals-requires : goal.headers::condition_of-walk_literals-requires
+headers::condition_of-walk_literals-requires t c =
+    let q = expr_of c.args.e.now in
+    let e : seen c.as_slice.result.now ≡ literals_in q = ap seen c.as_slice.ensures.value ∙ c.in_ok-found.ensures in
+    let h = ap size_found e ∙ literals_size q in
+    let d = c.decreases in (
+      omega (arith, d, h),
+      (c.requires.stands, subst AreLiterals (sym e) (literals_walked q c.requires.walked)),
+    )
+
+pub headers::condition_of-condition_here-requires-clause-known : goal.headers::condition_of-condition_here-requires-clause-known
+headers::condition_of-condition_here-requires-clause-known t c =
+    let q = expr_of c.args.e.now in
+    let e : seen c.as_slice.result.now ≡ literals_in q = ap seen c.as_slice.ensures.value ∙ c.in_ok-found.ensures in
+    subst
+    (AreKnown c.walk_literals.new.tables c.args.blocks.now c.walk_literals.new.scope (used_of c.walk_literals.new.used)) e
+    c.in-Ok.ensures.known
+
+pub headers::condition_of-returns-in-Ok-clause-gives : goal.headers::condition_of-returns-in-Ok-clause-gives
+headers::condition_of-returns-in-Ok-clause-gives t c =
+    λ env block p.
+    let k = c.args.tables.now in
+    let m = c.walk_literals.new.tables in
+    let bs = c.args.blocks.now in
+    let s = c.args.scope.now in
+    let u = c.walk_literals.new.scope in
+    let x = used_of c.args.used.now in
+    let y = used_of c.walk_literals.new.used in
+    let q = expr_of c.args.e.now in
+    let e : seen c.as_slice.result.now ≡ literals_in q = ap seen c.as_slice.ensures.value ∙ c.in_ok-found.ensures in
+    let w =
+    given_here k bs s block env p (literals_in q) x y (Ok (tt {0}))
+    (subst (λ es. GivesLiterals {T = Unit {0}} (at k bs s) es x y (Ok tt)) e c.in-Ok.ensures.gives) in
+    let f = is_condition (defined_in env) in
+    test_after env (go.used env q) (literals_in q) x y (meets (go.parts env q) f) (used_of c.condition_here.new.used)
+    c.condition_here.result (λ h. fine_expr env q (meets_first (go.parts env q) f h)) w.1
+    (c.condition_here.ensures.gives env block
+    (subst (λ u. IsPlace m.env m.consts bs u block env) (sym c.walk_literals.ensures.same)
+    (place_kept k m c.walk_literals.ensures.keeps bs s c.requires.stands block env p)))
+
+pub headers::condition_of-returns-clause-gives : goal.headers::condition_of-returns-clause-gives
+headers::condition_of-returns-clause-gives t c =
+    λ env block p.
+    let k = c.args.tables.now in
+    let m = c.walk_literals.new.tables in
+    let bs = c.args.blocks.now in
+    let s = c.args.scope.now in
+    let u = c.walk_literals.new.scope in
+    let x = used_of c.args.used.now in
+    let y = used_of c.walk_literals.new.used in
+    let q = expr_of c.args.e.now in
+    let e : seen c.as_slice.result.now ≡ literals_in q = ap seen c.as_slice.ensures.value ∙ c.in_ok-found.ensures in
+    let w =
+    given_here {T = Unit {0}} k bs s block env p (literals_in q) x y (Err c.in-Err.refusal)
+    (subst (λ es. GivesLiterals {T = Unit {0}} (at k bs s) es x y (Err c.in-Err.refusal)) e c.in-Err.ensures.gives) in
+    let f = is_condition (defined_in env) in
+    test_refused env (go.used env q) (literals_in q) (meets (go.parts env q) f) x y
+    (and_names (go.used env q) x) y c.in-Err.refusal (λ h. fine_expr env q (meets_first (go.parts env q) f h)) w
+
+pub plain::simple_part-walk_literals-requires : goal.plain::simple_part-walk_literals-requires
+plain::simple_part-walk_literals-requires t c =
+    let q = stmt_of c.args.s.now in
+    let e : seen c.as_slice.result.now ≡ literals_of q = ap seen c.as_slice.ensures.value ∙ c.in_ok-found.ensures in
+    let h : size_found (seen c.as_slice.result.now) < size_stmt q =
+    subst (λ es. size_found es < size_stmt q) (sym e) (literals_of_size q c.requires.simple) in
+    let d = c.decreases in (
+      omega (arith, d, h),
+      (c.requires.stands, subst AreLiterals (sym e) (literals_of_walked q c.requires.simple)),
+    )
+
+pub plain::simple_part-simple_here-requires-clause-known : goal.plain::simple_part-simple_here-requires-clause-known
+plain::simple_part-simple_here-requires-clause-known t c =
+    let q = stmt_of c.args.s.now in
+    let e : seen c.as_slice.result.now ≡ literals_of q = ap seen c.as_slice.ensures.value ∙ c.in_ok-found.ensures in
+    subst
+    (AreKnown c.walk_literals.new.tables c.args.blocks.now c.walk_literals.new.scope (used_of c.walk_literals.new.used)) e
+    c.in-Ok.ensures.known
+
+pub plain::simple_part-simple_here-requires-clause-results : goal.plain::simple_part-simple_here-requires-clause-results
+plain::simple_part-simple_here-requires-clause-results t c =
+    types_kept c.args.tables.now.env c.walk_literals.new.tables.env c.walk_literals.ensures.keeps.types
+    c.args.body.now.results.items c.requires.results
+
+pub plain::simple_part-returns-in-Ok-clause-gives : goal.plain::simple_part-returns-in-Ok-clause-gives
+plain::simple_part-returns-in-Ok-clause-gives t c =
+    λ ctx env block p.
+    let k = c.args.tables.now in
+    let m = c.walk_literals.new.tables in
+    let bs = c.args.blocks.now in
+    let s = c.args.scope.now in
+    let u = c.walk_literals.new.scope in
+    let x = used_of c.args.used.now in
+    let y = used_of c.walk_literals.new.used in
+    let q = stmt_of c.args.s.now in
+    let e : seen c.as_slice.result.now ≡ literals_of q = ap seen c.as_slice.ensures.value ∙ c.in_ok-found.ensures in
+    let w =
+    given_here k bs s block env p.place (literals_of q) x y (Ok (tt {0}))
+    (subst (λ es. GivesLiterals {T = Unit {0}} (at k bs s) es x y (Ok tt)) e c.in-Ok.ensures.gives) in
+    ends_after env (go.used_stmt env q) (literals_of q) x y (go.stmt ctx env q) (used_of c.simple_here.new.used)
+    c.simple_here.result (λ h. fine_simple env ctx q h) w.1
+    (c.simple_here.ensures.gives ctx env block
+    (subst (λ u. IsBodyPlace m bs u block c.args.around.now c.args.body.now ctx env) (sym c.walk_literals.ensures.same)
+    (body_place_kept k m c.walk_literals.ensures.keeps bs s c.requires.stands block c.args.around.now c.args.body.now ctx env
+    c.requires.results p)))
+
+pub plain::simple_part-returns-clause-gives : goal.plain::simple_part-returns-clause-gives
+plain::simple_part-returns-clause-gives t c =
+    λ ctx env block p.
+    let k = c.args.tables.now in
+    let m = c.walk_literals.new.tables in
+    let bs = c.args.blocks.now in
+    let s = c.args.scope.now in
+    let u = c.walk_literals.new.scope in
+    let x = used_of c.args.used.now in
+    let y = used_of c.walk_literals.new.used in
+    let q = stmt_of c.args.s.now in
+    let e : seen c.as_slice.result.now ≡ literals_of q = ap seen c.as_slice.ensures.value ∙ c.in_ok-found.ensures in
+    let w =
+    given_here {T = Unit {0}} k bs s block env p.place (literals_of q) x y (Err c.in-Err.refusal)
+    (subst (λ es. GivesLiterals {T = Unit {0}} (at k bs s) es x y (Err c.in-Err.refusal)) e c.in-Err.ensures.gives) in
+    ends_refused env (go.used_stmt env q) (literals_of q) (go.stmt ctx env q) x y
+    (and_names (go.used_stmt env q) x) y c.in-Err.refusal (λ h. fine_simple env ctx q h) w
+
+pub groups::short-walk_literals-requires : goal.groups::short-walk_literals-requires
+groups::short-walk_literals-requires t c =
+    let q = exprs_of c.args.values.now in
+    let e : seen c.as_slice.result.now ≡ literals_in_all q = ap seen c.as_slice.ensures.value ∙ c.in_ok-found.ensures in
+    let h = ap size_found e ∙ all_size q in
+    let d = c.decreases in (
+      omega (arith, d, h),
+      (c.requires.stands, subst AreLiterals (sym e) (all_walked q c.requires.walked)),
+    )
+
+pub groups::short-short_part-requires-clause-walked : goal.groups::short-short_part-requires-clause-walked
+groups::short-short_part-requires-clause-walked t c =
+    let q = exprs_of c.args.values.now in
+    let e : seen c.as_slice.result.now ≡ literals_in_all q = ap seen c.as_slice.ensures.value ∙ c.in_ok-found.ensures in
+    all_at (at c.walk_literals.new.tables c.args.blocks.now c.walk_literals.new.scope) q c.requires.walked
+    (subst
+    (AreKnown c.walk_literals.new.tables c.args.blocks.now c.walk_literals.new.scope (used_of c.walk_literals.new.used)) e
+    c.in-Ok.ensures.known).typed
+
+pub groups::short-short_part-requires-clause-literals : goal.groups::short-short_part-requires-clause-literals
+groups::short-short_part-requires-clause-literals t c =
+    let q = exprs_of c.args.values.now in
+    let e : seen c.as_slice.result.now ≡ literals_in_all q = ap seen c.as_slice.ensures.value ∙ c.in_ok-found.ensures in
+    (subst
+    (AreKnown c.walk_literals.new.tables c.args.blocks.now c.walk_literals.new.scope (used_of c.walk_literals.new.used)) e
+    c.in-Ok.ensures.known).used
+
+pub groups::short-returns-in-Ok-clause-gives : goal.groups::short-returns-in-Ok-clause-gives
+groups::short-returns-in-Ok-clause-gives t c =
+    λ env sp p h.
+    let k = c.args.tables.now in
+    let m = c.walk_literals.new.tables in
+    let bs = c.args.blocks.now in
+    let s = c.args.scope.now in
+    let u = c.walk_literals.new.scope in
+    let x = used_of c.args.used.now in
+    let y = used_of c.walk_literals.new.used in
+    let q = exprs_of c.args.values.now in
+    let block = c.args.block.now.names in
+    let n = c.short_part.new.tables in
+    let now = c.short_part.new.block.names in
+    let e : seen c.as_slice.result.now ≡ literals_in_all q = ap seen c.as_slice.ensures.value ∙ c.in_ok-found.ensures in
+    let w =
+    given_here k bs s block env p (literals_in_all q) x y (Ok (tt {0}))
+    (subst (λ es. GivesLiterals {T = Unit {0}} (at k bs s) es x y (Ok tt)) e c.in-Ok.ensures.gives) in
+    read_after env (go.used_all env q) (literals_in_all q) x y n bs c.short_part.new.scope now env (go.declares env (tree.define sp (map name_at_of c.args.names.now) q))
+    (used_of c.short_part.new.used) c.args.pending.now c.short_part.new.pending c.short_part.result (λ h. fine_define env (map name_at_of c.args.names.now) q h) w.1
+    (c.short_part.ensures.gives env sp
+    (subst (λ u. IsPlace m.env m.consts bs u block env) (sym c.walk_literals.ensures.same)
+    (place_kept k m c.walk_literals.ensures.keeps bs s c.requires.stands block env p)) h)
+
+pub groups::short-returns-clause-gives : goal.groups::short-returns-clause-gives
+groups::short-returns-clause-gives t c =
+    λ env sp p h.
+    let k = c.args.tables.now in
+    let m = c.walk_literals.new.tables in
+    let bs = c.args.blocks.now in
+    let s = c.args.scope.now in
+    let u = c.walk_literals.new.scope in
+    let x = used_of c.args.used.now in
+    let y = used_of c.walk_literals.new.used in
+    let q = exprs_of c.args.values.now in
+    let block = c.args.block.now.names in
+    let xs = c.args.pending.now in
+    let e : seen c.as_slice.result.now ≡ literals_in_all q = ap seen c.as_slice.ensures.value ∙ c.in_ok-found.ensures in
+    let w =
+    given_here {T = Unit {0}} k bs s block env p (literals_in_all q) x y (Err c.in-Err.refusal)
+    (subst (λ es. GivesLiterals {T = Unit {0}} (at k bs s) es x y (Err c.in-Err.refusal)) e c.in-Err.ensures.gives) in
+    read_refused env (go.used_all env q) (literals_in_all q) m bs u block env (go.declares env (tree.define sp (map name_at_of c.args.names.now) q)) x y x y xs xs
+    c.in-Err.refusal (go.used_all env q) (λ h. fine_define env (map name_at_of c.args.names.now) q h) w
+
+pub groups::short-returns-clause-within : goal.groups::short-returns-clause-within
+groups::short-returns-clause-within t c = within_same c.args.scope.now c.walk_literals.new.scope c.walk_literals.ensures.same
+
+pub groups::short-returns-in-Ok-clause-within : goal.groups::short-returns-in-Ok-clause-within
+groups::short-returns-in-Ok-clause-within t c =
+    subst (λ s. IsWithin s c.short_part.new.scope) c.walk_literals.ensures.same c.short_part.ensures.within
+
+pub groups::one_spec-walk_literals-requires : goal.groups::one_spec-walk_literals-requires
+groups::one_spec-walk_literals-requires t c =
+    let q = exprs_of c.args.spec.now.values in
+    let e : seen c.as_slice.result.now ≡ literals_in_all q = ap seen c.as_slice.ensures.value ∙ c.in_ok-found.ensures in
+    let h = ap size_found e ∙ all_size q in
+    let d = c.decreases in (
+      omega (arith, d, h),
+      (c.requires.stands, subst AreLiterals (sym e) (all_walked q c.requires.walked)),
+    )
+
+pub groups::one_spec-spec_part-requires-clause-walked : goal.groups::one_spec-spec_part-requires-clause-walked
+groups::one_spec-spec_part-requires-clause-walked t c =
+    let q = exprs_of c.args.spec.now.values in
+    let e : seen c.as_slice.result.now ≡ literals_in_all q = ap seen c.as_slice.ensures.value ∙ c.in_ok-found.ensures in
+    all_at (at c.walk_literals.new.tables c.args.blocks.now c.walk_literals.new.scope) q c.requires.walked
+    (subst
+    (AreKnown c.walk_literals.new.tables c.args.blocks.now c.walk_literals.new.scope (used_of c.walk_literals.new.used)) e
+    c.in-Ok.ensures.known).typed
+
+pub groups::one_spec-spec_part-requires-clause-literals : goal.groups::one_spec-spec_part-requires-clause-literals
+groups::one_spec-spec_part-requires-clause-literals t c =
+    let q = exprs_of c.args.spec.now.values in
+    let e : seen c.as_slice.result.now ≡ literals_in_all q = ap seen c.as_slice.ensures.value ∙ c.in_ok-found.ensures in
+    (subst
+    (AreKnown c.walk_literals.new.tables c.args.blocks.now c.walk_literals.new.scope (used_of c.walk_literals.new.used)) e
+    c.in-Ok.ensures.known).used
+
+pub groups::one_spec-returns-in-Ok-clause-gives : goal.groups::one_spec-returns-in-Ok-clause-gives
+groups::one_spec-returns-in-Ok-clause-gives t c =
+    λ env p h.
+    let k = c.args.tables.now in
+    let m = c.walk_literals.new.tables in
+    let bs = c.args.blocks.now in
+    let s = c.args.scope.now in
+    let u = c.walk_literals.new.scope in
+    let x = used_of c.args.used.now in
+    let y = used_of c.walk_literals.new.used in
+    let q = exprs_of c.args.spec.now.values in
+    let block = c.args.block.now.names in
+    let n = c.spec_part.new.tables in
+    let now = c.spec_part.new.block.names in
+    let e : seen c.as_slice.result.now ≡ literals_in_all q = ap seen c.as_slice.ensures.value ∙ c.in_ok-found.ensures in
+    let w =
+    given_here k bs s block env p (literals_in_all q) x y (Ok (tt {0}))
+    (subst (λ es. GivesLiterals {T = Unit {0}} (at k bs s) es x y (Ok tt)) e c.in-Ok.ensures.gives) in
+    read_after env (free_type_option [] (option_map type_of c.args.spec.now.of) ++ go.used_all env q) (literals_in_all q) x y n bs c.spec_part.new.scope now env (spec_variables env (var_spec_of c.args.spec.now))
+    (used_of c.spec_part.new.used) c.args.pending.now c.spec_part.new.pending c.spec_part.result (λ h. fine_spec env (var_spec_of c.args.spec.now) h) w.1
+    (c.spec_part.ensures.gives env
+    (subst (λ u. IsPlace m.env m.consts bs u block env) (sym c.walk_literals.ensures.same)
+    (place_kept k m c.walk_literals.ensures.keeps bs s c.requires.stands block env p)) h)
+
+pub groups::one_spec-returns-clause-gives : goal.groups::one_spec-returns-clause-gives
+groups::one_spec-returns-clause-gives t c =
+    λ env p h.
+    let k = c.args.tables.now in
+    let m = c.walk_literals.new.tables in
+    let bs = c.args.blocks.now in
+    let s = c.args.scope.now in
+    let u = c.walk_literals.new.scope in
+    let x = used_of c.args.used.now in
+    let y = used_of c.walk_literals.new.used in
+    let q = exprs_of c.args.spec.now.values in
+    let block = c.args.block.now.names in
+    let xs = c.args.pending.now in
+    let e : seen c.as_slice.result.now ≡ literals_in_all q = ap seen c.as_slice.ensures.value ∙ c.in_ok-found.ensures in
+    let w =
+    given_here {T = Unit {0}} k bs s block env p (literals_in_all q) x y (Err c.in-Err.refusal)
+    (subst (λ es. GivesLiterals {T = Unit {0}} (at k bs s) es x y (Err c.in-Err.refusal)) e c.in-Err.ensures.gives) in
+    read_refused env (free_type_option [] (option_map type_of c.args.spec.now.of) ++ go.used_all env q) (literals_in_all q) m bs u block env (spec_variables env (var_spec_of c.args.spec.now)) x y x y xs xs
+    c.in-Err.refusal (free_type_option [] (option_map type_of c.args.spec.now.of) ++ go.used_all env q) (λ h. fine_spec env (var_spec_of c.args.spec.now) h) w
+
+pub groups::one_spec-returns-clause-within : goal.groups::one_spec-returns-clause-within
+groups::one_spec-returns-clause-within t c = within_same c.args.scope.now c.walk_literals.new.scope c.walk_literals.ensures.same
+
+pub groups::one_spec-returns-in-Ok-clause-within : goal.groups::one_spec-returns-in-Ok-clause-within
+groups::one_spec-returns-in-Ok-clause-within t c =
+    subst (λ s. IsWithin s c.spec_part.new.scope) c.walk_literals.ensures.same c.spec_part.ensures.within
+
+pub ranges::range_header-walk_literals-requires : goal.ranges::range_header-walk_literals-requires
+ranges::range_header-walk_literals-requires t c =
+    let l = range_left_of c.args.left.now in
+    let q = expr_of c.args.over.now in
+    let e : seen c.as_slice.result.now ≡ literals_left l ++ literals_in q = ap seen c.as_slice.ensures.value ∙ c.in_ok-found.ensures in
+    let h = ap size_found e ∙ two_found (literals_left l) (literals_in q) (size_left l) (size_literals q) (left_size l) (literals_size q) in
+    let d = c.decreases in (
+      omega (arith, d, h),
+      (c.requires.stands, subst AreLiterals (sym e) (literals_on (literals_left l) (literals_in q) (left_walked l c.requires.left) (literals_walked q c.requires.over))),
+    )
+
+pub ranges::range_header-range_here-requires-clause-known : goal.ranges::range_header-range_here-requires-clause-known
+ranges::range_header-range_here-requires-clause-known t c =
+    let l = range_left_of c.args.left.now in
+    let q = expr_of c.args.over.now in
+    let e : seen c.as_slice.result.now ≡ literals_left l ++ literals_in q = ap seen c.as_slice.ensures.value ∙ c.in_ok-found.ensures in
+    subst
+    (AreKnown c.walk_literals.new.tables c.args.blocks.now c.walk_literals.new.scope (used_of c.walk_literals.new.used)) e
+    c.in-Ok.ensures.known
+
+pub ranges::range_header-returns-in-Ok-clause-gives : goal.ranges::range_header-returns-in-Ok-clause-gives
+ranges::range_header-returns-in-Ok-clause-gives t c =
+    λ env p h.
+    let k = c.args.tables.now in
+    let m = c.walk_literals.new.tables in
+    let bs = c.args.blocks.now in
+    let s = c.args.scope.now in
+    let u = c.walk_literals.new.scope in
+    let x = used_of c.args.used.now in
+    let y = used_of c.walk_literals.new.used in
+    let l = range_left_of c.args.left.now in
+    let q = expr_of c.args.over.now in
+    let block = c.args.block.now.names in
+    let start = in_block env in
+    let n = c.range_here.new.tables in
+    let now = c.range_here.new.block.names in
+    let e : seen c.as_slice.result.now ≡ literals_left l ++ literals_in q = ap seen c.as_slice.ensures.value ∙ c.in_ok-found.ensures in
+    let w =
+    given_here k bs s block start p (literals_left l ++ literals_in q) x y (Ok (tt {0}))
+    (subst (λ es. GivesLiterals {T = Unit {0}} (at k bs s) es x y (Ok tt)) e c.in-Ok.ensures.gives) in
+    let v = given_around env (literals_left l ++ literals_in q) x y (Ok (tt {0})) w in
+    read_after env (go.used_range env l ++ go.used env q) (literals_left l ++ literals_in q) x y n bs c.range_here.new.scope now start
+    (range_clause env l q) (used_of c.range_here.new.used) c.args.pending.now c.range_here.new.pending c.range_here.result
+    (λ h. fine_clause env l q h) v.1
+    (c.range_here.ensures.gives env
+    (subst (λ u. IsPlace m.env m.consts bs u block start) (sym c.walk_literals.ensures.same)
+    (place_kept k m c.walk_literals.ensures.keeps bs s c.requires.stands block start p)) h)
+
+pub ranges::range_header-returns-clause-gives : goal.ranges::range_header-returns-clause-gives
+ranges::range_header-returns-clause-gives t c =
+    λ env p h.
+    let k = c.args.tables.now in
+    let m = c.walk_literals.new.tables in
+    let bs = c.args.blocks.now in
+    let s = c.args.scope.now in
+    let u = c.walk_literals.new.scope in
+    let x = used_of c.args.used.now in
+    let y = used_of c.walk_literals.new.used in
+    let l = range_left_of c.args.left.now in
+    let q = expr_of c.args.over.now in
+    let block = c.args.block.now.names in
+    let start = in_block env in
+    let xs = c.args.pending.now in
+    let uses = go.used_range env l ++ go.used env q in
+    let e : seen c.as_slice.result.now ≡ literals_left l ++ literals_in q = ap seen c.as_slice.ensures.value ∙ c.in_ok-found.ensures in
+    let w =
+    given_here {T = Unit {0}} k bs s block start p (literals_left l ++ literals_in q) x y (Err c.in-Err.refusal)
+    (subst (λ es. GivesLiterals {T = Unit {0}} (at k bs s) es x y (Err c.in-Err.refusal)) e c.in-Err.ensures.gives) in
+    read_refused env uses (literals_left l ++ literals_in q) m bs u block start (range_clause env l q) x y x y xs xs
+    c.in-Err.refusal uses (λ h. fine_clause env l q h)
+    (given_around {T = Unit {0}} env (literals_left l ++ literals_in q) x y (Err c.in-Err.refusal) w)
+
+pub ranges::range_header-returns-clause-within : goal.ranges::range_header-returns-clause-within
+ranges::range_header-returns-clause-within t c = within_same c.args.scope.now c.walk_literals.new.scope c.walk_literals.ensures.same
+
+pub ranges::range_header-returns-in-Ok-clause-within : goal.ranges::range_header-returns-in-Ok-clause-within
+ranges::range_header-returns-in-Ok-clause-within t c =
+    subst (λ s. IsWithin s c.range_here.new.scope) c.walk_literals.ensures.same c.range_here.ensures.within
+
+pub switches::switch_tag-walk_literals-requires : goal.switches::switch_tag-walk_literals-requires
+switches::switch_tag-walk_literals-requires t c =
+    let q = plain_expr_option_of c.args.e.now in
+    let e : seen c.as_slice.result.now ≡ literals_in_option q = ap seen c.as_slice.ensures.value ∙ c.in_ok-found.ensures in
+    let h = ap size_found e ∙ option_size q in
+    let d = c.decreases in (
+      omega (arith, d, h),
+      (c.requires.stands, subst AreLiterals (sym e) (option_walked q c.requires.walked)),
+    )
+
+pub switches::switch_tag-tag_here-requires-clause-known : goal.switches::switch_tag-tag_here-requires-clause-known
+switches::switch_tag-tag_here-requires-clause-known t c =
+    let q = plain_expr_option_of c.args.e.now in
+    let e : seen c.as_slice.result.now ≡ literals_in_option q = ap seen c.as_slice.ensures.value ∙ c.in_ok-found.ensures in
+    subst
+    (AreKnown c.walk_literals.new.tables c.args.blocks.now c.walk_literals.new.scope (used_of c.walk_literals.new.used)) e
+    c.in-Ok.ensures.known
+
+pub switches::switch_tag-returns-in-Ok-clause-gives : goal.switches::switch_tag-returns-in-Ok-clause-gives
+switches::switch_tag-returns-in-Ok-clause-gives t c =
+    λ env block p.
+    let k = c.args.tables.now in
+    let m = c.walk_literals.new.tables in
+    let bs = c.args.blocks.now in
+    let s = c.args.scope.now in
+    let u = c.walk_literals.new.scope in
+    let x = used_of c.args.used.now in
+    let y = used_of c.walk_literals.new.used in
+    c.tag_here.ensures.gives env block
+    (subst (λ u. IsPlace m.env m.consts bs u block env) (sym c.walk_literals.ensures.same)
+    (place_kept k m c.walk_literals.ensures.keeps bs s c.requires.stands block env p))
+
+pub switches::switch_tag-returns-in-Ok-clause-uses : goal.switches::switch_tag-returns-in-Ok-clause-uses
+switches::switch_tag-returns-in-Ok-clause-uses t c =
+    λ env block p.
+    let k = c.args.tables.now in
+    let m = c.walk_literals.new.tables in
+    let bs = c.args.blocks.now in
+    let s = c.args.scope.now in
+    let u = c.walk_literals.new.scope in
+    let x = used_of c.args.used.now in
+    let y = used_of c.walk_literals.new.used in
+    let q = plain_expr_option_of c.args.e.now in
+    let e : seen c.as_slice.result.now ≡ literals_in_option q = ap seen c.as_slice.ensures.value ∙ c.in_ok-found.ensures in
+    let w =
+    given_here k bs s block env p (literals_in_option q) x y (Ok (tt {0}))
+    (subst (λ es. GivesLiterals {T = Unit {0}} (at k bs s) es x y (Ok tt)) e c.in-Ok.ensures.gives) in
+    let v =
+    (subst (λ u. IsPlace m.env m.consts bs u block env) (sym c.walk_literals.ensures.same)
+    (place_kept k m c.walk_literals.ensures.keeps bs s c.requires.stands block env p)) in
+    let n = c.tag_here.new.tables in
+    tag_used n.env n.consts env (go.bound env q) (go.used_option env q) (literals_in_option q) x y (used_of c.tag_here.new.used) c.tag_here.result
+    (c.tag_here.ensures.gives env block v) (λ h. fine_option env q h) w.1 (c.tag_here.ensures.uses env block v)
+
+pub switches::switch_tag-returns-clause-gives : goal.switches::switch_tag-returns-clause-gives
+switches::switch_tag-returns-clause-gives t c =
+    λ env block p.
+    let k = c.args.tables.now in
+    let m = c.walk_literals.new.tables in
+    let bs = c.args.blocks.now in
+    let s = c.args.scope.now in
+    let u = c.walk_literals.new.scope in
+    let x = used_of c.args.used.now in
+    let y = used_of c.walk_literals.new.used in
+    let q = plain_expr_option_of c.args.e.now in
+    let e : seen c.as_slice.result.now ≡ literals_in_option q = ap seen c.as_slice.ensures.value ∙ c.in_ok-found.ensures in
+    let w =
+    given_here {T = Unit {0}} k bs s block env p (literals_in_option q) x y (Err c.in-Err.refusal)
+    (subst (λ es. GivesLiterals {T = Unit {0}} (at k bs s) es x y (Err c.in-Err.refusal)) e c.in-Err.ensures.gives) in
+    tag_not_typed m.env m.consts env (go.bound env q) (go.used_option env q) (literals_in_option q) x y c.in-Err.refusal
+    (λ h. fine_option env q h) w
+
+pub switches::values_of_case-walk_literals-requires : goal.switches::values_of_case-walk_literals-requires
+switches::values_of_case-walk_literals-requires t c =
+    let q = exprs_of c.args.es.now in
+    let e : seen c.as_slice.result.now ≡ literals_in_all q = ap seen c.as_slice.ensures.value ∙ c.in_ok-found.ensures in
+    let h = ap size_found e ∙ all_size q in
+    let d = c.decreases in (
+      omega (arith, d, h),
+      (c.requires.stands, subst AreLiterals (sym e) (all_walked q c.requires.walked)),
+    )
+
+pub switches::values_of_case-values_here-requires-clause-known : goal.switches::values_of_case-values_here-requires-clause-known
+switches::values_of_case-values_here-requires-clause-known t c =
+    let q = exprs_of c.args.es.now in
+    let e : seen c.as_slice.result.now ≡ literals_in_all q = ap seen c.as_slice.ensures.value ∙ c.in_ok-found.ensures in
+    subst
+    (AreKnown c.walk_literals.new.tables c.args.blocks.now c.walk_literals.new.scope (used_of c.walk_literals.new.used)) e
+    c.in-Ok.ensures.known
+
+pub switches::values_of_case-values_here-requires-clause-tag : goal.switches::values_of_case-values_here-requires-clause-tag
+switches::values_of_case-values_here-requires-clause-tag t c =
+    let k = c.args.tables.now in
+    let m = c.walk_literals.new.tables in
+    let g = c.walk_literals.ensures.keeps in
+    value_on k.env m.env g.types k.consts m.consts g.constants c.args.tag c.requires.tag
+
+pub switches::values_of_case-returns-in-Ok-clause-gives : goal.switches::values_of_case-returns-in-Ok-clause-gives
+switches::values_of_case-returns-in-Ok-clause-gives t c =
+    λ env block p v h.
+    let k = c.args.tables.now in
+    let m = c.walk_literals.new.tables in
+    let bs = c.args.blocks.now in
+    let s = c.args.scope.now in
+    let u = c.walk_literals.new.scope in
+    let x = used_of c.args.used.now in
+    let y = used_of c.walk_literals.new.used in
+    c.values_here.ensures.gives env block
+    (subst (λ u. IsPlace m.env m.consts bs u block env) (sym c.walk_literals.ensures.same)
+    (place_kept k m c.walk_literals.ensures.keeps bs s c.requires.stands block env p)) v
+    (alike_self k m c.walk_literals.ensures.keeps c.args.tag c.requires.tag v h)
+
+pub switches::values_of_case-returns-in-Ok-clause-uses : goal.switches::values_of_case-returns-in-Ok-clause-uses
+switches::values_of_case-returns-in-Ok-clause-uses t c =
+    λ env block p.
+    let k = c.args.tables.now in
+    let m = c.walk_literals.new.tables in
+    let bs = c.args.blocks.now in
+    let s = c.args.scope.now in
+    let u = c.walk_literals.new.scope in
+    let x = used_of c.args.used.now in
+    let y = used_of c.walk_literals.new.used in
+    let q = exprs_of c.args.es.now in
+    let e : seen c.as_slice.result.now ≡ literals_in_all q = ap seen c.as_slice.ensures.value ∙ c.in_ok-found.ensures in
+    let w =
+    given_here k bs s block env p (literals_in_all q) x y (Ok (tt {0}))
+    (subst (λ es. GivesLiterals {T = Unit {0}} (at k bs s) es x y (Ok tt)) e c.in-Ok.ensures.gives) in
+    let i =
+    (subst (λ u. IsPlace m.env m.consts bs u block env) (sym c.walk_literals.ensures.same)
+    (place_kept k m c.walk_literals.ensures.keeps bs s c.requires.stands block env p)) in
+    let v = typed_of m.env m.consts c.args.tag in
+    let n = c.values_here.new.tables in
+    values_used n.env n.consts env (go.all_parts env q) (λ os. given (all_typed os) (λ vs. only_if (list_all (case_value (defined_in env) v) vs) (Some vs)))
+    (go.used_all env q) (literals_in_all q) x y (used_of c.values_here.new.used) c.values_here.result
+    (c.values_here.ensures.gives env block i v (alike_same v)) (λ h. fine_all env q h) w.1
+    (c.values_here.ensures.uses env block i)
+
+pub switches::values_of_case-returns-clause-gives : goal.switches::values_of_case-returns-clause-gives
+switches::values_of_case-returns-clause-gives t c =
+    λ env block p v h.
+    let k = c.args.tables.now in
+    let m = c.walk_literals.new.tables in
+    let bs = c.args.blocks.now in
+    let s = c.args.scope.now in
+    let u = c.walk_literals.new.scope in
+    let x = used_of c.args.used.now in
+    let y = used_of c.walk_literals.new.used in
+    let q = exprs_of c.args.es.now in
+    let e : seen c.as_slice.result.now ≡ literals_in_all q = ap seen c.as_slice.ensures.value ∙ c.in_ok-found.ensures in
+    let w =
+    given_here {T = Unit {0}} k bs s block env p (literals_in_all q) x y (Err c.in-Err.refusal)
+    (subst (λ es. GivesLiterals {T = Unit {0}} (at k bs s) es x y (Err c.in-Err.refusal)) e c.in-Err.ensures.gives) in
+    values_not_typed m.env m.consts env (go.all_parts env q)
+    (λ os. given (all_typed os) (λ vs. only_if (list_all (case_value (defined_in env) v) vs) (Some vs)))
+    (go.used_all env q) (literals_in_all q) x y c.in-Err.refusal (λ h. fine_all env q h) w
+
+-- ---- function literals
+
+pub literals::literal_block-returns-in-Ok-clause-same : goal.literals::literal_block-returns-in-Ok-clause-same
+literals::literal_block-returns-in-Ok-clause-same t c =
+    c.end.ensures c.args.scope.now
+    (within_on c.args.scope.now c.param_part.new.scope c.statements-ends.new.scope c.param_part.ensures.within
+    c.statements-ends.ensures.within)
+    (c.statements-ends.ensures.start ∙ c.param_part.ensures.start ∙ c.begin-block.ensures.start)
+
+pub literals::literal_block-returns-in-Ok-clause-stands : goal.literals::literal_block-returns-in-Ok-clause-stands
+literals::literal_block-returns-in-Ok-clause-stands t c =
+    stands_again c.args.tables.now c.statements-ends.new.tables c.args.blocks.now c.args.scope.now c.statements-ends.new.scope
+    c.end.new.scope c.statements-ends.ensures.keeps c.requires.stands c.statements-ends.ensures.stands
+    (literals::literal_block-returns-in-Ok-clause-same t c)
+
+pub literals::literal_block-returns-in-Ok-clause-gives : goal.literals::literal_block-returns-in-Ok-clause-gives
+literals::literal_block-returns-in-Ok-clause-gives t c =
+    let k = c.args.tables.now in
+    let bs = c.args.blocks.now in
+    let s = c.args.scope.now in
+    let a = at k bs s in
+    let g = sig_of c.args.sig.now in
+    let f = func_of k.env c.args.of.now in
+    let ss = stmts_of c.args.stmts.now in
+    let p = used_of c.args.used.now in
+    let q = used_of c.param_part.new.used in
+    let u = c.param_part.new.scope in
+    let now = c.param_part.new.block.names in
+    let ys = c.param_part.new.pending in
+    let start =
+    subst (λ ns. IsPlace k.env k.consts bs s ns (in_block a)) (sym c.begin-block.ensures.names)
+    (blocks_begin k.env k.consts bs s [] (in_block_of [] a) (place_here k.env k.consts bs s [])) in
+    let here = subst (AreHere (in_block a)) (sym c.new-pending.ensures) refl in
+    let w : IsRead k bs u now (in_block a) (sig_declares g f) [] p q [] ys =
+    subst (λ xs. IsRead k bs u now (in_block a) (sig_declares g f) [] p q xs ys) c.new-pending.ensures
+    (c.in-Ok.ensures.gives k bs a (in_block_of [] a) c.requires.known start here) in
+    let env = inside a g f ss c.requires.known k bs u now p q ys w in
+    let is : c.as_slice.result.now ≡ codes "_" = search rules in
+    body_known a g f ss c.requires.known k bs u now p q ys w (used_of c.close_params.new.used) c.close_params.result
+    (c.close_params.ensures (go.stmts (body_ctx g f) env false ss) (and_names (go.used_stmts env ss) q) p
+    (go.used_stmts env ss) (c.has-blank.ensures ∙ ap p is)
+    (c.statements-ends.ensures.gives (body_ctx g f) env
+    (record { place = w.part.place; around = c.no_jumps-around.ensures g f; body = c.requires.body }))
+    (params_ended a g f ss c.requires.known k bs u now p q ys w))
+
+pub literals::literal_block-returns-clause-gives : goal.literals::literal_block-returns-clause-gives
+literals::literal_block-returns-clause-gives t c =
+    let k = c.args.tables.now in
+    let bs = c.args.blocks.now in
+    let s = c.args.scope.now in
+    let a = at k bs s in
+    let g = sig_of c.args.sig.now in
+    let f = func_of k.env c.args.of.now in
+    let ss = stmts_of c.args.stmts.now in
+    let p = used_of c.args.used.now in
+    let q = used_of c.param_part.new.used in
+    let u = c.param_part.new.scope in
+    let now = c.param_part.new.block.names in
+    let ys = c.param_part.new.pending in
+    let start =
+    subst (λ ns. IsPlace k.env k.consts bs s ns (in_block a)) (sym c.begin-block.ensures.names)
+    (blocks_begin k.env k.consts bs s [] (in_block_of [] a) (place_here k.env k.consts bs s [])) in
+    let here = subst (AreHere (in_block a)) (sym c.new-pending.ensures) refl in
+    body_refused a g f ss c.requires.known k bs u now p q ys c.new-pending.result c.in-Err.refusal (used_of c.param_part.new.used)
+    (c.in-Err.ensures.gives k bs a (in_block_of [] a) c.requires.known start here)
+
+pub literals::function_literal-returns-then-branch-clause-gives : goal.literals::function_literal-returns-then-branch-clause-gives
+literals::function_literal-returns-then-branch-clause-gives t c =
+    λ sp r.
+    let k = c.args.tables.now in
+    let m = c.signature.new.tables in
+    let bs = c.args.blocks.now in
+    let s = c.args.scope.now in
+    let a = at k bs s in
+    let g = sig_of c.args.sig.now in
+    let f = func_of m.env c.in-Ok.of in
+    let ss = stmts_of c.args.stmts.now in
+    let p = used_of c.args.used.now in
+    let y = used_of c.use_sig.new.used in
+    let z = used_of c.literal_block-ends.new.used in
+    let known : func_type a g ≡ Some f = c.in-Ok.ensures.gives.1 in
+    let o = body_ends a g f ss known in
+    let uses = body_uses a g f ss known in
+    let w : GivesEnds o (and_names uses y) z c.literal_block-ends.result =
+    subst
+    (λ env. GivesEnds (given {B = Bool} (body_binds [] g f) (λ bs. go.stmts (body_ctx g f) (extend bs (in_block env)) false ss)) (and_names (without (sig_names g) (go.used_stmts (literal_env env g) ss)) y) z c.literal_block-ends.result)
+    (env_kept k m c.signature.ensures.keeps bs s c.requires.stands) c.literal_block-ends.ensures.gives in
+    let is =
+    λ (r : Option Bool) (h : EndsAs r c.literal_block-ends.result).
+    c.in_ok-is_body.ensures m.env f r (c.in_ok-body.ensures.is m.env).results h in
+    let b = is o (ends_alone o (and_names uses y) z c.literal_block-ends.result w) in
+    literal_fine a g f ss known sp r p y z c.in_ok-is_body.field-0 b c.if-branch.true c.in_ok-use_sig.ensures
+    (used_by_body f ss o (and_names uses y) z c.literal_block-ends.result c.in_ok-is_body.field-0 is c.if-branch.true w)
+
+pub literals::function_literal-returns-clause-gives : goal.literals::function_literal-returns-clause-gives
+literals::function_literal-returns-clause-gives t c =
+    λ sp r.
+    let k = c.args.tables.now in
+    let m = c.signature.new.tables in
+    let bs = c.args.blocks.now in
+    let s = c.args.scope.now in
+    let a = at k bs s in
+    let g = sig_of c.args.sig.now in
+    let f = func_of m.env c.in-Ok.of in
+    let ss = stmts_of c.args.stmts.now in
+    let p = used_of c.args.used.now in
+    let y = used_of c.use_sig.new.used in
+    let z = used_of c.literal_block-ends.new.used in
+    let known : func_type a g ≡ Some f = c.in-Ok.ensures.gives.1 in
+    let o = body_ends a g f ss known in
+    let uses = body_uses a g f ss known in
+    let w : GivesEnds o (and_names uses y) z c.literal_block-ends.result =
+    subst
+    (λ env. GivesEnds (given {B = Bool} (body_binds [] g f) (λ bs. go.stmts (body_ctx g f) (extend bs (in_block env)) false ss)) (and_names (without (sig_names g) (go.used_stmts (literal_env env g) ss)) y) z c.literal_block-ends.result)
+    (env_kept k m c.signature.ensures.keeps bs s c.requires.stands) c.literal_block-ends.ensures.gives in
+    let is =
+    λ (r : Option Bool) (h : EndsAs r c.literal_block-ends.result).
+    c.in_ok-is_body.ensures m.env f r (c.in_ok-body.ensures.is m.env).results h in
+    let b = is o (ends_alone o (and_names uses y) z c.literal_block-ends.result w) in
+    literal_bad a g f ss known sp r p z c.in_ok-is_body.field-0 b c.if-branch.false
+
+pub literals::literal-returns-clause-gives : goal.literals::literal-returns-clause-gives
+literals::literal-returns-clause-gives t c =
+    let a = at c.args.tables.now c.args.blocks.now c.args.scope.now in
+    subst
+    (λ x. GivesLiterals a (expr_of x ∷ []) (used_of c.args.used.now) (used_of c.function_literal.new.used) c.function_literal.result)
+    (sym c.in-FuncLit.is) (c.function_literal.ensures.gives c.in-FuncLit.span c.in-FuncLit.body.span)
+
+pub literals::walk_literals-loop-e-init : goal.literals::walk_literals-loop-e-init
+literals::walk_literals-loop-e-init t c =
+    literals_start c.args.tables.now c.args.blocks.now c.args.scope.now (seen c.args.found.now) (used_of c.args.used.now)
+    c.requires.stands
+
+pub literals::walk_literals-loop-e-preserved : goal.literals::walk_literals-loop-e-preserved
+literals::walk_literals-loop-e-preserved t c =
+    let k = c.args.tables.now in
+    let m = c.loop-e.tables in
+    let bs = c.args.blocks.now in
+    let s = c.args.scope.now in
+    let items = c.args.found.now in
+    let i = c.loop-e.e-index in
+    let x = c.e-item.result in
+    let rest = seen (drop (i + 1) items) in
+    literals_more k m bs s c.loop-e.scope (seen items) (expr_of x.now) rest (used_of c.args.used.now) (used_of c.loop-e.used)
+    c.requires.stands
+    (subst (λ es. LiteralsRead k m bs s c.loop-e.scope (seen items) es (used_of c.args.used.now) (used_of c.loop-e.used))
+    (found_cut items i _ x c.loop-e-test.true c.e-item.is) c.loop-e.invariant)
+    c.literal.new.tables c.literal.new.scope (used_of c.literal.new.used) (tt {0}) c.literal.ensures.stands
+    c.literal.ensures.keeps c.literal.ensures.same c.in-Ok.ensures.gives
+
+pub literals::walk_literals-returns-in-Err-clause-keeps : goal.literals::walk_literals-returns-in-Err-clause-keeps
+literals::walk_literals-returns-in-Err-clause-keeps t c =
+    keeps_on c.args.tables.now c.loop-e.tables c.literal.new.tables c.loop-e.invariant.keeps c.literal.ensures.keeps
+
+pub literals::walk_literals-returns-in-Err-clause-same : goal.literals::walk_literals-returns-in-Err-clause-same
+literals::walk_literals-returns-in-Err-clause-same t c = c.literal.ensures.same ∙ c.loop-e.invariant.same
+
+pub literals::walk_literals-returns-in-Err-clause-gives : goal.literals::walk_literals-returns-in-Err-clause-gives
+literals::walk_literals-returns-in-Err-clause-gives t c =
+    let k = c.args.tables.now in
+    let m = c.loop-e.tables in
+    let bs = c.args.blocks.now in
+    let s = c.args.scope.now in
+    let items = c.args.found.now in
+    let i = c.loop-e.e-index in
+    let x = c.e-item.result in
+    let rest = seen (drop (i + 1) items) in
+    literals_refused k m bs s c.loop-e.scope (seen items) (expr_of x.now) rest (used_of c.args.used.now) (used_of c.loop-e.used)
+    c.requires.stands
+    (subst (λ es. LiteralsRead k m bs s c.loop-e.scope (seen items) es (used_of c.args.used.now) (used_of c.loop-e.used))
+    (found_cut items i _ x c.loop-e-test.true c.e-item.is) c.loop-e.invariant)
+    (used_of c.literal.new.used) c.in-Err.refusal c.in-Err.ensures.gives
+
+pub literals::walk_literals-returns-clause-stands : goal.literals::walk_literals-returns-clause-stands
+literals::walk_literals-returns-clause-stands t c = c.loop-e.invariant.stands
+
+pub literals::walk_literals-returns-clause-keeps : goal.literals::walk_literals-returns-clause-keeps
+literals::walk_literals-returns-clause-keeps t c = c.loop-e.invariant.keeps
+
+pub literals::walk_literals-returns-clause-same : goal.literals::walk_literals-returns-clause-same
+literals::walk_literals-returns-clause-same t c = c.loop-e.invariant.same
+
+pub literals::walk_literals-returns-clause-gives : goal.literals::walk_literals-returns-clause-gives
+literals::walk_literals-returns-clause-gives t c =
+    let k = c.args.tables.now in
+    let m = c.loop-e.tables in
+    let bs = c.args.blocks.now in
+    let s = c.args.scope.now in
+    let items = c.args.found.now in
+    literals_end k m bs s c.loop-e.scope (seen items) (used_of c.args.used.now) (used_of c.loop-e.used) (tt {0})
+    (subst (λ xs. LiteralsRead k m bs s c.loop-e.scope (seen items) (seen xs) (used_of c.args.used.now) (used_of c.loop-e.used))
+    (drop_all items c.loop-e.e-index c.loop-e-test.false) c.loop-e.invariant)
+
+pub literals::walk_literals-returns-clause-known : goal.literals::walk_literals-returns-clause-known
+literals::walk_literals-returns-clause-known t c =
+    literals_known c.args.tables.now c.loop-e.tables c.loop-e.invariant.keeps c.args.blocks.now c.args.scope.now
+    c.loop-e.scope c.requires.stands c.loop-e.invariant.same (seen c.args.found.now) (used_of c.args.used.now)
+    (used_of c.loop-e.used) (Ok (tt {0})) (literals::walk_literals-returns-clause-gives t c)
+
+pub groups::variable_group-loop-spec-init : goal.groups::variable_group-loop-spec-init
+groups::variable_group-loop-spec-init t c = (
+  group_start c.args.tables.now c.args.blocks.now c.args.scope.now c.args.block.now.names c.items-spec-items.result.now
+      (used_of c.args.used.now) c.args.pending.now c.requires.stands,
+  refl,
+)
+
+pub groups::variable_group-loop-spec-preserved : goal.groups::variable_group-loop-spec-preserved
+groups::variable_group-loop-spec-preserved t c = (
+  group_more c.args.tables.now c.loop-spec.tables c.args.blocks.now c.args.scope.now c.loop-spec.scope
+      c.args.block.now.names c.loop-spec.block.names c.items-spec-items.result.now c.loop-spec.spec-index
+      (used_of c.args.used.now) (used_of c.loop-spec.used) c.args.pending.now c.loop-spec.pending c.loop-spec.invariant.0
+      c.spec-item.result c.loop-spec-test.true c.spec-item.is c.one_spec.new.tables c.one_spec.new.scope
+      c.one_spec.new.block.names (used_of c.one_spec.new.used) c.one_spec.new.pending c.one_spec.ensures.keeps
+      c.one_spec.ensures.stands c.one_spec.ensures.within (λ env p h. c.in-Ok.ensures.gives env p h),
+  c.one_spec.ensures.start ∙ c.loop-spec.invariant.1,
+)
+
+pub groups::variable_group-returns-clause-gives : goal.groups::variable_group-returns-clause-gives
+groups::variable_group-returns-clause-gives t c =
+    λ env p h.
+    subst
+    (λ ss. GivesRead c.loop-spec.tables c.args.blocks.now c.loop-spec.scope c.loop-spec.block.names env (declares_variables env ss) (used_variables env ss) (used_of c.args.used.now) (used_of c.loop-spec.used) c.args.pending.now c.loop-spec.pending (Ok (tt {0})))
+    (sym c.items-spec-items.ensures.seen)
+    (group_end c.args.tables.now c.loop-spec.tables c.args.blocks.now c.args.scope.now c.loop-spec.scope
+    c.args.block.now.names c.loop-spec.block.names c.items-spec-items.result.now c.loop-spec.spec-index
+    (used_of c.args.used.now) (used_of c.loop-spec.used) c.args.pending.now c.loop-spec.pending c.loop-spec.invariant.0
+    c.loop-spec-test.false env p h)
+
+pub groups::variable_group-returns-in-Err-clause-within : goal.groups::variable_group-returns-in-Err-clause-within
+groups::variable_group-returns-in-Err-clause-within t c =
+    within_on c.args.scope.now c.loop-spec.scope c.one_spec.new.scope c.loop-spec.invariant.0.within c.one_spec.ensures.within
+
+pub groups::variable_group-returns-in-Err-clause-gives : goal.groups::variable_group-returns-in-Err-clause-gives
+groups::variable_group-returns-in-Err-clause-gives t c =
+    λ env p h.
+    subst
+    (λ ss. GivesRead {T = Unit {0}} c.one_spec.new.tables c.args.blocks.now c.one_spec.new.scope c.one_spec.new.block.names env (declares_variables env ss) (used_variables env ss) (used_of c.args.used.now) (used_of c.one_spec.new.used) c.args.pending.now c.one_spec.new.pending (Err c.in-Err.refusal))
+    (sym c.items-spec-items.ensures.seen)
+    (group_refused c.args.tables.now c.loop-spec.tables c.args.blocks.now c.args.scope.now c.loop-spec.scope
+    c.args.block.now.names c.loop-spec.block.names c.items-spec-items.result.now c.loop-spec.spec-index
+    (used_of c.args.used.now) (used_of c.loop-spec.used) c.args.pending.now c.loop-spec.pending c.loop-spec.invariant.0
+    c.spec-item.result c.loop-spec-test.true c.spec-item.is (Unit {0}) (Unit {0}) c.one_spec.new.tables
+    c.one_spec.new.scope c.one_spec.new.block.names (used_of c.one_spec.new.used) c.one_spec.new.pending
+    c.in-Err.refusal env p h (λ env p h. c.in-Err.ensures.gives env p h))
+
+pub literals::literal_block-statements-ends-requires : goal.literals::literal_block-statements-ends-requires
+literals::literal_block-statements-ends-requires t c =
+    let d = c.decreases in (
+      omega (arith, d),
+      (
+        c.param_part.ensures.stands c.args.tables.now c.args.blocks.now c.requires.stands c.requires.params c.requires.of,
+        (c.requires.results, c.requires.walked),
+      ),
+    )
+
+pub literals::function_literal-literal_block-ends-requires : goal.literals::function_literal-literal_block-ends-requires
+literals::function_literal-literal_block-ends-requires t c =
+    let n = c.signature.new.tables in
+    let g = sig_of c.args.sig.now in
+    let types = c.in-Ok.ensures.gives.0 in
+    let known =
+    subst (λ env. func_type env g ≡ Some (func_of n.env c.in-Ok.of))
+    (sym (env_kept c.args.tables.now n c.signature.ensures.keeps c.args.blocks.now c.args.scope.now c.requires.stands))
+    c.in-Ok.ensures.gives.1 in
+    let results =
+    subst (AreTypes n.env) (sym c.in_ok-body.ensures.results) (are_types n.env c.in-Ok.of.results types.1) in
+    let d = c.decreases in (
+      omega (arith, d),
+      (
+        c.signature.ensures.stands,
+        (types.0, (types.1, (results, (c.in_ok-body.ensures.is n.env, (known, c.requires.walked))))),
+      ),
+    )
+
+pub literals::literal-function_literal-requires : goal.literals::literal-function_literal-requires
+literals::literal-function_literal-requires t c =
+    let h = ap (λ x. size_literal (expr_of x)) c.in-FuncLit.is in
+    let d = c.decreases in (
+      omega (arith, d, h),
+      (c.requires.stands, subst (λ x. IsLiteral (expr_of x)) c.in-FuncLit.is c.requires.literal),
+    )
+
+pub literals::walk_literals-literal-requires : goal.literals::walk_literals-literal-requires
+literals::walk_literals-literal-requires t c =
+    let items = c.args.found.now in
+    let i = c.loop-e.e-index in
+    let h = found_smaller items i _ c.e-item.result c.loop-e-test.true c.e-item.is in
+    let d = c.decreases in (
+      omega (arith, d, h),
+      (
+        c.loop-e.invariant.stands,
+        found_walked items i _ c.e-item.result c.loop-e-test.true c.e-item.is c.requires.literals,
+      ),
+    )
+
+pub groups::variable_group-one_spec-requires : goal.groups::variable_group-one_spec-requires
+groups::variable_group-one_spec-requires t c =
+    let items = c.items-spec-items.result.now in
+    let item = c.spec-item.result in
+    let d = rw c.items-spec-items.ensures.seen at c.decreases in (
+      omega (arith, d, spec_smaller items c.loop-spec.spec-index item c.loop-spec-test.true c.spec-item.is),
+      (
+        c.loop-spec.invariant.0.stands,
+        spec_walked items c.loop-spec.spec-index item c.loop-spec-test.true c.spec-item.is
+            (subst AreWalkedSpecs c.items-spec-items.ensures.seen c.requires.walked),
+      ),
+    )

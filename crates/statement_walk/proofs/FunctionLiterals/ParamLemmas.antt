@@ -179,7 +179,7 @@ all_named (n ∷ ns) = named_step n (is_blank n) refl (not_blank ns) (all_named 
 abbrev pub sig_binds : Sig Span → FuncType → Binds
 sig_binds g f = param_binds g.params f.params ++ param_binds g.results f.results
 
-sig_bound :
+pub sig_bound :
     (env : Env) (g : Sig Span) (f : FuncType) → func_type env g ≡ Some f →
     bound_names (sig_binds g f) ≡ not_blank (sig_names g)
 sig_bound env g f h =

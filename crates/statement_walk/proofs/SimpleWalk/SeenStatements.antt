@@ -19,7 +19,7 @@ use Rattle.control_steps.proofs.LocalBlocks.PlaceLemmas.{places_are_environments
 use Rattle.control_steps.proofs.LocalBlocks.SeenNames.{all_seen, parts_seen, place_seen, places_seen}
 use Rattle.control_steps.specs.Ends.{EndsAs}
 use Rattle.expr_walk.proofs.WalkArms.ExprArms.{at}
-use Rattle.statement_walk.specs.SimpleWalk.Simple.{IsSimple}
+use Rattle.statement_walk.specs.SimpleWalk.Simple.{IsSimpleAt}
 use Rattle.std.specs.Prelude.{if◌then◌else◌}
 
 module _ (env : Env) (names : List (List ℕ)) where
@@ -85,7 +85,7 @@ module _ (env : Env) (names : List (List ℕ)) where
       (λ ts. both (if is_blank_name e then Some blank else given (parts env e) (λ o. with_value o (target_at (place env e)))) ts (λ t ts. Some (t ∷ ts)))
       (targets_seen es)
 
-  pub simple_seen : (c : Ctx) (s : Stmt Span) → IsSimple s → stmt c there s ≡ stmt c env s
+  pub simple_seen : (c : Ctx) (s : Stmt Span) → IsSimpleAt env s → stmt c there s ≡ stmt c env s
   simple_seen c (empty _) h = refl
   simple_seen c (eval _ e) h =
       ap₂ (λ b o. only_if b (given o (λ o. Some (is_panic there e)))) (call_seen stands_alone e) (parts_seen env names e)
@@ -128,7 +128,7 @@ module _ (env : Env) (names : List (List ℕ)) where
 -- so at a place in a block
 pub simple_at :
     (k : Tables) (bs : List Names) (s : Scope) (block : List (List ℕ)) (env : Env) →
-    IsPlace k.env k.consts bs s block env → (c : Ctx) (t : Stmt Span) → IsSimple t → (r : Result Bool Refusal) →
+    IsPlace k.env k.consts bs s block env → (c : Ctx) (t : Stmt Span) → IsSimpleAt (at k bs s) t → (r : Result Bool Refusal) →
     EndsAs (stmt c (at k bs s) t) r → EndsAs (stmt c env t) r
 simple_at k bs s block env p c t i r h =
     subst (λ env. EndsAs (stmt c env t) r) (sym (places_are_environments k.env k.consts bs s block env p))

@@ -10,11 +10,11 @@ ghost use Rattle.typed_names.specs.Scopes.{env_at};
 ghost use Rattle.operand_modes.specs.CheckerTables.Ready.{Keeps};
 ghost use Rattle.operand_modes.specs.OperandAnswers.Known.{Stands};
 ghost use Rattle.control_steps.specs.Ends.{EndsAs};
-ghost use Rattle.expr_walk.specs.Walked.{AreAllWalked, IsWalked};
+ghost use Rattle.expr_walk.specs.Walked.{AreAllWalkedAt, IsWalkedAt};
 
 use crate::simple_walk::left_sides::targets;
 use assignment_steps::{assignment, increment, update};
-use expr_walk::{all_exprs, expr};
+use expr_walk::{all_exprs_at, expr_at};
 use go_tree::{BinOp, Expr, ExprList};
 use operand_modes::checker_tables::Tables;
 use std::alloc::Global;
@@ -31,13 +31,14 @@ pub(crate) fn step(
     up: bool,
 ) -> Result<bool, Refusal>
     requires stands { Stands tables.old blocks.now scope.now }
-    requires walked { IsWalked (expr_of e.now) }
+    requires walked { IsWalkedAt (env_at tables.old.env tables.old.consts blocks.now scope.now)
+        (expr_of e.now) }
     ensures stands { Stands tables.new blocks.now scope.now }
     ensures keeps { Keeps tables.old tables.new }
     ensures gives { (c : Ctx) (s : Span) → EndsAs (go.stmt c
         (env_at tables.old.env tables.old.consts blocks.now scope.now) (tree.step s (expr_of e.now) up)) result }
 {
-    let x = expr(alloc, tables, scope, blocks, e);
+    let x = expr_at(alloc, tables, scope, blocks, e);
     increment(alloc, tables, up, x)
 }
 
@@ -51,8 +52,10 @@ pub(crate) fn assign(
     right: &ExprList,
 ) -> Result<bool, Refusal>
     requires stands { Stands tables.old blocks.now scope.now }
-    requires left { AreAllWalked (exprs_of left.now) }
-    requires right { AreAllWalked (exprs_of right.now) }
+    requires left { AreAllWalkedAt (env_at tables.old.env tables.old.consts blocks.now scope.now)
+        (exprs_of left.now) }
+    requires right { AreAllWalkedAt (env_at tables.old.env tables.old.consts blocks.now scope.now)
+        (exprs_of right.now) }
     ensures stands { Stands tables.new blocks.now scope.now }
     ensures keeps { Keeps tables.old tables.new }
     ensures gives { (c : Ctx) (s : Span) → EndsAs (go.stmt c
@@ -60,7 +63,7 @@ pub(crate) fn assign(
         (tree.assign s (exprs_of left.now) None (exprs_of right.now))) result }
 {
     let stored = targets(alloc, tables, scope, blocks, left);
-    let values = all_exprs(alloc, tables, scope, blocks, right);
+    let values = all_exprs_at(alloc, tables, scope, blocks, right);
     assignment(alloc, tables, stored, values)
 }
 
@@ -75,15 +78,17 @@ pub(crate) fn assign_by(
     right: &ExprList,
 ) -> Result<bool, Refusal>
     requires stands { Stands tables.old blocks.now scope.now }
-    requires left { AreAllWalked (exprs_of left.now) }
-    requires right { AreAllWalked (exprs_of right.now) }
+    requires left { AreAllWalkedAt (env_at tables.old.env tables.old.consts blocks.now scope.now)
+        (exprs_of left.now) }
+    requires right { AreAllWalkedAt (env_at tables.old.env tables.old.consts blocks.now scope.now)
+        (exprs_of right.now) }
     ensures stands { Stands tables.new blocks.now scope.now }
     ensures keeps { Keeps tables.old tables.new }
     ensures gives { (c : Ctx) (s : Span) → EndsAs (go.stmt c
         (env_at tables.old.env tables.old.consts blocks.now scope.now)
         (tree.assign s (exprs_of left.now) (Some op) (exprs_of right.now))) result }
 {
-    let operands = all_exprs(alloc, tables, scope, blocks, left);
-    let values = all_exprs(alloc, tables, scope, blocks, right);
+    let operands = all_exprs_at(alloc, tables, scope, blocks, left);
+    let values = all_exprs_at(alloc, tables, scope, blocks, right);
     update(alloc, tables, op, operands, values)
 }

@@ -9,10 +9,10 @@ ghost use Rattle.typed_names.specs.Scopes.{env_at};
 ghost use Rattle.operand_modes.specs.CheckerTables.Ready.{Keeps};
 ghost use Rattle.operand_modes.specs.OperandAnswers.Known.{Stands};
 ghost use Rattle.control_steps.specs.Ends.{EndsAs};
-ghost use Rattle.expr_walk.specs.Walked.{IsWalked};
+ghost use Rattle.expr_walk.specs.Walked.{IsWalkedAt};
 
 use control_steps::{defer_statement, expression_statement, is_panic};
-use expr_walk::expr;
+use expr_walk::expr_at;
 use go_tree::Expr;
 use operand_modes::checker_tables::Tables;
 use std::alloc::Global;
@@ -28,7 +28,8 @@ pub(crate) fn call_statement(
     e: &Expr,
 ) -> Result<bool, Refusal>
     requires stands { Stands tables.old blocks.now scope.now }
-    requires walked { IsWalked (expr_of e.now) }
+    requires walked { IsWalkedAt (env_at tables.old.env tables.old.consts blocks.now scope.now)
+        (expr_of e.now) }
     ensures stands { Stands tables.new blocks.now scope.now }
     ensures keeps { Keeps tables.old tables.new }
     ensures gives { (c : Ctx) (s : Span) → EndsAs (go.stmt c
@@ -36,8 +37,8 @@ pub(crate) fn call_statement(
 {
     match e {
         Expr::Call { callee, .. } => {
-            let function = expr(alloc, tables, scope, blocks, callee);
-            let called = expr(alloc, tables, scope, blocks, e);
+            let function = expr_at(alloc, tables, scope, blocks, callee);
+            let called = expr_at(alloc, tables, scope, blocks, e);
             let panics = is_panic(scope, blocks, callee);
             expression_statement(function, called, panics)
         }
@@ -66,7 +67,8 @@ pub(crate) fn deferred_call(
     e: &Expr,
 ) -> Result<bool, Refusal>
     requires stands { Stands tables.old blocks.now scope.now }
-    requires walked { IsWalked (expr_of e.now) }
+    requires walked { IsWalkedAt (env_at tables.old.env tables.old.consts blocks.now scope.now)
+        (expr_of e.now) }
     ensures stands { Stands tables.new blocks.now scope.now }
     ensures keeps { Keeps tables.old tables.new }
     ensures gives { (c : Ctx) (s : Span) → EndsAs (go.stmt c
@@ -74,8 +76,8 @@ pub(crate) fn deferred_call(
 {
     match e {
         Expr::Call { callee, .. } => {
-            let function = expr(alloc, tables, scope, blocks, callee);
-            let called = expr(alloc, tables, scope, blocks, e);
+            let function = expr_at(alloc, tables, scope, blocks, callee);
+            let called = expr_at(alloc, tables, scope, blocks, e);
             defer_statement(function, called)
         }
         Expr::Ident { .. }

@@ -6,11 +6,11 @@ ghost use Rattle.typed_names.specs.Scopes.{env_at};
 ghost use Rattle.operand_modes.specs.CheckerTables.Ready.{Keeps};
 ghost use Rattle.operand_modes.specs.OperandAnswers.Known.{Stands};
 ghost use Rattle.assignment_steps.specs.Targets.{GivesTarget, GivesTargets};
-ghost use Rattle.expr_walk.specs.Walked.{AreAllWalked, IsWalked};
+ghost use Rattle.expr_walk.specs.Walked.{AreAllWalkedAt, IsWalkedAt};
 ghost use Rattle.statement_walk.specs.SimpleWalk.Targets.{one_target};
 
 use assignment_steps::{Target, TargetList, is_blank_name, stored_at};
-use expr_walk::expr;
+use expr_walk::expr_at;
 use go_tree::{Expr, ExprList};
 use operand_modes::checker_tables::Tables;
 use std::alloc::Global;
@@ -26,7 +26,8 @@ fn target(
     e: &Expr,
 ) -> Result<Target, Refusal>
     requires stands { Stands tables.old blocks.now scope.now }
-    requires walked { IsWalked (expr_of e.now) }
+    requires walked { IsWalkedAt (env_at tables.old.env tables.old.consts blocks.now scope.now)
+        (expr_of e.now) }
     ensures stands { Stands tables.new blocks.now scope.now }
     ensures keeps { Keeps tables.old tables.new }
     ensures gives { GivesTarget tables.new.env
@@ -35,7 +36,7 @@ fn target(
     if is_blank_name(e) {
         return Ok(Target::Blank);
     }
-    let x = expr(alloc, tables, scope, blocks, e);
+    let x = expr_at(alloc, tables, scope, blocks, e);
     stored_at(tables, x)
 }
 
@@ -49,7 +50,8 @@ pub fn targets(
     es: &ExprList,
 ) -> Result<TargetList, Refusal>
     requires stands { Stands tables.old blocks.now scope.now }
-    requires walked { AreAllWalked (exprs_of es.now) }
+    requires walked { AreAllWalkedAt (env_at tables.old.env tables.old.consts blocks.now scope.now)
+        (exprs_of es.now) }
     ensures stands { Stands tables.new blocks.now scope.now }
     ensures keeps { Keeps tables.old tables.new }
     ensures gives { GivesTargets tables.new.env

@@ -14,10 +14,10 @@ ghost use Rattle.operand_modes.specs.OperandAnswers.Known.{Stands};
 ghost use Rattle.control_steps.specs.Ends.{EndsAs};
 ghost use Rattle.control_steps.specs.Returns.{IsBodyOf};
 ghost use Rattle.jump_rules.specs.Labels.{IsAround};
-ghost use Rattle.expr_walk.specs.Walked.{AreAllWalked};
+ghost use Rattle.expr_walk.specs.Walked.{AreAllWalkedAt};
 
 use control_steps::{Body, ends_if, return_statement};
-use expr_walk::all_exprs;
+use expr_walk::all_exprs_at;
 use go_tree::{ExprList, NameAt};
 use jump_rules::Around;
 use operand_modes::checker_tables::Tables;
@@ -36,13 +36,14 @@ pub(crate) fn give_back(
 ) -> Result<bool, Refusal>
     requires stands { Stands tables.old blocks.now scope.now }
     requires results { AreTypes tables.old.env body.now.results.items }
-    requires walked { AreAllWalked (exprs_of es.now) }
+    requires walked { AreAllWalkedAt (env_at tables.old.env tables.old.consts blocks.now scope.now)
+        (exprs_of es.now) }
     ensures stands { Stands tables.new blocks.now scope.now }
     ensures keeps { Keeps tables.old tables.new }
     ensures gives { (c : Ctx) (s : Span) → IsBodyOf tables.old.env body.now c → EndsAs (go.stmt c
         (env_at tables.old.env tables.old.consts blocks.now scope.now) (tree.return_ s (exprs_of es.now))) result }
 {
-    let values = all_exprs(alloc, tables, scope, blocks, es);
+    let values = all_exprs_at(alloc, tables, scope, blocks, es);
     return_statement(alloc, tables, body, es, values)
 }
 

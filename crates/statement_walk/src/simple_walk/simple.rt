@@ -6,13 +6,14 @@ ghost use Rattle.go_tree.specs.GoTypes.Bodies.{Ctx};
 ghost use Rattle.go_tree.specs.GoTypes.Entities.{Env};
 ghost use Rattle.go_tree.specs.GoTypes.Typing as go;
 ghost use Rattle.operator_rules.specs.AccessRules.Functions.{AreTypes};
+ghost use Rattle.typed_names.specs.Scopes.{env_at};
 ghost use Rattle.operand_modes.specs.CheckerTables.Ready.{Keeps};
 ghost use Rattle.operand_modes.specs.OperandAnswers.Known.{Stands};
 ghost use Rattle.control_steps.specs.Ends.{EndsAs};
 ghost use Rattle.control_steps.specs.Returns.{IsBodyOf};
 ghost use Rattle.control_steps.specs.LocalBlocks.Places.{IsPlace};
 ghost use Rattle.jump_rules.specs.Labels.{IsAround};
-ghost use Rattle.statement_walk.specs.SimpleWalk.Simple.{IsSimple};
+ghost use Rattle.statement_walk.specs.SimpleWalk.Simple.{IsSimpleAt};
 
 use crate::simple_walk::assigns::{assign, assign_by, step};
 use crate::simple_walk::calls::{call_statement, deferred_call};
@@ -38,7 +39,8 @@ pub fn simple_statement(
 ) -> Result<bool, Refusal>
     requires stands { Stands tables.old blocks.now scope.now }
     requires results { AreTypes tables.old.env body.now.results.items }
-    requires simple { IsSimple (stmt_of s.now) }
+    requires simple { IsSimpleAt (env_at tables.old.env tables.old.consts blocks.now scope.now)
+        (stmt_of s.now) }
     ensures stands { Stands tables.new blocks.now scope.now }
     ensures keeps { Keeps tables.old tables.new }
     ensures gives { (c : Ctx) (env : Env) (block : List (List ℕ))

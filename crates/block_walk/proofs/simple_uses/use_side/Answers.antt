@@ -12,7 +12,7 @@ returns-then-is_name-clause-uses c =
 
 pub returns-else-is_name-clause-uses : goal.returns-else-is_name-clause-uses
 returns-else-is_name-clause-uses c =
-    subst (λ ns. OnOk c.use_expr.result (used_of c.use_expr.new.used ≡ and_names ns (used_of c.args.used.now)))
+    subst (λ ns. OnOk c.use_expr_at.result (used_of c.use_expr_at.new.used ≡ and_names ns (used_of c.args.used.now)))
     (side_used (at c.args.tables.now c.args.blocks.now c.args.scope.now) (expr_of c.args.e.now)
     (sym c.is_name.ensures ∙ c.if-is_name.false))
-    c.use_expr.ensures.uses
+    c.use_expr_at.ensures.uses

@@ -16,5 +16,5 @@ pub returns-in-Some-clause-uses : goal.returns-in-Some-clause-uses
 returns-in-Some-clause-uses c =
     let a = at c.args.tables.now c.args.blocks.now c.args.scope.now in
     subst
-    (λ op. OnOk c.use_exprs.result (used_of c.use_exprs.new.used ≡ and_names (target_uses a (exprs_of c.args.es.now) op) (used_of c.args.used.now)))
-    (sym c.in-Some.is) c.use_exprs.ensures.uses
+    (λ op. OnOk c.use_exprs_at.result (used_of c.use_exprs_at.new.used ≡ and_names (target_uses a (exprs_of c.args.es.now) op) (used_of c.args.used.now)))
+    (sym c.in-Some.is) c.use_exprs_at.ensures.uses

@@ -36,7 +36,7 @@ returns-in_ok-begin_all-in-Ok-clause-gives c =
     (now.0 env) (now.1 (in_spec i env)) (ts ++ go.used_all env es) o q r xs ys
     (c.in-Ok.ensures.gives env (place_kept k m c.use_exprs.ensures.keeps bs s c.requires.stands block env p)) h
     (c.in_ok-use_exprs.ensures.uses ∙ ap (and_names (go.used_all (at k bs s) es)) c.in_ok-use_type_option.ensures
-    ∙ ap (λ ns. and_names ns (and_names ts o)) (uses_here k bs s block env p es c.requires.own)
+    ∙ ap (λ ns. and_names ns (and_names ts o)) (uses_here k bs s block env p es)
     ∙ sym (names_append ts (go.used_all env es) o))
     (subst (λ ms. (r, ys) ≡ all_begun false (names_of (map name_at_of ms)) (q, xs)) c.items.ensures
     c.in_ok-begin_all-in-Ok.ensures)

@@ -1,7 +1,11 @@
 use Rattle.std.proofs.Common.{◌∙◌, Ok, Err, refl, subst, sym}
+use Rattle.go_tree.specs.View.{exprs_of}
 use Rattle.go_tree.specs.GoTypes.Typing.{declares_variables, used_variables}
 use Rattle.jump_rules.specs.UsedLocals.Used.{used_of}
 use Rattle.assignment_steps.proofs.DeclaredBlocks.BlockLemmas.{within_on}
+use Rattle.expr_walk.proofs.BodilessWalks.{all_at}
+use Rattle.expr_walk.proofs.WalkArms.ExprArms.{at}
+use Rattle.statement_walk.proofs.FunctionLiterals.NoLiterals.{none_of_all_used}
 use Rattle.statement_walk.specs.SimpleWalk.ConstantGroups.Groups.{AreWalkedSpecs}
 use Rattle.statement_walk.specs.Parts.{GivesRead}
 use Rattle.statement_walk.proofs.SpecsLemmas.{group_end, group_more, group_refused, group_start, spec_walked}
@@ -19,8 +23,16 @@ spec_part-requires-clause-stands c = c.loop-spec.invariant.0.stands
 
 pub spec_part-requires-clause-walked : goal.spec_part-requires-clause-walked
 spec_part-requires-clause-walked c =
-    spec_walked c.items-spec-items.result.now c.loop-spec.spec-index c.spec-item.result c.loop-spec-test.true c.spec-item.is
-    (subst AreWalkedSpecs c.items-spec-items.ensures.seen c.requires.walked)
+    all_at (at c.loop-spec.tables c.args.blocks.now c.loop-spec.scope) (exprs_of c.spec-item.result.values)
+    (spec_walked c.items-spec-items.result.now c.loop-spec.spec-index c.spec-item.result c.loop-spec-test.true c.spec-item.is
+    (subst AreWalkedSpecs c.items-spec-items.ensures.seen c.requires.walked))
+
+pub spec_part-requires-clause-literals : goal.spec_part-requires-clause-literals
+spec_part-requires-clause-literals c =
+    none_of_all_used (at c.loop-spec.tables c.args.blocks.now c.loop-spec.scope) (used_of c.loop-spec.used)
+    (exprs_of c.spec-item.result.values)
+    (spec_walked c.items-spec-items.result.now c.loop-spec.spec-index c.spec-item.result c.loop-spec-test.true c.spec-item.is
+    (subst AreWalkedSpecs c.items-spec-items.ensures.seen c.requires.walked))
 
 pub loop-spec-preserved : goal.loop-spec-preserved
 loop-spec-preserved c = (

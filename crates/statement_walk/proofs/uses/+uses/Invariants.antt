@@ -1,7 +1,7 @@
 use Rattle.std.proofs.Common.{◌+◌, drop, map}
 use Rattle.go_tree.specs.Lists.{elems_from, exprs_from}
 use Rattle.go_tree.specs.View.{boxed_expr_option_of, elem_of, elems_of, expr_of, exprs_of, held_value_option_of, value_of}
-use Rattle.go_tree.specs.GoTypes.Typing.{used_all, used_elems}
+use Rattle.statement_walk.specs.FunctionLiterals.Uses.{outer_all, outer_elems}
 use Rattle.type_table.specs.TypeRelations.Environment.{defined_types}
 use Rattle.operator_rules.specs.Settling.{typed_option}
 use Rattle.expr_walk.specs.Walked.{size, size_all, size_elems, size_key, size_option, size_value}
@@ -37,13 +37,13 @@ decreases-use_value l = size_value (value_of l.x.now)
 abbrev pub invariant-use_exprs-loop-e : goal.invariant-use_exprs-loop-e
 invariant-use_exprs-loop-e l =
     UsesLeft l.initial.tables l.tables l.blocks l.scope
-    (used_all (at l.initial.tables l.blocks l.scope) (exprs_from (map expr_of (drop l.e-index l.e-items)))) (used_of l.used)
-    (and_names (used_all (at l.initial.tables l.blocks l.scope) (exprs_from (map expr_of l.e-items))) (used_of l.initial.used))
+    (outer_all (at l.initial.tables l.blocks l.scope) (exprs_from (map expr_of (drop l.e-index l.e-items)))) (used_of l.used)
+    (and_names (outer_all (at l.initial.tables l.blocks l.scope) (exprs_from (map expr_of l.e-items))) (used_of l.initial.used))
 
 abbrev pub invariant-use_elements-loop-x : goal.invariant-use_elements-loop-x
 invariant-use_elements-loop-x l =
     let k = l.initial.tables in
     let a = at k l.blocks l.scope in
     let u = under_option (defined_types k.env) (typed_option k.env l.t) in
-    UsesLeft k l.tables l.blocks l.scope (used_elems a u (elems_from (map elem_of (drop l.x-index l.x-items)))) (used_of l.used)
-    (and_names (used_elems a u (elems_from (map elem_of l.x-items))) (used_of l.initial.used))
+    UsesLeft k l.tables l.blocks l.scope (outer_elems a u (elems_from (map elem_of (drop l.x-index l.x-items)))) (used_of l.used)
+    (and_names (outer_elems a u (elems_from (map elem_of l.x-items))) (used_of l.initial.used))

@@ -12,10 +12,16 @@ use Rattle.go_tree.specs.ScopeNames.FreeNames.{names_of}
 use Rattle.assignment_steps.specs.SpecSteps.Specs.{GivesVariables, GivesWritten}
 use Rattle.control_steps.specs.LocalBlocks.Places.{in_block_of}
 use Rattle.statement_walk.proofs.SimpleWalk.ConstantGroups.MemberLemmas.{place_here, place_kept, seen_written, written_kept, written_stays}
+use Rattle.expr_walk.proofs.LaterWalks.{all_later}
 use Rattle.expr_walk.proofs.WalkArms.ExprArms.{at}
 use Rattle.statement_walk.specs.DeclaredVariables.{spec_variables}
 use Rattle.statement_walk.proofs.DeclaredLemmas.{variables_there}
 use Rattle.statement_walk.proofs.variables.spec_entities.Goals as goal
+
+pub declared_values-values-requires-clause-walked : goal.declared_values-values-requires-clause-walked
+declared_values-values-requires-clause-walked c =
+    all_later c.args.tables.now c.written_type-of.new.tables c.written_type-of.ensures.keeps c.args.blocks.now
+    c.args.scope.now c.requires.stands (exprs_of c.args.spec.now.values) c.requires.walked
 
 pub new_variables-requires-clause-ready : goal.new_variables-requires-clause-ready
 new_variables-requires-clause-ready c = c.declared_values-values.ensures.stands.ready

@@ -6,10 +6,16 @@ use Rattle.go_tree.specs.GoTypes.Typing as go
 use Rattle.operand_modes.specs.OperandAnswers.Lists.{GivesAll}
 use Rattle.operand_modes.proofs.OperandAnswers.KeptLemmas.{env_kept}
 use Rattle.control_steps.specs.Ends.{EndsAs}
+use Rattle.expr_walk.proofs.LaterWalks.{all_later}
 use Rattle.expr_walk.proofs.WalkArms.ExprArms.{at}
 use Rattle.statement_walk.proofs.SimpleWalk.SimpleLemmas.{stand_of}
 use Rattle.statement_walk.proofs.SimpleWalk.TargetWalks.{targets_kept, targets_there}
 use Rattle.statement_walk.proofs.simple_walk.assigns.assign.Goals as goal
+
+pub all_exprs-values-requires-clause-walked : goal.all_exprs-values-requires-clause-walked
+all_exprs-values-requires-clause-walked c =
+    all_later c.args.tables.now c.targets-stored.new.tables c.targets-stored.ensures.keeps c.args.blocks.now c.args.scope.now
+    c.requires.stands (exprs_of c.args.right.now) c.requires.right
 
 pub assignment-requires-clause-ready : goal.assignment-requires-clause-ready
 assignment-requires-clause-ready c = c.all_exprs-values.ensures.stands.ready

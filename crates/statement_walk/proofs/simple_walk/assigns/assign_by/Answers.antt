@@ -6,9 +6,15 @@ use Rattle.go_tree.specs.GoTypes.Typing as go
 use Rattle.operand_modes.specs.OperandAnswers.Lists.{GivesAll}
 use Rattle.operand_modes.proofs.OperandAnswers.KeptLemmas.{all_kept, env_kept, stands_kept}
 use Rattle.control_steps.specs.Ends.{EndsAs}
+use Rattle.expr_walk.proofs.LaterWalks.{all_later}
 use Rattle.expr_walk.proofs.WalkArms.ExprArms.{at}
 use Rattle.statement_walk.proofs.SimpleWalk.SimpleLemmas.{stand_of}
 use Rattle.statement_walk.proofs.simple_walk.assigns.assign_by.Goals as goal
+
+pub all_exprs-values-requires-clause-walked : goal.all_exprs-values-requires-clause-walked
+all_exprs-values-requires-clause-walked c =
+    all_later c.args.tables.now c.all_exprs-operands.new.tables c.all_exprs-operands.ensures.keeps c.args.blocks.now c.args.scope.now
+    c.requires.stands (exprs_of c.args.right.now) c.requires.right
 
 pub update-requires-clause-ready : goal.update-requires-clause-ready
 update-requires-clause-ready c = c.all_exprs-values.ensures.stands.ready

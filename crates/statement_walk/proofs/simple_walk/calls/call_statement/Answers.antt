@@ -3,15 +3,22 @@ use Rattle.go_tree.specs.Tree as tree
 use Rattle.go_tree.specs.View.{expr_of, exprs_of}
 use Rattle.go_tree.specs.GoTypes.Statements.{is_panic}
 use Rattle.go_tree.specs.GoTypes.Typing as go
-use Rattle.expr_walk.specs.Walked.{IsWalked}
+use Rattle.expr_walk.specs.Walked.{IsWalkedAt}
+use Rattle.expr_walk.proofs.LaterWalks.{walked_later}
 use Rattle.expr_walk.proofs.WalkArms.ExprArms.{at, read_before}
 use Rattle.statement_walk.proofs.SimpleWalk.SimpleLemmas.{call_lifted}
 use Rattle.statement_walk.proofs.simple_walk.calls.call_statement.Goals as goal
 
 pub expr-function-requires-clause-walked : goal.expr-function-requires-clause-walked
 expr-function-requires-clause-walked c =
-    subst (λ x. IsWalked (expr_of x)) (sym c.deref.ensures)
-    (subst (λ x. IsWalked (expr_of x)) c.in-Call.is c.requires.walked).0
+    let a = at c.args.tables.now c.args.blocks.now c.args.scope.now in
+    subst (λ x. IsWalkedAt a (expr_of x)) (sym c.deref.ensures)
+    (subst (λ x. IsWalkedAt a (expr_of x)) c.in-Call.is c.requires.walked).0
+
+pub expr-called-requires-clause-walked : goal.expr-called-requires-clause-walked
+expr-called-requires-clause-walked c =
+    walked_later c.args.tables.now c.expr-function.new.tables c.expr-function.ensures.keeps c.args.blocks.now
+    c.args.scope.now c.requires.stands (expr_of c.args.e.now) c.requires.walked
 
 pub returns-in-Call-clause-gives : goal.returns-in-Call-clause-gives
 returns-in-Call-clause-gives c =

@@ -4,8 +4,9 @@ use Rattle.go_tree.specs.View.{expr_of}
 use Rattle.go_tree.specs.GoTypes.Typing as go
 use Rattle.typed_names.proofs.TypeExprs.NewNames.{drop_all, drop_item}
 use Rattle.assignment_steps.specs.Targets.{GivesTarget, GivesTargets}
-use Rattle.expr_walk.specs.Walked.{AreAllWalked}
-use Rattle.expr_walk.proofs.Parts.{expr_walked}
+use Rattle.expr_walk.specs.Walked.{AreAllWalkedAt}
+use Rattle.expr_walk.proofs.Parts.{expr_walked_at}
+use Rattle.expr_walk.proofs.LaterWalks.{walked_later}
 use Rattle.expr_walk.proofs.WalkArms.ExprArms.{at}
 use Rattle.statement_walk.specs.SimpleWalk.Targets.{AreTargetsWalked, one_target}
 use Rattle.statement_walk.proofs.SimpleWalk.TargetWalks.{targets_end, targets_fail, targets_more, targets_start}
@@ -23,8 +24,13 @@ target-requires-clause-stands c = c.loop-e.invariant.stands
 
 pub target-requires-clause-walked : goal.target-requires-clause-walked
 target-requires-clause-walked c =
-    expr_walked c.items-e-items.result.now c.loop-e.e-index c.e-item.result c.loop-e-test.true c.e-item.is
-    (subst AreAllWalked c.items-e-items.ensures.seen c.requires.walked)
+    let k = c.args.tables.now in
+    let bs = c.args.blocks.now in
+    let s = c.args.scope.now in
+    let a = at k bs s in
+    walked_later k c.loop-e.tables c.loop-e.invariant.keeps bs s c.requires.stands (expr_of c.e-item.result)
+    (expr_walked_at a c.items-e-items.result.now c.loop-e.e-index c.e-item.result c.loop-e-test.true c.e-item.is
+    (subst (AreAllWalkedAt a) c.items-e-items.ensures.seen c.requires.walked))
 
 pub loop-e-preserved : goal.loop-e-preserved
 loop-e-preserved c =

@@ -4,12 +4,12 @@ use Rattle.go_tree.specs.View.{exprs_of, stmt_of}
 use Rattle.go_tree.specs.GoTypes.Typing as go
 use Rattle.control_steps.specs.Ends.{EndsAs}
 use Rattle.expr_walk.proofs.WalkArms.ExprArms.{at}
-use Rattle.statement_walk.specs.SimpleWalk.Simple.{IsSimple}
+use Rattle.statement_walk.specs.SimpleWalk.Simple.{IsSimpleAt}
 use Rattle.statement_walk.proofs.SimpleWalk.SeenStatements.{simple_at}
 use Rattle.statement_walk.proofs.simple_walk.simple.simple_statement.Goals as goal
 
 pub call_statement-requires-clause-walked : goal.call_statement-requires-clause-walked
-call_statement-requires-clause-walked c = (subst (λ x. IsSimple (stmt_of x)) c.in-Eval.is c.requires.simple)
+call_statement-requires-clause-walked c = (subst (λ x. IsSimpleAt (at c.args.tables.now c.args.blocks.now c.args.scope.now) (stmt_of x)) c.in-Eval.is c.requires.simple)
 
 pub returns-in-Eval-clause-gives : goal.returns-in-Eval-clause-gives
 returns-in-Eval-clause-gives c =
@@ -22,7 +22,7 @@ returns-in-Eval-clause-gives c =
     (c.call_statement.ensures.gives ctx c.in-Eval.span))
 
 pub step-requires-clause-walked : goal.step-requires-clause-walked
-step-requires-clause-walked c = (subst (λ x. IsSimple (stmt_of x)) c.in-Step.is c.requires.simple)
+step-requires-clause-walked c = (subst (λ x. IsSimpleAt (at c.args.tables.now c.args.blocks.now c.args.scope.now) (stmt_of x)) c.in-Step.is c.requires.simple)
 
 pub returns-in-Step-clause-gives : goal.returns-in-Step-clause-gives
 returns-in-Step-clause-gives c =
@@ -35,7 +35,7 @@ returns-in-Step-clause-gives c =
     (c.step.ensures.gives ctx c.in-Step.span))
 
 pub give_back-requires-clause-walked : goal.give_back-requires-clause-walked
-give_back-requires-clause-walked c = (subst (λ x. IsSimple (stmt_of x)) c.in-Return.is c.requires.simple)
+give_back-requires-clause-walked c = (subst (λ x. IsSimpleAt (at c.args.tables.now c.args.blocks.now c.args.scope.now) (stmt_of x)) c.in-Return.is c.requires.simple)
 
 pub returns-in-Return-clause-gives : goal.returns-in-Return-clause-gives
 returns-in-Return-clause-gives c =
@@ -48,7 +48,7 @@ returns-in-Return-clause-gives c =
     (c.give_back.ensures.gives ctx c.in-Return.span body))
 
 pub deferred_call-requires-clause-walked : goal.deferred_call-requires-clause-walked
-deferred_call-requires-clause-walked c = (subst (λ x. IsSimple (stmt_of x)) c.in-Defer.is c.requires.simple)
+deferred_call-requires-clause-walked c = (subst (λ x. IsSimpleAt (at c.args.tables.now c.args.blocks.now c.args.scope.now) (stmt_of x)) c.in-Defer.is c.requires.simple)
 
 pub returns-in-Defer-clause-gives : goal.returns-in-Defer-clause-gives
 returns-in-Defer-clause-gives c =
@@ -61,16 +61,16 @@ returns-in-Defer-clause-gives c =
     (c.deferred_call.ensures.gives ctx c.in-Defer.span))
 
 pub assign-requires-clause-left : goal.assign-requires-clause-left
-assign-requires-clause-left c = (subst (λ x. IsSimple (stmt_of x)) c.in-Assign.is c.requires.simple).0
+assign-requires-clause-left c = (subst (λ x. IsSimpleAt (at c.args.tables.now c.args.blocks.now c.args.scope.now) (stmt_of x)) c.in-Assign.is c.requires.simple).0
 
 pub assign-requires-clause-right : goal.assign-requires-clause-right
-assign-requires-clause-right c = (subst (λ x. IsSimple (stmt_of x)) c.in-Assign.is c.requires.simple).1
+assign-requires-clause-right c = (subst (λ x. IsSimpleAt (at c.args.tables.now c.args.blocks.now c.args.scope.now) (stmt_of x)) c.in-Assign.is c.requires.simple).1
 
 pub assign_by-requires-clause-left : goal.assign_by-requires-clause-left
-assign_by-requires-clause-left c = (subst (λ x. IsSimple (stmt_of x)) c.in-Assign.is c.requires.simple).0
+assign_by-requires-clause-left c = (subst (λ x. IsSimpleAt (at c.args.tables.now c.args.blocks.now c.args.scope.now) (stmt_of x)) c.in-Assign.is c.requires.simple).0
 
 pub assign_by-requires-clause-right : goal.assign_by-requires-clause-right
-assign_by-requires-clause-right c = (subst (λ x. IsSimple (stmt_of x)) c.in-Assign.is c.requires.simple).1
+assign_by-requires-clause-right c = (subst (λ x. IsSimpleAt (at c.args.tables.now c.args.blocks.now c.args.scope.now) (stmt_of x)) c.in-Assign.is c.requires.simple).1
 
 pub returns-in-None-clause-gives : goal.returns-in-None-clause-gives
 returns-in-None-clause-gives c =

@@ -8,7 +8,7 @@ use Rattle.control_steps.specs.LocalBlocks.Places.{in_block_of}
 use Rattle.statement_walk.proofs.ExprArms.{at}
 use Rattle.statement_walk.proofs.SimpleWalk.ConstantGroups.MemberLemmas.{place_here}
 use Rattle.block_walk.proofs.CaseLemmas.{bound_there, bound_well, tag_from, tag_there}
-use Rattle.block_walk.proofs.switches.switch_tag.Goals as goal
+use Rattle.block_walk.proofs.switches.tag_here.Goals as goal
 
 pub tag-requires-clause-ready : goal.tag-requires-clause-ready
 tag-requires-clause-ready c = c.tag_bound-compared.ensures.stands.ready

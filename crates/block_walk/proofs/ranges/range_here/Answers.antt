@@ -5,9 +5,11 @@ use Rattle.go_tree.specs.GoTypes.Typing as go
 use Rattle.statement_walk.proofs.BlockLemmas.{within_self}
 use Rattle.jump_rules.specs.UsedLocals.Used.{used_of}
 use Rattle.statement_walk.specs.Parts.{GivesRead}
+use Rattle.statement_walk.specs.FunctionLiterals.Found.{literals_in}
+use Rattle.block_walk.specs.Literals.{AreKnown, literals_left}
 use Rattle.block_walk.specs.Ranges.{range_clause}
 use Rattle.block_walk.specs.Walked.{IsWalkedLeft}
-use Rattle.block_walk.proofs.ranges.range_header.Goals as goal
+use Rattle.block_walk.proofs.ranges.range_here.Goals as goal
 
 pub returns-in-Nothing-clause-within : goal.returns-in-Nothing-clause-within
 returns-in-Nothing-clause-within c = within_self c.args.scope.now
@@ -21,6 +23,24 @@ returns-in-Nothing-clause-gives c =
     subst
     (λ l. GivesRead n c.args.blocks.now c.args.scope.now c.args.block.now.names (in_block env) (range_clause env (range_left_of l) e) (go.used_range env (range_left_of l) ++ go.used env e) (used_of c.args.used.now) (used_of c.range_alone.new.used) xs xs c.range_alone.result)
     (sym c.in-Nothing.is) (c.range_alone.ensures.gives env c.args.block.now.names xs p h)
+
+pub range_alone-requires-clause-known : goal.range_alone-requires-clause-known
+range_alone-requires-clause-known c =
+    subst
+    (λ l. AreKnown c.args.tables.now c.args.blocks.now c.args.scope.now (used_of c.args.used.now) (literals_left (range_left_of l) ++ literals_in (expr_of c.args.over.now)))
+    c.in-Nothing.is c.requires.known
+
+pub range_defining-requires-clause-known : goal.range_defining-requires-clause-known
+range_defining-requires-clause-known c =
+    subst
+    (λ l. AreKnown c.args.tables.now c.args.blocks.now c.args.scope.now (used_of c.args.used.now) (literals_left (range_left_of l) ++ literals_in (expr_of c.args.over.now)))
+    c.in-Defines.is c.requires.known
+
+pub range_assigning-requires-clause-known : goal.range_assigning-requires-clause-known
+range_assigning-requires-clause-known c =
+    subst
+    (λ l. AreKnown c.args.tables.now c.args.blocks.now c.args.scope.now (used_of c.args.used.now) (literals_left (range_left_of l) ++ literals_in (expr_of c.args.over.now)))
+    c.in-Assigns.is c.requires.known
 
 pub range_assigning-requires-clause-left : goal.range_assigning-requires-clause-left
 range_assigning-requires-clause-left c = subst (λ l. IsWalkedLeft (range_left_of l)) c.in-Assigns.is c.requires.left
