@@ -5,7 +5,7 @@ use mathlib.Core.Path.{ap, sym, ◌∙◌, subst}
 use Rattle.std.proofs.Common.{arith}
 use Rattle.go_tree.specs.declared.exprs.Rest.TheVariants.{Plain}
 use Rattle.go_tree.specs.declared.spans.Span.{Span}
-use Rattle.go_tree.specs.Tree.{NameAt, Param, Sig, Expr, ident, selector, call, func_lit, Exprs, no_exprs, expr_and, Stmts, const_decl, ValueSpecs, no_specs, spec}
+use Rattle.go_tree.specs.Tree.{NameAt, Param, Sig, Expr, ident, selector, call, func_lit, Exprs, no_exprs, expr_and, Stmts, const_decl, eval, defer, ValueSpecs, no_specs, spec}
 use Rattle.go_tree.specs.File.{Func, Decl, values, types, func, TypeSpec}
 use Rattle.go_tree.specs.Bare.{bare_expr}
 use Rattle.go_tree.specs.ScopeNames.Means.{Environment, means, is_blank}
@@ -13,20 +13,21 @@ use Rattle.go_tree.specs.ScopeNames.FreeNames.{names_of, sig_names}
 use Rattle.go_tree.specs.ScopeNames.Scopes.{not_blank, param_names, sig_declares}
 use Rattle.pkg_graph.specs.Package.{Package}
 use Rattle.pkg_graph.specs.Members.{Target, package_block}
-use Rattle.go_tree.specs.GoTypes.Answers.{given, both, meets, otherwise, is_among}
-use Rattle.go_tree.specs.GoTypes.Types.{GoType}
-use Rattle.go_tree.specs.GoTypes.Entities.{Entity, function, Env, Binds, meaning, package_of, is_exported, exported, block_of, defined_in, extend, in_block}
+use Rattle.go_tree.specs.GoTypes.Answers.{given, both, meets, only_if, otherwise, is_among}
+use Rattle.go_tree.specs.GoTypes.Types.{GoType, FuncType}
+use Rattle.go_tree.specs.GoTypes.Entities.{Entity, variable, constant, stand_in, type_name, package_name, builtin, nil_name, iota_name, refused, function, Env, Binds, meaning, package_of, is_exported, exported, block_of, defined_in, extend, in_block}
 use Rattle.go_tree.specs.GoTypes.TypeNames.{type_meant, func_type, params_meant}
-use Rattle.go_tree.specs.GoTypes.Operands.{a_function, with_value, named_operand}
-use Rattle.go_tree.specs.GoTypes.Primary.{call_of, selected}
+use Rattle.go_tree.specs.GoTypes.Operands.{Operand, a_function, with_value, named_operand}
+use Rattle.go_tree.specs.GoTypes.Primary.{call_of, selected, stands_alone, may_be_deferred}
+use Rattle.go_tree.specs.GoTypes.Statements.{means_panic, is_panic}
 use Rattle.go_tree.specs.GoTypes.Declarations.{bound_names, binds_or}
 use Rattle.go_tree.specs.GoTypes.Bodies.{Ctx, body_binds, body_ctx, is_body}
-use Rattle.go_tree.specs.GoTypes.Typing.{package_before, parts, all_parts, place, stmts}
+use Rattle.go_tree.specs.GoTypes.Typing.{package_before, parts, all_parts, place, stmt, stmts}
 use Rattle.go_tree.specs.GoTypes.Programs.{SourcePackage, Program, Headed, headed, file_env}
 use Rattle.go_tree.specs.GoTypes.Collect.{env_of, collected}
 use Rattle.go_tree.specs.GoTypes.WellTyped.{body_env, receiver_of}
 use Rattle.go_tree.proofs.GoTypes.Agreeing.{from_given, from_both, some_same}
-use Rattle.go_tree.proofs.GoTypes.TypingBare.{parts-bare}
+use Rattle.go_tree.proofs.GoTypes.TypingBare.{parts-bare, stmt-bare}
 use Rattle.typed_in_place.specs.Declared as declared
 use Rattle.typed_in_place.specs.Declared.{HasNumber}
 use Rattle.form_meaning.specs.FormInPlace.CalledLiteral.{declared_at}
@@ -79,6 +80,9 @@ use Rattle.literal_steps.specs.FirstFunctions.{FirstFunction}
 use Rattle.literal_steps.specs.LiteralUse.{filled_sig, LiteralUse, NamesCallee, plainly, by_import, PlainCall}
 use Rattle.literal_steps.specs.LiteralUse as use_of
 use Rattle.literal_steps.specs.CalledAt.{CalledAt, Linked, PackagesServe}
+use Rattle.literal_steps.specs.AddedImports.Beside.{CalledBeside}
+use Rattle.literal_steps.proofs.AddedImports.FilesBeside.{file_beside, called_beside}
+use Rattle.constant_steps.specs.WrittenLiteral.Meant.{FileMeant}
 use Rattle.literal_steps.proofs.LocalValues.{extended, head_values}
 use Rattle.literal_steps.proofs.FilesKnown.{nothing_else}
 use Rattle.literal_steps.proofs.FirstFunctions.{first_function, spelled_found, package_found}
@@ -191,6 +195,24 @@ module _ {S : Type 0} where
   append_none : (xs : List (NameAt S)) → xs ++ [] ≡ xs
   append_none [] = refl
   append_none (x ∷ xs) = ap (λ l. x ∷ l) (append_none xs)
+
+abbrev is_func_operand : Option Operand → Bool
+is_func_operand (Some (a_function f)) = true
+is_func_operand o = false
+
+-- what is called as a function isn't `panic`
+function_no_panic : (a : Env) (o : Option Entity) (t : FuncType) → named_operand a o ≡ Some (a_function t) → means_panic o ≡ false
+function_no_panic a None t e = refl
+function_no_panic a (Some (variable u)) t e = refl
+function_no_panic a (Some (constant u k)) t e = refl
+function_no_panic a (Some (stand_in q u k)) t e = refl
+function_no_panic a (Some (type_name u)) t e = refl
+function_no_panic a (Some (function f)) t e = refl
+function_no_panic a (Some (builtin b)) t e = absurd (grind (arith, ap is_func_operand e))
+function_no_panic a (Some nil_name) t e = refl
+function_no_panic a (Some iota_name) t e = refl
+function_no_panic a (Some (package_name p)) t e = refl
+function_no_panic a (Some refused) t e = refl
 
 module _ {S : Type 0} (same : S → S → Bool) (commented : ℕ → ℕ → S → Bool) (rs : List (Package S)) (marks : List MarkRef) (x : Site S) (u : LiteralUse same commented rs marks x) (v : PlainCall same commented rs marks x u) (ms : List (translated.Package S)) (l : Linked rs ms x same commented marks u) where
   abbrev K : ℕ
@@ -359,12 +381,16 @@ module _ {S : Type 0} (same : S → S → Bool) (commented : ℕ → ℕ → S �
 
   -- ---- at the place of the call
 
-  module _ (c : Here) (h : CalledAt rs ms x c) (y : PackagesServe rs ms x same commented marks u c) where
+  module _ (more : Environment Entity) (c : Here) (h : CalledBeside rs ms x more c) (y : PackagesServe rs ms x same commented marks u c) where
     abbrev at : Place S
     at = record x.place { env = c.env }
 
     abbrev beyond : Environment Entity
-    beyond = there_names.names
+    beyond = there_names.names ++ more
+
+    -- what the names at the top of the file of the use mean, with those besides
+    there_meant : FileMeant rs x.at (world rs) beyond
+    there_meant = file_beside rs x.at more h.besides (world rs) there_names.names (file_meant rs x.at l.there_stands)
 
     abbrev ns : Names
     ns = names same commented rs marks x u v
@@ -373,7 +399,7 @@ module _ {S : Type 0} (same : S → S → Bool) (commented : ℕ → ℕ → S �
     new = (use_of.call_of same commented rs marks x u).new
 
     known : KnownNames rs u.home x.at at ns new (world rs) top_names.names beyond
-    known = record { home_file = file_meant rs u.home l.home_stands; there_file = file_meant rs x.at l.there_stands; not_around = h.outer; blank = h.blank }
+    known = record { home_file = file_meant rs u.home l.home_stands; there_file = there_meant; not_around = h.outer; blank = h.blank }
 
     abbrev site : Landing
     site = landing rs u.home x.at at ns new (world rs) top_names.names beyond
@@ -444,8 +470,8 @@ module _ {S : Type 0} (same : S → S → Bool) (commented : ℕ → ℕ → S �
     top_is : top_names ≡ declared_at (in_block c.env) top_names.names K
     top_is = λ i. record { names = top_names.names; here = []; iota = sym h.no_constant i; home = K; world = sym h.world_is i }
 
-    pub literal_written : (s z : S) → Written (record { home = c.env.home; around = names_of x.place.bound; puts = false }) [] (declared_at (in_block c.env) top_names.names K) c.env.names (func_lit s u.callee.sig z u.callee.body) (func_lit s changed_sig z changed_body)
-    literal_written s z =
+    pub literal_beside : (s z : S) → Written (record { home = c.env.home; around = names_of x.place.bound; puts = false }) [] (declared_at (in_block c.env) top_names.names K) c.env.names (func_lit s u.callee.sig z u.callee.body) (func_lit s changed_sig z changed_body)
+    literal_beside s z =
         subst (λ j. Written (record { home = j; around = names_of x.place.bound; puts = false }) [] (declared_at (in_block c.env) top_names.names K) c.env.names (func_lit s u.callee.sig z u.callee.body) (func_lit s changed_sig z changed_body)) (sym h.home_is)
         (subst (λ a. Written site [] a c.env.names (func_lit s u.callee.sig z u.callee.body) (func_lit s changed_sig z changed_body)) top_is (literal_at_top s z))
 
@@ -462,8 +488,8 @@ module _ {S : Type 0} (same : S → S → Bool) (commented : ℕ → ℕ → S �
     callee_plain : (s : S) → v.called ≡ ident s v.name → K ≡ x.at.number → Callee (ident s v.name)
     callee_plain s q same_package =
         let o = plain_outside s q in
-        let m : (e : Entity) × (Rattle.form_meaning.specs.FormInPlace.Places.is_member e ≡ true) × (means there_names.names v.name ≡ Some e) × (means (block_of (world rs).blocks x.at.number) v.name ≡ Some e) =
-        (file_meant rs x.at l.there_stands).in_block v.name x.mark.«package» x.mark.file x.mark.decl x.mark.item o.1 in
+        let m : (e : Entity) × (Rattle.form_meaning.specs.FormInPlace.Places.is_member e ≡ true) × (means beyond v.name ≡ Some e) × (means (block_of (world rs).blocks x.at.number) v.name ≡ Some e) =
+        there_meant.in_block v.name x.mark.«package» x.mark.file x.mark.decl x.mark.item o.1 in
         let is : meaning c.env v.name ≡ Some (function meant.type) = h.outer v.name o.0 ∙ m.2 ∙ sym m.3 ∙ ap (λ k. means (block_of (world rs).blocks k) v.name) (sym same_package ∙ sym first.home_is) ∙ meant.meant in
         record {
           operand = ap (named_operand c.env) is;
@@ -473,7 +499,7 @@ module _ {S : Type 0} (same : S → S → Bool) (commented : ℕ → ℕ → S �
         }
 
     known_there : KnownNames rs x.at x.at at ns new (world rs) beyond beyond
-    known_there = record { home_file = file_meant rs x.at l.there_stands; there_file = file_meant rs x.at l.there_stands; not_around = h.outer; blank = h.blank }
+    known_there = record { home_file = there_meant; there_file = there_meant; not_around = h.outer; blank = h.blank }
 
     callee_import : (s z t : S) (q : List ℕ) (k : ℕ) → v.called ≡ selector s (ident z q) (record { span = t; name = v.name }) → qualifier rs x.at x.place q ≡ Some k → is_exported v.name ≡ true → Callee (selector s (ident z q) (record { span = t; name = v.name }))
     callee_import s z t q k e f is_public =
@@ -520,7 +546,7 @@ module _ {S : Type 0} (same : S → S → Bool) (commented : ℕ → ℕ → S �
           b = u.callee.body;
           calls = the_callee.calls;
           declared = code_there s z;
-          written = literal_written s z;
+          written = literal_beside s z;
           locals = h.locals;
           blank = λ n e. h.locals n (h.blank n e);
         }
@@ -554,7 +580,7 @@ module _ {S : Type 0} (same : S → S → Bool) (commented : ℕ → ℕ → S �
     literal_typed =
         let a : Env = declared_at (in_block c.env) top_names.names K in
         sym (literal_anywhere c.env [] v.span v.span changed_sig changed_body)
-        ∙ sym (parts_there (record { home = c.env.home; around = names_of x.place.bound; puts = false }) [] a c.env.names (literal_written v.span v.span))
+        ∙ sym (parts_there (record { home = c.env.home; around = names_of x.place.bound; puts = false }) [] a c.env.names (literal_beside v.span v.span))
         ∙ sym (ap (λ a. parts a (func_lit v.span u.callee.sig v.span u.callee.body)) top_is)
         ∙ declared_is_literal top_names u.callee.sig u.callee.body meant.type meant.binds typed_top meant.bound body_ok v.span v.span
       where
@@ -563,28 +589,94 @@ module _ {S : Type 0} (same : S → S → Bool) (commented : ℕ → ℕ → S �
             ap (λ a. is_body meant.type u.callee.body (stmts ctx a false u.callee.body)) (sym literal_start ∙ sym (body_start first.header env_is))
             ∙ (sym (ap (λ o. meets o (λ g. is_body g u.callee.body (stmts (body_ctx u.callee.sig g) (body_env (world rs) first.header u.callee) false u.callee.body))) meant.typed) ∙ meant.body)
 
-    pub typed_alike : (e : Expr S) → u.form ≡ as_expr e → parts c.env u.tree ≡ parts c.env e
-    typed_alike e q =
+    pub typed_beside : (e : Expr S) → u.form ≡ as_expr e → parts c.env u.tree ≡ parts c.env e
+    typed_beside e q =
         ap (parts c.env) v.tree_is
         ∙ ap (λ r. both r (all_parts c.env v.args) (call_of (defined_in c.env))) (the_callee.operand ∙ sym literal_typed ∙ sym (literal_parts c.env v.span v.span changed_sig changed_body))
         ∙ (sym (parts-bare c.env (call v.span (func_lit v.span (filled_sig changed_sig) v.span changed_body) v.args Plain)) ∙ ap (parts c.env) (sym (form_is e q)) ∙ parts-bare c.env e)
 
+    -- ---- as a statement
+
+    abbrev whole_literal : Expr S
+    whole_literal = call v.span (func_lit v.span (filled_sig changed_sig) v.span changed_body) v.args Plain
+
+    called_no_panic : (f : Expr S) → parts c.env f ≡ Some (a_function meant.type) → is_panic c.env (call v.span f v.args Plain) ≡ false
+    called_no_panic (ident s n) e = function_no_panic c.env (meaning c.env n) meant.type e
+    called_no_panic f e = refl
+
+    -- an expression statement whose expression is called as a function is typed as its expression is
+    abbrev alone : Expr S → Option Bool
+    alone f = only_if (meets (parts c.env f) stands_alone) (given (parts c.env (call v.span f v.args Plain)) (λ o. Some (is_panic c.env (call v.span f v.args Plain))))
+
+    called_alone : (f : Expr S) → parts c.env f ≡ Some (a_function meant.type) → alone f ≡ given (parts c.env (call v.span f v.args Plain)) (λ o. Some false)
+    called_alone f e = (λ i. only_if (meets (e i) stands_alone) (given (parts c.env (call v.span f v.args Plain)) (λ o. Some (called_no_panic f e i))))
+
+    filled_operand : parts c.env (func_lit v.span (filled_sig changed_sig) v.span changed_body) ≡ Some (a_function meant.type)
+    filled_operand = literal_parts c.env v.span v.span changed_sig changed_body ∙ literal_typed
+
+    pub stmt_beside : (k : Ctx) (s : S) (e : Expr S) → u.form ≡ as_expr e → stmt k c.env (eval s u.tree) ≡ stmt k c.env (eval s e)
+    stmt_beside k s e q =
+        ap (λ (f : Expr S). stmt k c.env (eval s f)) v.tree_is
+        ∙ called_alone v.called the_callee.operand
+        ∙ ap (λ (o : Option Operand). given o (λ o. Some false)) (ap (parts c.env) (sym v.tree_is) ∙ typed_beside e q ∙ sym (parts-bare c.env e) ∙ ap (parts c.env) (form_is e q) ∙ parts-bare c.env whole_literal)
+        ∙ sym (called_alone (func_lit v.span (filled_sig changed_sig) v.span changed_body) filled_operand)
+        ∙ sym (stmt-bare k c.env (eval s whole_literal))
+        ∙ ap (λ (f : Expr Unit). stmt k c.env (eval tt f)) (sym (form_is e q))
+        ∙ stmt-bare k c.env (eval s e)
+
+    -- so is one that defers it
+    put_off : Expr S → Option Bool
+    put_off f = only_if (meets (parts c.env f) may_be_deferred) (given (parts c.env (call v.span f v.args Plain)) (λ o. Some false))
+
+    called_off : (f : Expr S) → parts c.env f ≡ Some (a_function meant.type) → put_off f ≡ given (parts c.env (call v.span f v.args Plain)) (λ o. Some false)
+    unfolding put_off
+    called_off f e = ap (λ (o : Option Operand). only_if (meets o may_be_deferred) (given (parts c.env (call v.span f v.args Plain)) (λ o. Some false))) e
+
+    pub defer_beside : (k : Ctx) (s : S) (e : Expr S) → u.form ≡ as_expr e → stmt k c.env (defer s u.tree) ≡ stmt k c.env (defer s e)
+    unfolding put_off
+    defer_beside k s e q =
+        ap (λ (f : Expr S). stmt k c.env (defer s f)) v.tree_is
+        ∙ called_off v.called the_callee.operand
+        ∙ ap (λ (o : Option Operand). given o (λ o. Some false)) (ap (parts c.env) (sym v.tree_is) ∙ typed_beside e q ∙ sym (parts-bare c.env e) ∙ ap (parts c.env) (form_is e q) ∙ parts-bare c.env whole_literal)
+        ∙ sym (called_off (func_lit v.span (filled_sig changed_sig) v.span changed_body) filled_operand)
+        ∙ sym (stmt-bare k c.env (defer s whole_literal))
+        ∙ ap (λ (f : Expr Unit). stmt k c.env (defer tt f)) (sym (form_is e q))
+        ∙ stmt-bare k c.env (defer s e)
+
+module _ (same : Span → Span → Bool) (commented : ℕ → ℕ → Span → Bool) (rs : List (Package Span)) (marks : List MarkRef) (x : Site Span) (u : LiteralUse same commented rs marks x) (v : PlainCall same commented rs marks x u) (ms : List (translated.Package Span)) (l : Linked rs ms x same commented marks u) (more : Environment Entity) (c : Here) (h : CalledBeside rs ms x more c) (y : PackagesServe rs ms x same commented marks u c) where
+  pub means_beside : (e : Expr Span) → u.form ≡ as_expr e → (free : FuncName → Bool) (A : ℕ) (rank : FuncName → ℕ) → Ranked (program_of (codes_of ms)) free rank → free (function_named (path_of (paths_in ms) u.home.number) v.name) ≡ true → (t : GoType)
+      → MeanSame (program_of (codes_of ms)) free A (suc (rank (function_named (path_of (paths_in ms) u.home.number) v.name))) (expr_term c t u.tree) (expr_term c t e)
+  means_beside e q free A rank ranked is_free t =
+      let g : Sig Span = changed_sig same commented rs marks x u v ms l more c h y in
+      let b : Stmts Span = changed_body same commented rs marks x u v ms l more c h y in
+      let F : FuncName = function_named (path_of (paths_in ms) u.home.number) v.name in
+      subst (λ y. MeanSame (program_of (codes_of ms)) free A (suc (rank F)) y (expr_term c t e)) (sym (ap (expr_term c t) v.tree_is))
+      (subst (λ y. MeanSame (program_of (codes_of ms)) free A (suc (rank F)) (expr_term c t (call v.span v.called v.args Plain)) y) (term_is same commented rs marks x u v ms l more c h y e q t)
+      (operand_law (program_of (codes_of ms)) c (names_of x.place.bound) v.called F (meant same commented rs marks x u v ms l).type.params v.span v.span g b (call_of_literal same commented rs marks x u v ms l more c h y v.span v.span) free A rank ranked (program_scoped ms) is_free v.span t v.args Plain))
+
+  pub deferred_beside : (e : Expr Span) → u.form ≡ as_expr e → (free : FuncName → Bool) (A : ℕ) → MeanSame (program_of (codes_of ms)) free A 0 (deferred_term c u.tree) (deferred_term c e)
+  deferred_beside e q free A =
+      let g : Sig Span = changed_sig same commented rs marks x u v ms l more c h y in
+      let b : Stmts Span = changed_body same commented rs marks x u v ms l more c h y in
+      let F : FuncName = function_named (path_of (paths_in ms) u.home.number) v.name in
+      subst (λ y. MeanSame (program_of (codes_of ms)) free A 0 y (deferred_term c e)) (sym (ap (deferred_term c) v.tree_is))
+      (subst (λ y. MeanSame (program_of (codes_of ms)) free A 0 (deferred_term c (call v.span v.called v.args Plain)) y) (deferred_is same commented rs marks x u v ms l more c h y e q)
+      (deferred_law (program_of (codes_of ms)) c (names_of x.place.bound) v.called F (meant same commented rs marks x u v ms l).type.params v.span v.span g b (call_of_literal same commented rs marks x u v ms l more c h y v.span v.span) free A (program_scoped ms F) v.span v.args Plain))
+
+-- ---- with no names besides
+
+module _ {S : Type 0} (same : S → S → Bool) (commented : ℕ → ℕ → S → Bool) (rs : List (Package S)) (marks : List MarkRef) (x : Site S) (u : LiteralUse same commented rs marks x) (v : PlainCall same commented rs marks x u) (ms : List (translated.Package S)) (l : Linked rs ms x same commented marks u) (c : Here) (h : CalledAt rs ms x c) (y : PackagesServe rs ms x same commented marks u c) where
+  pub literal_written : (s z : S)
+      → Written (record { home = c.env.home; around = names_of x.place.bound; puts = false }) [] (declared_at (in_block c.env) (top_names same commented rs marks x u v ms l).names u.home.number) c.env.names (func_lit s u.callee.sig z u.callee.body) (func_lit s (changed_sig same commented rs marks x u v ms l [] c (called_beside h) y) z (changed_body same commented rs marks x u v ms l [] c (called_beside h) y))
+  literal_written = literal_beside same commented rs marks x u v ms l [] c (called_beside h) y
+
+  pub typed_alike : (e : Expr S) → u.form ≡ as_expr e → parts c.env u.tree ≡ parts c.env e
+  typed_alike = typed_beside same commented rs marks x u v ms l [] c (called_beside h) y
+
 module _ (same : Span → Span → Bool) (commented : ℕ → ℕ → Span → Bool) (rs : List (Package Span)) (marks : List MarkRef) (x : Site Span) (u : LiteralUse same commented rs marks x) (v : PlainCall same commented rs marks x u) (ms : List (translated.Package Span)) (l : Linked rs ms x same commented marks u) (c : Here) (h : CalledAt rs ms x c) (y : PackagesServe rs ms x same commented marks u c) where
   pub means_it : (e : Expr Span) → u.form ≡ as_expr e → (free : FuncName → Bool) (A : ℕ) (rank : FuncName → ℕ) → Ranked (program_of (codes_of ms)) free rank → free (function_named (path_of (paths_in ms) u.home.number) v.name) ≡ true → (t : GoType)
       → MeanSame (program_of (codes_of ms)) free A (suc (rank (function_named (path_of (paths_in ms) u.home.number) v.name))) (expr_term c t u.tree) (expr_term c t e)
-  means_it e q free A rank ranked is_free t =
-      let g : Sig Span = changed_sig same commented rs marks x u v ms l c h y in
-      let b : Stmts Span = changed_body same commented rs marks x u v ms l c h y in
-      let F : FuncName = function_named (path_of (paths_in ms) u.home.number) v.name in
-      subst (λ y. MeanSame (program_of (codes_of ms)) free A (suc (rank F)) y (expr_term c t e)) (sym (ap (expr_term c t) v.tree_is))
-      (subst (λ y. MeanSame (program_of (codes_of ms)) free A (suc (rank F)) (expr_term c t (call v.span v.called v.args Plain)) y) (term_is same commented rs marks x u v ms l c h y e q t)
-      (operand_law (program_of (codes_of ms)) c (names_of x.place.bound) v.called F (meant same commented rs marks x u v ms l).type.params v.span v.span g b (call_of_literal same commented rs marks x u v ms l c h y v.span v.span) free A rank ranked (program_scoped ms) is_free v.span t v.args Plain))
+  means_it = means_beside same commented rs marks x u v ms l [] c (called_beside h) y
 
   pub deferred_means_it : (e : Expr Span) → u.form ≡ as_expr e → (free : FuncName → Bool) (A : ℕ) → MeanSame (program_of (codes_of ms)) free A 0 (deferred_term c u.tree) (deferred_term c e)
-  deferred_means_it e q free A =
-      let g : Sig Span = changed_sig same commented rs marks x u v ms l c h y in
-      let b : Stmts Span = changed_body same commented rs marks x u v ms l c h y in
-      let F : FuncName = function_named (path_of (paths_in ms) u.home.number) v.name in
-      subst (λ y. MeanSame (program_of (codes_of ms)) free A 0 y (deferred_term c e)) (sym (ap (deferred_term c) v.tree_is))
-      (subst (λ y. MeanSame (program_of (codes_of ms)) free A 0 (deferred_term c (call v.span v.called v.args Plain)) y) (deferred_is same commented rs marks x u v ms l c h y e q)
-      (deferred_law (program_of (codes_of ms)) c (names_of x.place.bound) v.called F (meant same commented rs marks x u v ms l).type.params v.span v.span g b (call_of_literal same commented rs marks x u v ms l c h y v.span v.span) free A (program_scoped ms F) v.span v.args Plain))
+  deferred_means_it = deferred_beside same commented rs marks x u v ms l [] c (called_beside h) y

@@ -16,3 +16,4 @@ mod AwayExample
 pub mod MethodLiterals
 pub mod RankedMarks
 pub mod ServedPackages
+pub mod AddedImports

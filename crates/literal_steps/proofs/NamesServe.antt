@@ -177,12 +177,12 @@ module _ {S : Type 0} (ps : List (graph.Package S)) (w : Where S) (s : Standing 
   spec_there (s ∷ ss) (suc j) i e = spec_there ss j i e
 
   -- the name that serves for a path
-  record NameThere (bound : List (List ℕ)) (q : ℕ) (n : List ℕ) : Type 0 where
-    unbound : is_among bound n ≡ false
-    outside : is_local at n ≡ false
-    means_it : package_of (means (top_env ps w.number w.of w.source.tree).names n) ≡ Some q
+  pub record NameThere (bound : List (List ℕ)) (q : ℕ) (n : List ℕ) : Type 0 where
+    pub unbound : is_among bound n ≡ false
+    pub outside : is_local at n ≡ false
+    pub means_it : package_of (means (top_env ps w.number w.of w.source.tree).names n) ≡ Some q
 
-  name_there : (bound : List (List ℕ)) (q : ℕ) (n : List ℕ) → package_number ps (package_path ps q) ≡ q → serving (environment_here ps w at) bound (package_path ps q) (names_here ps w).imports ≡ Some n → NameThere bound q n
+  pub name_there : (bound : List (List ℕ)) (q : ℕ) (n : List ℕ) → package_number ps (package_path ps q) ≡ q → serving (environment_here ps w at) bound (package_path ps q) (names_here ps w).imports ≡ Some n → NameThere bound q n
   name_there bound q n numbered_so e =
       let r = server (environment_here ps w at) bound (package_path ps q) 0 (names_here ps w).imports n e in
       let t = spec_there specs r.nth r.it r.stands in

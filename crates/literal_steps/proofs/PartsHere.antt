@@ -45,6 +45,7 @@ use Rattle.constant_steps.proofs.WrittenLiteral.Induction.{stmts-written}
 use Rattle.literal_steps.specs.TypedParts.{is_value, LocalValues, NameStands, ElementsTyped, PartStands, AllStand, NoConstants, AllWithoutConstants}
 use Rattle.literal_steps.specs.ServedParts.{TypeServed, FieldsServed, PartServed, AllServed, TypeAway, FieldsAway, PartAway, AllAway, NothingElse}
 use Rattle.literal_steps.proofs.TypedWalk.{stmts_stand}
+use Rattle.literal_steps.proofs.ServedPackages.OpenTypes.LiteralsSeen.{literal_seen}
 
 seen_same : (k : ℕ) (n : List ℕ) (fs : GoFields) → SeenFields k k n fs
 seen_same k n no_go_fields = tt
@@ -365,10 +366,19 @@ module _ {S : Type 0} (ps : List (Package S)) (home there : Where S) (at : Place
     subst (λ o. FineElems (landing ps home there at names new all outside beyond) p.env (given o (λ u. Some (under (defined_in p.env) u))) es) (sym h.meant) (fine_elems (landing ps home there at names new all outside beyond) p.env (under (defined_in p.env) h.type) es h.each (h.home_is ∙ same) h.typed),
   )
 
+  -- in another package its fields are seen alike, where none is hidden
+  literal_anywhere : (p : Place S) (u : Use) (s : S) (t : TypeExpr S) (es : Elems S) → ElementsTyped home.number p.env t es → PartIsAway (seen p u (composite s t es)) → (nat_eq home.number there.number ≡ false → hidden_here ps home there at (seen p u (composite s t es)) ≡ None)
+      → Rattle.form_meaning.specs.FormInPlace.Leaves.LiteralAlike (landing ps home there at names new all outside beyond) p.env (literal_under p.env t) es × FineElems (landing ps home there at names new all outside beyond) p.env (literal_under p.env t) es
+  literal_anywhere p u s t es h a b = go (nat_eq home.number there.number) refl
+    where
+      go : (c : Bool) → nat_eq home.number there.number ≡ c → Rattle.form_meaning.specs.FormInPlace.Leaves.LiteralAlike (landing ps home there at names new all outside beyond) p.env (literal_under p.env t) es × FineElems (landing ps home there at names new all outside beyond) p.env (literal_under p.env t) es
+      go true q = literal_fine (numbers q) p t es h
+      go false q = literal_seen ps home there at (landing ps home there at names new all outside beyond) p.env (a q) t es h.type h.each h.meant h.typed (b q)
+
   part_fine : (x : Seen S) → PartStands home.number x → PartServed ps home names at.env.names (names_of at.bound) x → PartIsAway x → (nat_eq home.number there.number ≡ false → hidden_here ps home there at x ≡ None) → shadowed_here ps home there at x ≡ None → IsFine x
   part_fine (seen p u (ident s n)) h k a b v = λ r m w f. name_written ps home there at names new all outside beyond known p s n r m w (record { typed = name_typed p r m w n h; accessible = b; unshadowed = v; served = a }) f
   part_fine (seen p u (selector s d n)) h k a b v = λ r m w. selector_fine p r m w u s d n h (served_before p r m w u s d n k) a b (before p r m w d) refl
-  part_fine (seen p u (composite s t es)) h k a b v = (refl, literal_fine a p t es h)
+  part_fine (seen p u (composite s t es)) h k a b v = (refl, literal_anywhere p u s t es h a b)
   part_fine (seen p u (func_lit s g z d)) h k a b v = (refl, h)
   part_fine (seen p u (int_lit s n)) h k a b v = refl
   part_fine (seen p u (rune_lit s n)) h k a b v = refl
@@ -421,7 +431,7 @@ module _ {S : Type 0} (ps : List (Package S)) (home : Where S) (to : ℕ) (names
   part_here : (x : Seen S) → PartAway ps home to names there around x
   part_here (seen p u (ident s n)) = λ e m. not_away e
   part_here (seen p u (selector s b n)) = λ e t k f x. not_away e
-  part_here (seen p u (composite s t es)) = same
+  part_here (seen p u (composite s t es)) = λ e. not_away e
   part_here (seen p u (func_lit s g z b)) = tt
   part_here (seen p u (int_lit s n)) = tt
   part_here (seen p u (rune_lit s n)) = tt

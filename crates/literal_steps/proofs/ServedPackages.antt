@@ -6,6 +6,7 @@ pub mod KnownPlaces
 pub mod Walk
 pub mod FormNames
 pub mod Served
-mod ExampleModule
+pub mod ExampleModule
 mod Example
 mod MissingImport
+mod CompositeAway

@@ -63,7 +63,7 @@ TypedPartsStand =
 -- So for a typed body without groups of constants, in which no obstacle is found, what a run writes at a use may be
 -- written there, where the packages that it names have names that serve. From another package the function's own
 -- package too has a name that serves, fields that are selected are seen everywhere, where they are exported, and
--- there are no composite literals.
+-- around composite literals names mean what has types whose exported fields are seen everywhere.
 abbrev pub TypedBodiesAreWritten : Type 0
 TypedBodiesAreWritten =
     (ps : List (Package Span)) (home there : Where Span) (at : Place Span) (names : Names) (new : Span) (all : World)

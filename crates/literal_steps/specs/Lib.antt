@@ -8,3 +8,4 @@ pub mod Laws
 pub mod MethodLiterals
 pub mod RankedMarks
 pub mod ServedPackages
+pub mod AddedImports

@@ -17,6 +17,7 @@ use Rattle.run_rules.specs.Surroundings.{Place, Seen, seen, seen_type, seen_stmt
 use Rattle.run_rules.specs.Sites.{Where, outer, outer_meaning, mark_of, qualifier}
 use Rattle.run_rules.specs.Naming.{Names}
 use Rattle.constant_steps.specs.WrittenLiteral.Meant.{Serves}
+use Rattle.literal_steps.specs.ServedPackages.OpenTypes.{OpenPlace}
 
 -- Names for packages at a use, where names mean `there` and those of `around` are declared around it; the parts stand
 -- in the file `home`.
@@ -57,7 +58,7 @@ module _ {S : Type 0} (ps : List (Package S)) (home : Where S) (names : Names) (
 
 -- What is asked besides where the use stands in another package, the one with the number `to`: the name of the parts'
 -- own package serves where a name of it stands plainly; fields that are selected are seen everywhere, where they are
--- exported; and there are no composite literals.
+-- exported; and around a composite literal names mean what has types whose exported fields are seen everywhere.
 module _ {S : Type 0} (ps : List (Package S)) (home : Where S) (to : ℕ) (names : Names) (there : Environment Entity)
     (around : List (List ℕ)) where
   -- a name of the package block may be written with the package's name
@@ -88,7 +89,7 @@ module _ {S : Type 0} (ps : List (Package S)) (home : Where S) (to : ℕ) (names
   PartAway (seen p u (selector s b n)) =
       nat_eq home.number to ≡ false → (t : GoType) (k : Content) → parts p.env b ≡ Some (value t k) → is_exported n.name
       ≡ true → open_in n.name (fields_in (defined_in p.env) t) ≡ true
-  PartAway (seen p u (composite s t es)) = home.number ≡ to
+  PartAway (seen p u (composite s t es)) = nat_eq home.number to ≡ false → OpenPlace p.env
   PartAway (seen p u x) = Unit {0}
   PartAway (seen_type p t) = TypeAway p t
   PartAway (seen_stmt p s) = Unit {0}

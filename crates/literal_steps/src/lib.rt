@@ -3,6 +3,7 @@
 //! specification, Calls; Function literals; Declarations and scope).
 #![tactic(auto)]
 
+pub mod added_imports;
 mod laws;
 pub mod method_literals;
 pub mod ranked_marks;

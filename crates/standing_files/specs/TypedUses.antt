@@ -18,9 +18,10 @@ use Rattle.run_rules.specs.Sites.{MarkRef, Where, Site}
 use Rattle.run_rules.specs.Surroundings.{Seen}
 use Rattle.order_runs.specs.CycleRuns.OrderCycles.Orders.{AllOrdered}
 use Rattle.literal_steps.specs.LiteralUse.{LiteralUse, PlainCall, call_of, names_of_form}
+use Rattle.literal_steps.specs.AddedImports.Added.{AddsImports, PlaceAfter}
 use Rattle.literal_steps.specs.CalledAt.{CalledAt, PackagesServe}
 use Rattle.literal_steps.specs.MethodLiterals.MethodUse.{MethodCall, ReceiverServes}
-use Rattle.literal_steps.specs.ServedPackages.ServedFunctions.{NeedsNoImport, LiteralsAtHome}
+use Rattle.literal_steps.specs.ServedPackages.ServedFunctions.{NeedsNoImport}
 
 module _ {S : Type 0} (ps : List (Package S)) where
   -- a file of these packages, by its numbers
@@ -89,9 +90,13 @@ module _ {S : Type 0} (x : TypedUse S) where
   abbrev pub NeedsNoMore : Type 0
   NeedsNoMore = NeedsNoImport x.same x.commented x.packages x.marks x.site x.becomes
 
-  -- where the use stands in another package, the function's body has no composite literals
-  abbrev pub HasNoneAway : Type 0
-  HasNoneAway = LiteralsAtHome x.same x.commented x.packages x.marks x.site x.becomes
+  -- the literal may add imports, by new names
+  abbrev pub MayAddImports : Type 0
+  MayAddImports = AddsImports x.same x.commented x.packages x.marks x.site x.becomes
+
+  -- a place is another with the names of these imports
+  abbrev pub IsAfter : Here → Here → Type 0
+  IsAfter c d = PlaceAfter x.same x.commented x.packages x.marks x.site x.becomes c d
 
   -- the program of the packages
   abbrev pub program : Program

@@ -32,7 +32,7 @@ use Rattle.literal_steps.specs.ServedParts.{AllServed, AllAway}
 use Rattle.literal_steps.specs.TypedParts.{AllWithoutConstants}
 use Rattle.standing_files.specs.TypedUses.{TypedPackages, TypedUse, its_call, sig_parts, body_parts, form_names}
 use Rattle.standing_files.specs.TypedUses.{CallsByName, CallsMethod, UsedIn, ServeIn, ReceiverIn, NeedsNoMore}
-use Rattle.standing_files.specs.TypedUses.{HasNoneAway, program, function_called, method_called}
+use Rattle.standing_files.specs.TypedUses.{MayAddImports, IsAfter, program, function_called, method_called}
 
 -- ---- what literal_steps asks
 
@@ -131,27 +131,26 @@ PackagesOfCallsServe =
     AllServed x.packages x.becomes.home (form_names x) c.env.names (names_of x.site.place.bound) (sig_parts x)
     × AllServed x.packages x.becomes.home (form_names x) c.env.names (names_of x.site.place.bound) (body_parts x)
 
--- And for a use in another package the function's own package has one; so all packages serve, where the function's body
--- has no composite literals.
+-- And for a use in another package the function's own package has one; so all packages serve.
 abbrev pub OwnPackagesOfCallsServe : Type 0
 OwnPackagesOfCallsServe =
     (x : TypedUse Span) → CallsByName x → NeedsNoMore x → (c : Here) → UsedIn x c →
     AllAway x.packages x.becomes.home x.site.at.number (form_names x) c.env.names (names_of x.site.place.bound)
     (sig_parts x)
-    × (HasNoneAway x → ServeIn x c)
+    × ServeIn x c
 
 -- ---- calls that need no further import
 
 -- Such a call of a function and the literal that it becomes are the same operand.
 abbrev pub ServedCallsAreTypedAsLiterals : Type 0
 ServedCallsAreTypedAsLiterals =
-    (x : TypedUse Span) → CallsByName x → NeedsNoMore x → HasNoneAway x → (c : Here) → UsedIn x c →
+    (x : TypedUse Span) → CallsByName x → NeedsNoMore x → (c : Here) → UsedIn x c →
     (e : Expr Span) → x.becomes.form ≡ as_expr e → parts c.env x.becomes.tree ≡ parts c.env e
 
 -- And under free prices the call means the literal, where the packages are ranked and the function is free.
 abbrev pub ServedCallsMeanLiterals : Type 0
 ServedCallsMeanLiterals =
-    (x : TypedUse Span) (v : CallsByName x) → NeedsNoMore x → HasNoneAway x → (c : Here) → UsedIn x c →
+    (x : TypedUse Span) (v : CallsByName x) → NeedsNoMore x → (c : Here) → UsedIn x c →
     (e : Expr Span) → x.becomes.form ≡ as_expr e →
     (free : FuncName → Bool) (A : ℕ) (rank : FuncName → ℕ) → Ranked (program x) free rank →
     free (function_called x v) ≡ true → (t : GoType) →
@@ -160,9 +159,34 @@ ServedCallsMeanLiterals =
 -- And a deferred call means the deferred literal.
 abbrev pub ServedDeferredCallsMeanLiterals : Type 0
 ServedDeferredCallsMeanLiterals =
-    (x : TypedUse Span) → CallsByName x → NeedsNoMore x → HasNoneAway x → (c : Here) → UsedIn x c →
+    (x : TypedUse Span) → CallsByName x → NeedsNoMore x → (c : Here) → UsedIn x c →
     (e : Expr Span) → x.becomes.form ≡ as_expr e → (free : FuncName → Bool) (A : ℕ) →
     MeanSame (program x) free A 0 (deferred_term c x.becomes.tree) (deferred_term c e)
+
+-- ---- calls whose literals add imports
+
+-- Such a call of a function in its file, and the literal at its place in the file with the imports added, are the same
+-- operand.
+abbrev pub CallsAreTypedAsLiteralsAfter : Type 0
+CallsAreTypedAsLiteralsAfter =
+    (x : TypedUse Span) → CallsByName x → MayAddImports x → (c d : Here) → UsedIn x c → IsAfter x c d →
+    (e : Expr Span) → x.becomes.form ≡ as_expr e → parts c.env x.becomes.tree ≡ parts d.env e
+
+-- And under free prices the call means the literal, where no marked function declares a group of constants.
+abbrev pub CallsMeanLiteralsAfter : Type 0
+CallsMeanLiteralsAfter =
+    (x : TypedUse Span) → CallsByName x → MayAddImports x → (c d : Here) → UsedIn x c → IsAfter x c d →
+    (e : Expr Span) → x.becomes.form ≡ as_expr e → NoConstantGroups x.packages x.marks → (A : ℕ)
+    (t : GoType) →
+    MeanSame (program x) (is_free x.packages x.marks (paths_in x.members)) A
+    (suc (rank x.packages x.marks x.site.mark)) (expr_term c t x.becomes.tree) (expr_term d t e)
+
+-- And a deferred call means the deferred literal.
+abbrev pub DeferredCallsMeanLiteralsAfter : Type 0
+DeferredCallsMeanLiteralsAfter =
+    (x : TypedUse Span) → CallsByName x → MayAddImports x → (c d : Here) → UsedIn x c → IsAfter x c d →
+    (e : Expr Span) → x.becomes.form ≡ as_expr e → (free : FuncName → Bool) (A : ℕ) →
+    MeanSame (program x) free A 0 (deferred_term c x.becomes.tree) (deferred_term d e)
 
 -- ---- ranks
 
@@ -206,7 +230,7 @@ UsesMeanLiterals =
 -- And so does one that needs no further import: of names nothing is asked.
 abbrev pub ServedUsesMeanLiterals : Type 0
 ServedUsesMeanLiterals =
-    (x : TypedUse Span) → CallsByName x → NeedsNoMore x → HasNoneAway x → (c : Here) → UsedIn x c →
+    (x : TypedUse Span) → CallsByName x → NeedsNoMore x → (c : Here) → UsedIn x c →
     (e : Expr Span) → x.becomes.form ≡ as_expr e → NoConstantGroups x.packages x.marks → (A : ℕ)
     (t : GoType) →
     MeanSame (program x) (is_free x.packages x.marks (paths_in x.members)) A

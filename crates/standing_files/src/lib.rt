@@ -8,7 +8,7 @@ mod use_laws;
 
 pub use laws::{names_of_files_mean_the_same, typed_files_stand};
 pub use use_laws::{
-    called_packages_serve, calls_mean_literals, method_calls_mean_literals,
-    served_calls_mean_literals, typed_packages_are_ranked, typed_uses_are_linked,
-    uses_mean_literals,
+    called_packages_serve, calls_mean_literals, calls_mean_literals_with_imports,
+    method_calls_mean_literals, served_calls_mean_literals, typed_packages_are_ranked,
+    typed_uses_are_linked, uses_mean_literals,
 };

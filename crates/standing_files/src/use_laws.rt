@@ -44,6 +44,14 @@ pub fn served_calls_mean_literals()
     ensures deferred { law.ServedDeferredCallsMeanLiterals }
 {}
 
+/// A call whose literal adds imports by new names is typed in its file as the literal is in the file with
+/// these imports, and means it under free prices; deferred, it means the deferred literal.
+pub fn calls_mean_literals_with_imports()
+    ensures typed { law.CallsAreTypedAsLiteralsAfter }
+    ensures meaning { law.CallsMeanLiteralsAfter }
+    ensures deferred { law.DeferredCallsMeanLiteralsAfter }
+{}
+
 /// The program of well-typed packages is ranked by the marked functions that lie on no cycle, and under
 /// free prices a call of one of these is its called literal, where no marked function declares a group of
 /// constants.

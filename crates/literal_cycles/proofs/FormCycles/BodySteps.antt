@@ -1,16 +1,17 @@
 -- A step in the body of a function settles its imports, whatever its form is: with its imports added, with the form put,
 -- as the file is read again and with the imports settled the packages declare the same.
-use Rattle.std.proofs.Common.{◌≡◌, refl, sym, ◌∙◌, subst, ℕ, zero, suc, List, [], ◌∷◌, ◌++◌, map, Some}
+use Rattle.std.proofs.Common.{◌≡◌, refl, sym, ◌∙◌, subst, ℕ, zero, suc, Bool, true, List, [], ◌∷◌, ◌++◌, map, Some}
 use Rattle.std.specs.Prelude.{slice_get}
 use Rattle.go_tree.specs.declared.spans.Span.{Span}
 use Rattle.go_tree.specs.File.{Decl, File}
 use Rattle.go_tree.specs.FileBare.{bare_decl}
 use Rattle.pkg_graph.specs.Package.{SourceTree, Package, import_specs}
 use Rattle.pkg_graph.specs.Graph.{files_import}
-use Rattle.run_rules.specs.Programs.{world}
+use Rattle.go_tree.specs.GoTypes.Programs.{block_names}
+use Rattle.run_rules.specs.Programs.{world, linked_file, linked_imports}
 use Rattle.run_rules.specs.Respanned.{decls_with}
 use Rattle.run_rules.specs.Sites.{MarkRef, Site}
-use Rattle.run_rules.specs.Steps.{At, same_here, change_nth, with_file}
+use Rattle.run_rules.specs.Steps.{At, same_here, change_nth, with_file, file_between, packages_between, where_between}
 use Rattle.run_rules.specs.Run.{Standing, Logged, Next, here_of, origin_of}
 use Rattle.splice_laws.proofs.RunLaws.FoundSpans.{Placed}
 use Rattle.typed_in_place.specs.ProgramsAlike.{OneByOne, no_more, and_more}
@@ -25,7 +26,8 @@ use Rattle.order_runs.proofs.CycleRuns.StepCycles.WorldStays.{FileSpans, Package
 use Rattle.order_runs.specs.CycleRuns.ImportCycles.OtherImports.{PackagesBeside, import_path, FileUnder}
 use Rattle.order_runs.specs.CycleRuns.ImportCycles.ImportSteps.{file_added, packages_added, where_added, decl_put, DeclaresAlike, calls_added, SettlesImports}
 use Rattle.order_runs.proofs.CycleRuns.ImportCycles.FreeIdentifiers.{looked-up-within}
-use Rattle.order_runs.proofs.CycleRuns.ImportCycles.ImportStep.{twice, placed, put-beside, decls-are}
+use Rattle.order_runs.proofs.CycleRuns.ImportCycles.ImportStep.{twice, placed, added-same, put-beside, decls-are}
+use Rattle.order_runs.proofs.CycleRuns.ImportCycles.LeadAlike.{same-beside}
 use Rattle.order_runs.proofs.CycleRuns.ImportCycles.ImportsAdded.{path-stays, new-names-read, settled-names-read}
 use Rattle.order_runs.specs.CycleRuns.OrderCycles.Orders.{AllOrdered, PackagesUnder}
 use Rattle.order_runs.specs.CycleRuns.OrderCycles.Steps.{site_added, PutsTheSame, KeepsImportNames}
@@ -35,6 +37,11 @@ use Rattle.order_runs.proofs.CycleRuns.OrderCycles.StepSettled.{ordered-alike}
 use Rattle.order_runs.proofs.CycleRuns.FoundUses.NoRecursive.{step-off}
 use Rattle.literal_cycles.specs.FormCycles.Bodies.{ChangesBody, changes_of, decl_added, DeclGivesWay}
 use Rattle.literal_cycles.proofs.FormCycles.BodyWorld.{receiver-stays, body-world}
+use Rattle.literal_steps.specs.AddedImports.Files.{AllByPath, WithImports}
+use Rattle.literal_steps.proofs.AddedImports.FilesBetween.{between_added}
+use Rattle.order_runs.specs.CycleRuns.ImportCycles.OtherImports.{SameOrder}
+use Rattle.order_runs.proofs.CycleRuns.ImportCycles.WorldMoved.{world-moved}
+use Rattle.typed_in_place.specs.ImportRule.{imports_sound}
 
 change-same : {A : Type 0} (f g : A → A) (n : ℕ) (xs : List A) → ((x : A) → slice_get xs n ≡ Some x → f x ≡ g x) → change_nth n f xs ≡ change_nth n g xs
 change-same f g n [] h = refl
@@ -106,6 +113,14 @@ module _ (marks : List MarkRef) (st : Standing) (l : Logged) (after : Standing) 
 
   put-declares : world (changed (tree_put put_here)) ≡ world mid
   put-declares = (λ v. world (sym put-is v)) ∙ body-world mid there n.found.form in_body.no_type package-there file-there in_body.stands.around in_body.stands.is_around
+
+  -- with the imports added and the form put at once
+  pub step-imports : SameOrder st.packages mid → (commented : ℕ → ℕ → At → Bool)
+      → imports_sound (block_names (map (linked_file (packages_between same_here commented st.packages marks n.found)) (where_between same_here commented st.packages marks n.found).of.files)) []
+      (linked_imports (packages_between same_here commented st.packages marks n.found) (file_between same_here commented st.packages marks n.found)) ≡ true
+      → AllByPath st.packages n.found.named
+      → WithImports st.packages (packages_between same_here commented st.packages marks n.found) x.at (where_between same_here commented st.packages marks n.found) n.found.named n.found.range
+  step-imports order commented sound by = between_added same_here commented st.packages marks n.found (put-declares ∙ world-moved st.packages mid (same-beside (added-same marks st l after n)) order) sound by
 
   -- ---- the file is read again
 

@@ -1,6 +1,6 @@
 -- The laws of steps in each form and of the cycles of marked functions. Each is the contract of a function of this
 -- crate (Go specification, Calls; Function declarations; Blocks; Return statements; Import declarations).
-use Rattle.std.specs.Prelude.{◌≡◌, ℕ, Bool, true, List}
+use Rattle.std.specs.Prelude.{◌≡◌, ℕ, Bool, true, List, [], map}
 use Rattle.go_tree.specs.declared.spans.Span.{Span}
 use Rattle.go_tree.specs.Tree.{Expr, Stmt, Stmts}
 use Rattle.pkg_graph.specs.Package.{Package}
@@ -9,19 +9,23 @@ use Rattle.go_tree.specs.GoTypes.Answers.{meets}
 use Rattle.typed_in_place.specs.SameWorlds.SameWorlds.{SameWorld}
 use Rattle.run_rules.specs.Surroundings.{Place}
 use Rattle.run_rules.specs.Places.{stmts_seen}
-use Rattle.run_rules.specs.Programs.{world}
+use Rattle.go_tree.specs.GoTypes.Programs.{block_names}
+use Rattle.typed_in_place.specs.ImportRule.{imports_sound}
+use Rattle.run_rules.specs.Programs.{world, linked_file, linked_imports}
 use Rattle.run_rules.specs.Rewriting.{new_stmts}
 use Rattle.run_rules.specs.Sites.{MarkRef, Where, is_function, inlinable}
 use Rattle.run_rules.specs.Texts.{FileText}
 use Rattle.run_rules.specs.FormTrees.{Form, as_expr}
-use Rattle.run_rules.specs.Steps.{At, changes_for}
+use Rattle.run_rules.specs.Steps.{At, same_here, changes_for, file_between, packages_between, where_between}
 use Rattle.run_rules.specs.Cycles.{LeadsTo, is_recursive}
 use Rattle.run_rules.specs.Run.{Standing, Logged, Next, Run}
 use Rattle.run_rules.specs.Inlining.{ModuleReads, standing_as_read}
 use Rattle.order_runs.specs.CycleLaws.PutCalls.{GivesWayAmong, mark_there, called_among}
-use Rattle.order_runs.specs.CycleRuns.ImportCycles.ImportSteps.{SettlesImports}
+use Rattle.order_runs.specs.CycleRuns.ImportCycles.ImportSteps.{packages_added, SettlesImports}
+use Rattle.order_runs.specs.CycleRuns.ImportCycles.OtherImports.{SameOrder}
 use Rattle.order_runs.specs.CycleRuns.OrderCycles.Steps.{KeepsImportNames}
 use Rattle.order_runs.specs.CycleRuns.Linked.{Linked, SettlesFile, CallsWhatStood}
+use Rattle.literal_steps.specs.AddedImports.Files.{AllByPath, WithImports}
 use Rattle.literal_cycles.specs.FormCycles.Bodies.{IsNoType, StandsInFunction, ChangesBody, DeclGivesWay, StandsThere}
 use Rattle.literal_cycles.specs.FormCycles.Puts.{ExprCallsThrough, StatementCallsThrough, AllPutThrough, PutsInBody}
 use Rattle.literal_cycles.specs.FormCycles.Blocks.{IsBlockOf, IsLiteralWith, PutsFunctionInBody}
@@ -34,6 +38,23 @@ abbrev pub BodyStepsDeclareTheSame : Type 0
 BodyStepsDeclareTheSame =
     (marks : List MarkRef) (st : Standing) (l : Logged) (after : Standing) (n : Next marks st l after)
     → KeepsImportNames n → ChangesBody n → SameWorld (world after.packages) (world st.packages)
+
+-- With its imports added and its form put at once, before unused imports go, the file of the use is one with these
+-- imports, as literal_steps has it, where the packages stand in the same dependency order with the imports added and no
+-- import of the file is refused.
+abbrev pub BodyStepsHaveImports : Type 0
+BodyStepsHaveImports =
+    (marks : List MarkRef) (st : Standing) (l : Logged) (after : Standing) (n : Next marks st l after)
+    → KeepsImportNames n → ChangesBody n → SameOrder st.packages (packages_added st.packages n.found)
+    → (commented : ℕ → ℕ → At → Bool)
+    → imports_sound (block_names
+    (map (linked_file (packages_between same_here commented st.packages marks n.found))
+    (where_between same_here commented st.packages marks n.found).of.files)) []
+    (linked_imports (packages_between same_here commented st.packages marks n.found)
+    (file_between same_here commented st.packages marks n.found)) ≡ true
+    → AllByPath st.packages n.found.named
+    → WithImports st.packages (packages_between same_here commented st.packages marks n.found) n.found.site.at
+    (where_between same_here commented st.packages marks n.found) n.found.named n.found.range
 
 -- So it settles its imports, if its declaration calls what it called, but that what was used gives way.
 abbrev pub BodyStepsSettleImports : Type 0

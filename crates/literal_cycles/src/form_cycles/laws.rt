@@ -4,13 +4,15 @@ ghost use Rattle.literal_cycles.specs.FormCycles.Laws as law;
 
 use order_runs::cycle_runs::packages_stay_linked;
 
-/// A step in the body of a function, whatever its form is, leaves what the packages declare as it was.
+/// A step in the body of a function, whatever its form is, leaves what the packages declare as it was, and
+/// with its imports added and its form put at once its file is one with these imports.
 /// So it keeps which marked functions lie on a cycle, if the function calls what it called, but that
 /// what was used gives way to what it leads to. What is put for a call is no type; so a step over a call
 /// keeps cycles too that puts an expression, which calls what stood there or what the called function
 /// calls, and has the facts of what stood there.
 pub fn body_steps_keep_cycles()
     ensures declared { law.BodyStepsDeclareTheSame }
+    ensures imports { law.BodyStepsHaveImports }
     ensures settled { law.BodyStepsSettleImports }
     ensures kept { law.BodyStepsKeepCycles }
     ensures calls { law.CallStepsChangeBodies }

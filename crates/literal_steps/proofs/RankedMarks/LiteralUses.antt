@@ -125,7 +125,7 @@ module _ (same : Span → Span → Bool) (commented : ℕ → ℕ → Span → B
       go _ q (plainly {s = s} same_package) = at_home x.at.number (plain_marked s q)
       go _ q (by_import {s = s} {z = z} {t = t} {q = p} {k = k} f is_public) = at_home k (import_marked s z t p k q f)
 
-  abbrev F : FuncName
+  abbrev pub F : FuncName
   F = function_named (path_of (paths_in ms) K) v.name
 
   home_numbered : numbered K ms ≡ true
@@ -134,10 +134,10 @@ module _ (same : Span → Span → Bool) (commented : ℕ → ℕ → Span → B
   named : mark_named rs marks (paths_in ms) F ≡ Some x.mark
   named = ap (λ o. given o (λ k. marked_as rs marks is_free_function (member_of rs k v.name))) (number_found ms K l.distinct home_numbered) ∙ marked_at_home
 
-  free : is_free rs marks (paths_in ms) F ≡ true
+  pub free : is_free rs marks (paths_in ms) F ≡ true
   free = ap (λ o. meets o (λ m. not (is_recursive rs marks m))) named ∙ ap not off_cycle
 
-  rank_is : rank_named rs marks (paths_in ms) F ≡ rank rs marks x.mark
+  pub rank_is : rank_named rs marks (paths_in ms) F ≡ rank rs marks x.mark
   rank_is = ap (λ o. elim o [ None ↦ 0 | Some m ↦ rank rs marks m ]) named
 
   pub use-means : (c : Here) → CalledAt rs ms x c → PackagesServe rs ms x same commented marks u c → (e : Expr Span) → u.form ≡ as_expr e → Translated rs marks ms → NoConstantGroups rs marks → (A : ℕ) (t : GoType)

@@ -31,7 +31,7 @@ use Rattle.literal_steps.specs.LiteralUse.{LiteralUse, call_of, by_import, Plain
 use Rattle.literal_steps.specs.CalledAt.{CalledAt, Linked}
 use Rattle.literal_steps.proofs.CallMeant.{typed_alike, means_it}
 use Rattle.literal_steps.specs.ServedPackages.NamedPackages.{all_named}
-use Rattle.literal_steps.specs.ServedPackages.ServedFunctions.{NeedsNoImport, LiteralsAtHome}
+use Rattle.literal_steps.specs.ServedPackages.ServedFunctions.{NeedsNoImport}
 use Rattle.literal_steps.proofs.ServedPackages.Served.{packages_serve}
 use Rattle.literal_steps.proofs.ServedPackages.ExampleModule.{at, name, import_at, one_at, add, units_file, units, adding, packages_with, in_old, in_main_with, marks, no_comments, place_with, use_with, literal}
 
@@ -161,7 +161,7 @@ is_called = record {
   locals = λ n e. refl;
 }
 
--- nothing is asked of single parts: no import is added, and there are neither constants nor composite literals
+-- nothing is asked of single parts: no import is added, and there are no constants
 needs_none : NeedsNoImport same_span no_comments rs marks use_of_add is_literal_use
 unfolding passes is_literal_use
 needs_none = record {
@@ -170,10 +170,6 @@ needs_none = record {
   no_constants = (tt, (tt, (tt, (tt, (tt, (tt, (tt, (tt, (tt, (tt, (tt, tt)))))))))));
 }
 
-no_literals : LiteralsAtHome same_span no_comments rs marks use_of_add is_literal_use
-unfolding passes is_literal_use
-no_literals = (tt, (tt, (tt, (tt, (tt, (tt, (tt, (tt, (tt, (tt, (tt, tt)))))))))))
-
 -- by the laws alone
 add_is_typed : parts there.env (adding arg) ≡ parts there.env (literal arg)
 unfolding passes is_literal_use
@@ -181,7 +177,7 @@ add_is_typed =
     typed_alike same_span no_comments rs marks use_of_add is_literal_use is_plain_call packages is_linked in_main
     is_called
     (packages_serve same_span no_comments rs marks use_of_add is_literal_use is_plain_call packages is_linked needs_none
-    in_main is_called no_literals) (literal arg) refl
+    in_main is_called) (literal arg) refl
 
 abbrev free : FuncName → Bool
 free f = bytes_eq f.name (codes "Add")
@@ -195,7 +191,7 @@ unfolding passes is_literal_use is_plain_call
 add_means =
     means_it same_span no_comments rs marks use_of_add is_literal_use is_plain_call packages is_linked in_main is_called
     (packages_serve same_span no_comments rs marks use_of_add is_literal_use is_plain_call packages is_linked needs_none
-    in_main is_called no_literals) (literal arg) refl free 1 rank (program_ranked packages free rank refl) refl
+    in_main is_called) (literal arg) refl free 1 rank (program_ranked packages free rank refl) refl
     (basic kind.Int)
 
 -- ---- what parts name

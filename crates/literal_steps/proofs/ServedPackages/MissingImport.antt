@@ -1,10 +1,10 @@
 -- What doesn't meet what is asked: main imports old alone, and the literal of old.Add(2) needs a further import; an
--- import of no package; a composite literal elsewhere; and an exported field that belongs to a package.
+-- import of no package; and an exported field that belongs to a package.
 use Rattle.std.specs.Prelude.{◌≡◌, refl, ℕ, Bool, false, true, List, [], ◌∷◌, Some, None, codes, is_none, Option}
 use mathlib.Core.Path.{ap}
 use Rattle.std.proofs.Common.{arith}
 use Rattle.go_tree.specs.declared.spans.Span.{Span}
-use Rattle.go_tree.specs.Tree.{Expr, int_lit, composite, no_elems}
+use Rattle.go_tree.specs.Tree.{Expr, int_lit}
 use Rattle.go_tree.specs.File.{ImportSpec}
 use Rattle.go_tree.specs.declared.const_eval.kinds.Kind.TheVariants as kind
 use Rattle.go_tree.specs.GoWords.Tokens.Pieces.{keyword_spellings}
@@ -14,13 +14,12 @@ use Rattle.go_tree.specs.GoTypes.Types.{GoType, basic, struct_of, no_go_fields, 
 use Rattle.go_tree.specs.GoTypes.Typing.{parts}
 use Rattle.go_tree.specs.GoTypes.WellTyped.{well_typed}
 use Rattle.run_rules.specs.Programs.{linked}
-use Rattle.run_rules.specs.Surroundings.{whole, seen}
 use Rattle.run_rules.specs.FormTrees.{as_expr}
 use Rattle.run_rules.specs.Naming.{imports_added}
 use Rattle.literal_steps.specs.LiteralUse.{LiteralUse}
 use Rattle.literal_steps.specs.ServedPackages.OpenTypes.{OpenType}
-use Rattle.literal_steps.specs.ServedPackages.ServedFunctions.{imports_are_there, AllAtHome}
-use Rattle.literal_steps.proofs.ServedPackages.ExampleModule.{at, int_at, import_at, add, old, adding, main_package, packages_with, in_old, marks, no_comments, place_with, use_with, literal}
+use Rattle.literal_steps.specs.ServedPackages.ServedFunctions.{imports_are_there}
+use Rattle.literal_steps.proofs.ServedPackages.ExampleModule.{at, import_at, add, old, adding, main_package, packages_with, in_old, marks, no_comments, place_with, use_with, literal}
 
 abbrev one_import : List (ImportSpec Span)
 one_import = import_at 3 (codes "m/old") ∷ []
@@ -70,11 +69,6 @@ unused_import = refl
 -- where units is no package of the run, an import of old names none
 import_missing : imports_are_there (main_package one_import two ∷ old ∷ []) in_old ≡ false
 import_missing = refl
-
--- elsewhere a body has no composite literal
-not_at_home : AllAtHome 1 0 (seen (place_with one_import two) whole (composite (at 1) (int_at (at 1)) no_elems) ∷ []) →
-    ⊥
-not_at_home a = absurd (grind (arith, a.0))
 
 -- ---- open types
 

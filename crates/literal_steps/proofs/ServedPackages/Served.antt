@@ -36,7 +36,7 @@ use Rattle.literal_steps.proofs.NamesServe.{serves_there}
 use Rattle.literal_steps.proofs.NoObstacle.{clear}
 use Rattle.literal_steps.proofs.PartsHere.{all_here}
 use Rattle.literal_steps.specs.ServedPackages.NamedPackages.{import_named, own_named, type_named, fields_named}
-use Rattle.literal_steps.specs.ServedPackages.ServedFunctions.{imports_are_there, PartAtHome, AllAtHome, NeedsNoImport, LiteralsAtHome}
+use Rattle.literal_steps.specs.ServedPackages.ServedFunctions.{imports_are_there, NeedsNoImport}
 use Rattle.literal_steps.proofs.ServedPackages.OpenTypes.FieldsSeen.{selected_seen}
 use Rattle.literal_steps.proofs.ServedPackages.Parts.{in_first, in_second, Has, Inside, Fits, AllFit}
 use Rattle.literal_steps.proofs.ServedPackages.FormNames.{unnamed_there, binders, form_names, function_fits}
@@ -202,29 +202,27 @@ module _ {S : Type 0} (ps : List (Package S)) (home : Where S) (to : ℕ) (binde
                 e)),
           )
 
-      part_away : (x : Seen S) → Fits ps home to binders ids x → PartAtHome home.number to x →
-          PartAway ps home to names there around x
-      part_away (seen p u (ident s n)) f a = name_away p f.inside n f.written
-      part_away (seen p u (selector s b n)) f a = λ e t k g o. selected_seen p.env f.opens b t k g n.name o
-      part_away (seen p u (composite s t es)) f a = a
-      part_away (seen p u (func_lit s g z b)) f a = tt
-      part_away (seen p u (int_lit s n)) f a = tt
-      part_away (seen p u (rune_lit s n)) f a = tt
-      part_away (seen p u (str_lit s n)) f a = tt
-      part_away (seen p u (index s c d)) f a = tt
-      part_away (seen p u (slice s c d e)) f a = tt
-      part_away (seen p u (call s g xs z)) f a = tt
-      part_away (seen p u (type_operand s t)) f a = tt
-      part_away (seen p u (unary s o d)) f a = tt
-      part_away (seen p u (binary s o c d)) f a = tt
-      part_away (seen p u (star s d)) f a = tt
-      part_away (seen_type p t) f a = type_away p f.inside t f.written
-      part_away (seen_stmt p s) f a = tt
+      part_away : (x : Seen S) → Fits ps home to binders ids x → PartAway ps home to names there around x
+      part_away (seen p u (ident s n)) f = name_away p f.inside n f.written
+      part_away (seen p u (selector s b n)) f = λ e t k g o. selected_seen p.env f.opens b t k g n.name o
+      part_away (seen p u (composite s t es)) f = λ e. f.opens
+      part_away (seen p u (func_lit s g z b)) f = tt
+      part_away (seen p u (int_lit s n)) f = tt
+      part_away (seen p u (rune_lit s n)) f = tt
+      part_away (seen p u (str_lit s n)) f = tt
+      part_away (seen p u (index s c d)) f = tt
+      part_away (seen p u (slice s c d e)) f = tt
+      part_away (seen p u (call s g xs z)) f = tt
+      part_away (seen p u (type_operand s t)) f = tt
+      part_away (seen p u (unary s o d)) f = tt
+      part_away (seen p u (binary s o c d)) f = tt
+      part_away (seen p u (star s d)) f = tt
+      part_away (seen_type p t) f = type_away p f.inside t f.written
+      part_away (seen_stmt p s) f = tt
 
-      pub all_away : (xs : List (Seen S)) → AllFit ps home to binders ids xs → AllAtHome home.number to xs →
-          AllAway ps home to names there around xs
-      all_away [] f a = tt
-      all_away (x ∷ xs) f a = (part_away x f.0 a.0, all_away xs f.1 a.1)
+      pub all_away : (xs : List (Seen S)) → AllFit ps home to binders ids xs → AllAway ps home to names there around xs
+      all_away [] f = tt
+      all_away (x ∷ xs) f = (part_away x f.0, all_away xs f.1)
 
 -- ---- the use
 
@@ -274,35 +272,34 @@ module _ {S : Type 0} (same : S → S → Bool) (commented : ℕ → ℕ → S �
   own_by_import s z t q k e f = own_number rs K (subst (OwnPath rs) (found_import s z t q k e f)
       (qualifier_path rs x.at x.place q k f)) home_there
 
-  module _ (f : NeedsNoImport same commented rs marks x u) (c : Here) (h : CalledAt rs ms x c) where
-    abbrev names : Names
-    names = names_of_form same commented rs marks x u
+  abbrev names : Names
+  names = names_of_form same commented rs marks x u
 
-    abbrev around : List (List ℕ)
-    around = names_of x.place.bound
+  abbrev around : List (List ℕ)
+  around = names_of x.place.bound
 
-    abbrev ids : List (List ℕ)
-    ids = form_names same commented rs marks x u v ms l
+  abbrev ids : List (List ℕ)
+  ids = form_names same commented rs marks x u v ms l
 
-    abbrev bs : List (List ℕ)
-    bs = binders same commented rs marks x u v
+  abbrev bs : List (List ℕ)
+  bs = binders same commented rs marks x u v
 
-    abbrev types : List (Seen S)
-    types = sig_seen (top rs the_call) u.callee.sig
+  abbrev types : List (Seen S)
+  types = sig_seen (top rs the_call) u.callee.sig
 
-    abbrev body : List (Seen S)
-    body = body_seen same rs the_call
+  abbrev body : List (Seen S)
+  body = body_seen same rs the_call
 
-    serves : (p : Place S) → Inside rs u.home x.at.number bs p → (k : ℕ) → Has rs u.home x.at.number bs k ids →
-        package_number rs (package_path rs k) ≡ k → Serves names c.env.names around p k
-    serves p i k e o =
-        serves_there rs x.at l.there_stands x.place bs (needed_by same commented rs marks the_call
-        (chosen_of same commented rs marks x u) LiteralForm)
-        (sym (ap imports_added (clear same commented rs marks x u).packages_are) ∙ f.none_added) k
-        (unnamed_there k ids e) o c.env.names h.outer p i
+  -- each package that stands unnamed in the form has a name that serves at a place
+  abbrev pub UnnamedServe : Here → Type 0
+  UnnamedServe c =
+      (p : Place S) → Inside rs u.home x.at.number bs p → (k : ℕ) → Has rs u.home x.at.number bs k ids →
+      package_number rs (package_path rs k) ≡ k → Serves names c.env.names around p k
 
+  module _ (imports_there : imports_are_there rs u.home ≡ true) (no_constants : AllWithoutConstants body) (c : Here)
+      (serves : UnnamedServe c) where
     fits : AllFit rs u.home x.at.number bs ids (types ++ body)
-    fits = function_fits same commented rs marks x u v ms l f.no_constants
+    fits = function_fits same commented rs marks x u v ms l no_constants
 
     no_group : (xs : List (Rattle.go_tree.specs.Tree.Param S)) → AllWithoutConstants (params_seen (top rs the_call) xs)
     no_group [] = tt
@@ -313,44 +310,53 @@ module _ {S : Type 0} (same : S → S → Bool) (commented : ℕ → ℕ → S �
     no_groups [] ys = no_group ys
     no_groups (x ∷ xs) ys = (tt, no_groups xs ys)
 
-    pub types_served : AllServed rs u.home names c.env.names around types
-    types_served = all_served rs u.home x.at.number bs ids names c.env.names around serves f.imports_there types
+    types_by : AllServed rs u.home names c.env.names around types
+    types_by = all_served rs u.home x.at.number bs ids names c.env.names around serves imports_there types
         (fit_front rs u.home x.at.number bs ids types body fits) (no_groups u.callee.sig.params u.callee.sig.results)
 
-    pub body_served : AllServed rs u.home names c.env.names around body
-    body_served = all_served rs u.home x.at.number bs ids names c.env.names around serves f.imports_there body
-        (fit_back rs u.home x.at.number bs ids types body fits) f.no_constants
+    body_by : AllServed rs u.home names c.env.names around body
+    body_by = all_served rs u.home x.at.number bs ids names c.env.names around serves imports_there body
+        (fit_back rs u.home x.at.number bs ids types body fits) no_constants
 
-    -- types select no fields
-    plain_types : (xs : List (Rattle.go_tree.specs.Tree.Param S)) →
-        AllAtHome u.home.number x.at.number (params_seen (top rs the_call) xs)
-    plain_types [] = tt
-    plain_types (y ∷ ys) = (tt, plain_types ys)
-
-    all_plain : (xs ys : List (Rattle.go_tree.specs.Tree.Param S)) →
-        AllAtHome u.home.number x.at.number (params_seen (top rs the_call) xs ++ params_seen (top rs the_call) ys)
-    all_plain [] ys = plain_types ys
-    all_plain (x ∷ xs) ys = (tt, all_plain xs ys)
-
-    away : (xs : List (Seen S)) → AllFit rs u.home x.at.number bs ids xs → AllAtHome u.home.number x.at.number xs →
+    away : (xs : List (Seen S)) → AllFit rs u.home x.at.number bs ids xs →
         AllAway rs u.home x.at.number names c.env.names around xs
-    away xs fs a = go v.called refl v.named
+    away xs fs = go v.called refl v.named
       where
         go : (e : Expr S) → v.called ≡ e → NamesCallee same commented rs marks x u v.name e →
             AllAway rs u.home x.at.number names c.env.names around xs
         go _ q (plainly {s = s} same_package) = all_here rs u.home x.at.number names c.env.names around same_package xs
         go _ q (by_import {s = s} {z = z} {t = t} {q = r} {k = k} g is_public) = all_away rs u.home x.at.number bs ids
-            names c.env.names around serves (own_by_import s z t r k q g) xs fs a
+            names c.env.names around serves (own_by_import s z t r k q g) xs fs
+
+    types_away_by : AllAway rs u.home x.at.number names c.env.names around types
+    types_away_by = away types (fit_front rs u.home x.at.number bs ids types body fits)
+
+    pub packages_by : PackagesServe rs ms x same commented marks u c
+    packages_by = record {
+      types = types_by;
+      body = body_by;
+      types_away = types_away_by;
+      body_away = away body (fit_back rs u.home x.at.number bs ids types body fits);
+    }
+
+  -- ---- where no import is added
+
+  module _ (f : NeedsNoImport same commented rs marks x u) (c : Here) (h : CalledAt rs ms x c) where
+    serves : UnnamedServe c
+    serves p i k e o =
+        serves_there rs x.at l.there_stands x.place bs (needed_by same commented rs marks the_call
+        (chosen_of same commented rs marks x u) LiteralForm)
+        (sym (ap imports_added (clear same commented rs marks x u).packages_are) ∙ f.none_added) k
+        (unnamed_there k ids e) o c.env.names h.outer p i
+
+    pub packages_serve : PackagesServe rs ms x same commented marks u c
+    packages_serve = packages_by f.imports_there f.no_constants c serves
+
+    pub types_served : AllServed rs u.home names c.env.names around types
+    types_served = packages_serve.types
+
+    pub body_served : AllServed rs u.home names c.env.names around body
+    body_served = packages_serve.body
 
     pub types_away : AllAway rs u.home x.at.number names c.env.names around types
-    types_away = away types (fit_front rs u.home x.at.number bs ids types body fits)
-        (all_plain u.callee.sig.params u.callee.sig.results)
-
-    pub packages_serve : LiteralsAtHome same commented rs marks x u → PackagesServe rs ms x same commented marks u c
-    packages_serve a = record {
-      types = types_served;
-      body = body_served;
-      types_away = types_away;
-      body_away = away body
-          (fit_back rs u.home x.at.number bs ids types body fits) a;
-    }
+    types_away = packages_serve.types_away

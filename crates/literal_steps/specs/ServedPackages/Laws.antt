@@ -39,7 +39,7 @@ use Rattle.literal_steps.specs.ServedParts.{AllServed, AllAway}
 use Rattle.literal_steps.specs.TypedParts.{ElementsTyped, AllWithoutConstants}
 use Rattle.literal_steps.specs.ServedPackages.NamedPackages.{all_named}
 use Rattle.literal_steps.specs.ServedPackages.OpenTypes.{OpenWorld, OpenPlace, AllPlacesOpen}
-use Rattle.literal_steps.specs.ServedPackages.ServedFunctions.{NeedsNoImport, LiteralsAtHome}
+use Rattle.literal_steps.specs.ServedPackages.ServedFunctions.{NeedsNoImport}
 
 -- ---- fields
 
@@ -106,8 +106,7 @@ NamedPackagesServe =
     × AllServed rs u.home (names_of_form same commented rs marks x u) c.env.names (names_of x.place.bound)
     (body_seen same rs (call_of same commented rs marks x u))
 
--- And for a use in another package the function's own package has one; so all packages serve, where the function's body
--- has no composite literals.
+-- And for a use in another package the function's own package has one; so all packages serve.
 abbrev pub OwnPackageServes : Type 0
 OwnPackageServes =
     (same : Span → Span → Bool) (commented : ℕ → ℕ → Span → Bool) (rs : List (Package Span))
@@ -117,7 +116,7 @@ OwnPackageServes =
     NeedsNoImport same commented rs marks x u → (c : Here) → CalledAt rs ms x c →
     AllAway rs u.home x.at.number (names_of_form same commented rs marks x u) c.env.names (names_of x.place.bound)
     (sig_seen (top rs (call_of same commented rs marks x u)) u.callee.sig)
-    × (LiteralsAtHome same commented rs marks x u → PackagesServe rs ms x same commented marks u c)
+    × PackagesServe rs ms x same commented marks u c
 
 -- ---- calls that need no further import
 
@@ -129,8 +128,7 @@ ServedLiteralsAreTypedAlike =
     (marks : List MarkRef)
     (x : Site Span) (u : LiteralUse same commented rs marks x) (v : PlainCall same commented rs marks x u)
     (ms : List (translated.Package Span)) → Linked rs ms x same commented marks u →
-    NeedsNoImport same commented rs marks x u → LiteralsAtHome same commented rs marks x u →
-    (c : Here) → CalledAt rs ms x c → (e : Expr Span) → u.form ≡ as_expr e →
+    NeedsNoImport same commented rs marks x u → (c : Here) → CalledAt rs ms x c → (e : Expr Span) → u.form ≡ as_expr e →
     parts c.env u.tree ≡ parts c.env e
 
 -- And under free prices the call means the literal, where the packages are ranked and the function is free.
@@ -140,8 +138,7 @@ ServedCallsMeanTheirLiterals =
     (marks : List MarkRef)
     (x : Site Span) (u : LiteralUse same commented rs marks x) (v : PlainCall same commented rs marks x u)
     (ms : List (translated.Package Span)) → Linked rs ms x same commented marks u →
-    NeedsNoImport same commented rs marks x u → LiteralsAtHome same commented rs marks x u →
-    (c : Here) → CalledAt rs ms x c → (e : Expr Span) → u.form ≡ as_expr e →
+    NeedsNoImport same commented rs marks x u → (c : Here) → CalledAt rs ms x c → (e : Expr Span) → u.form ≡ as_expr e →
     (free : FuncName → Bool) (A : ℕ) (rank : FuncName → ℕ) → Ranked (program_of (codes_of ms)) free rank →
     free (function_named (path_of (paths_in ms) u.home.number) v.name) ≡ true → (t : GoType) →
     MeanSame (program_of (codes_of ms)) free A
@@ -154,7 +151,6 @@ ServedDeferredCallsMeanTheirLiterals =
     (marks : List MarkRef)
     (x : Site Span) (u : LiteralUse same commented rs marks x) (v : PlainCall same commented rs marks x u)
     (ms : List (translated.Package Span)) → Linked rs ms x same commented marks u →
-    NeedsNoImport same commented rs marks x u → LiteralsAtHome same commented rs marks x u →
-    (c : Here) → CalledAt rs ms x c → (e : Expr Span) → u.form ≡ as_expr e → (free : FuncName → Bool)
+    NeedsNoImport same commented rs marks x u → (c : Here) → CalledAt rs ms x c → (e : Expr Span) → u.form ≡ as_expr e → (free : FuncName → Bool)
     (A : ℕ) →
     MeanSame (program_of (codes_of ms)) free A 0 (deferred_term c u.tree) (deferred_term c e)

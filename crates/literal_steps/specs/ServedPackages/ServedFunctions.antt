@@ -1,34 +1,18 @@
 -- What is asked of a marked function and of the use that becomes its literal, where no import is added (Go
--- specification, Import declarations; Constant declarations; Composite
--- literals).
-use Rattle.std.specs.Prelude.{◌≡◌, ℕ, Bool, true, List, [], ◌∷◌, is_some, slice_get}
+-- specification, Import declarations; Constant declarations).
+use Rattle.std.specs.Prelude.{◌≡◌, ℕ, Bool, true, List, [], is_some, slice_get}
 use Rattle.std.specs.List.{list_all}
-use Rattle.go_tree.specs.Tree.{composite}
 use Rattle.pkg_graph.specs.Package.{Package, import_specs}
 use Rattle.run_rules.specs.Calls.{body_seen}
 use Rattle.run_rules.specs.Naming.{imports_added}
 use Rattle.run_rules.specs.Programs.{package_number}
 use Rattle.run_rules.specs.Sites.{MarkRef, Where, Site}
-use Rattle.run_rules.specs.Surroundings.{Seen, seen}
 use Rattle.literal_steps.specs.LiteralUse.{LiteralUse, call_of}
 use Rattle.literal_steps.specs.TypedParts.{AllWithoutConstants}
 
 -- each import of a file names one of the packages
 abbrev pub imports_are_there : {S : Type 0} → List (Package S) → Where S → Bool
 imports_are_there ps w = list_all (λ s. is_some (slice_get ps (package_number ps s.path))) (import_specs w.source.tree)
-
--- What is asked besides of parts that stand in a package, where the text is to stand in another one: there are no
--- composite literals.
-module _ {S : Type 0} (home to : ℕ) where
-  -- so of a part
-  abbrev pub PartAtHome : Seen S → Type 0
-  PartAtHome (seen p u (composite s t es)) = home ≡ to
-  PartAtHome x = Unit {0}
-
-  -- so of each of a list
-  abbrev pub AllAtHome : List (Seen S) → Type 0
-  AllAtHome [] = Unit {0}
-  AllAtHome (x ∷ xs) = PartAtHome x × AllAtHome xs
 
 module _ {S : Type 0} (same : S → S → Bool) (commented : ℕ → ℕ → S → Bool) (rs : List (Package S))
     (marks : List MarkRef) (x : Site S) (u : LiteralUse same commented rs marks x) where
@@ -38,7 +22,3 @@ module _ {S : Type 0} (same : S → S → Bool) (commented : ℕ → ℕ → S �
     pub none_added : imports_added u.packages ≡ []
     pub imports_there : imports_are_there rs u.home ≡ true
     pub no_constants : AllWithoutConstants (body_seen same rs (call_of same commented rs marks x u))
-
-  -- where the use stands in another package, the function's body has no composite literals
-  abbrev pub LiteralsAtHome : Type 0
-  LiteralsAtHome = AllAtHome u.home.number x.at.number (body_seen same rs (call_of same commented rs marks x u))

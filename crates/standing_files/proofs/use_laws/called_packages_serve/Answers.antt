@@ -20,5 +20,5 @@ returns-clause-served g = λ x v f c h. (
 pub returns-clause-own : goal.returns-clause-own
 returns-clause-own g = λ x v f c h. (
   types_away x.same x.commented x.packages x.marks x.site x.becomes v x.members (use-linked x) f c h,
-  λ a. packages_serve x.same x.commented x.packages x.marks x.site x.becomes v x.members (use-linked x) f c h a,
+  packages_serve x.same x.commented x.packages x.marks x.site x.becomes v x.members (use-linked x) f c h,
 )

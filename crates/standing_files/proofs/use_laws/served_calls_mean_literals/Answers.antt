@@ -4,18 +4,18 @@ use Rattle.standing_files.proofs.UsesLinked.{use-linked}
 use Rattle.standing_files.proofs.use_laws.served_calls_mean_literals.Goals as goal
 
 pub returns-clause-typed : goal.returns-clause-typed
-returns-clause-typed g = λ x v f a c h e q.
+returns-clause-typed g = λ x v f c h e q.
     typed_alike x.same x.commented x.packages x.marks x.site x.becomes v x.members (use-linked x) c h
-    (packages_serve x.same x.commented x.packages x.marks x.site x.becomes v x.members (use-linked x) f c h a) e q
+    (packages_serve x.same x.commented x.packages x.marks x.site x.becomes v x.members (use-linked x) f c h) e q
 
 pub returns-clause-meaning : goal.returns-clause-meaning
-returns-clause-meaning g = λ x v f a c h e q free A rank ranked is_free t.
+returns-clause-meaning g = λ x v f c h e q free A rank ranked is_free t.
     means_it x.same x.commented x.packages x.marks x.site x.becomes v x.members (use-linked x) c h
-    (packages_serve x.same x.commented x.packages x.marks x.site x.becomes v x.members (use-linked x) f c h a) e q free
+    (packages_serve x.same x.commented x.packages x.marks x.site x.becomes v x.members (use-linked x) f c h) e q free
     A rank ranked is_free t
 
 pub returns-clause-deferred : goal.returns-clause-deferred
-returns-clause-deferred g = λ x v f a c h e q free A.
+returns-clause-deferred g = λ x v f c h e q free A.
     deferred_means_it x.same x.commented x.packages x.marks x.site x.becomes v x.members (use-linked x) c h
-    (packages_serve x.same x.commented x.packages x.marks x.site x.becomes v x.members (use-linked x) f c h a) e q free
+    (packages_serve x.same x.commented x.packages x.marks x.site x.becomes v x.members (use-linked x) f c h) e q free
     A

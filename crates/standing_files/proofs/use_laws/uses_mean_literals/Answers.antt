@@ -9,7 +9,7 @@ returns-clause-served g = λ x v c h y e q plain A t.
     (packages-translated x.packages x.marks x.members x.typed) plain A t
 
 pub returns-clause-home : goal.returns-clause-home
-returns-clause-home g = λ x v f a c h e q plain A t.
+returns-clause-home g = λ x v f c h e q plain A t.
     use-means x.same x.commented x.packages x.marks x.site x.becomes v x.members (use-linked x) c h
-    (packages_serve x.same x.commented x.packages x.marks x.site x.becomes v x.members (use-linked x) f c h a) e q
+    (packages_serve x.same x.commented x.packages x.marks x.site x.becomes v x.members (use-linked x) f c h) e q
     (packages-translated x.packages x.marks x.members x.typed) plain A t

@@ -1,4 +1,4 @@
-use Rattle.literal_cycles.proofs.FormCycles.BodySteps.{step-declares, body-settles}
+use Rattle.literal_cycles.proofs.FormCycles.BodySteps.{step-declares, step-imports, body-settles}
 use Rattle.literal_cycles.proofs.FormCycles.FormSteps.{calls-change, body-step, expression-step}
 use Rattle.literal_cycles.proofs.form_cycles.laws.body_steps_keep_cycles.Goals as goal
 
@@ -16,3 +16,6 @@ returns-clause-calls c = λ marks st l after n i b. calls-change marks st l afte
 
 pub returns-clause-expressions : goal.returns-clause-expressions
 returns-clause-expressions c = λ marks st l after n h s b e f i stands calls m. expression-step marks st l after n h s (calls-change marks st l after n i b) e f i stands calls m
+
+pub returns-clause-imports : goal.returns-clause-imports
+returns-clause-imports c = λ marks st l after n i b order commented sound by. step-imports marks st l after n i b order commented sound by

@@ -6,8 +6,5 @@ returns-clause-served g = λ same commented rs marks x u v ms l f c h.
     (types_served same commented rs marks x u v ms l f c h, body_served same commented rs marks x u v ms l f c h)
 
 pub returns-clause-own : goal.returns-clause-own
-returns-clause-own g = λ same commented rs marks x u v ms l f c h. (
-  types_away same commented rs marks x u v ms l f c h,
-  λ a. packages_serve same commented rs marks x u v ms l f c h
-      a,
-)
+returns-clause-own g = λ same commented rs marks x u v ms l f c h.
+    (types_away same commented rs marks x u v ms l f c h, packages_serve same commented rs marks x u v ms l f c h)

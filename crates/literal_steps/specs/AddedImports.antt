@@ -1,0 +1,4 @@
+pub mod Beside
+pub mod Added
+pub mod Files
+pub mod Laws
