@@ -12,3 +12,4 @@ pub mod ThroughLiterals
 pub mod LiteralRuns
 mod Example
 pub mod FormCycles
+pub mod BodyForms

@@ -72,7 +72,7 @@ or_turned true false = refl
 or_turned false true = refl
 or_turned false false = refl
 
-append_none : {A : Type 0} (xs : List A) → xs ++ [] ≡ xs
+pub append_none : {A : Type 0} (xs : List A) → xs ++ [] ≡ xs
 append_none [] = refl
 append_none (x ∷ xs) = ap (λ l. x ∷ l) (append_none xs)
 
@@ -92,7 +92,7 @@ module _ {S : Type 0} where
       go true e = e
       go false e = ap (λ b. bytes_eq n x.name || b) e ∙ in_turn (bytes_eq n x.name) (is_among n (names_of (not_blank xs))) (is_among n (names_of (not_blank ys)))
 
-  names_turned : (n : List ℕ) (xs ys : List (NameAt S)) → is_among n (names_of (not_blank (xs ++ ys))) ≡ is_among n (names_of (not_blank (ys ++ xs)))
+  pub names_turned : (n : List ℕ) (xs ys : List (NameAt S)) → is_among n (names_of (not_blank (xs ++ ys))) ≡ is_among n (names_of (not_blank (ys ++ xs)))
   names_turned n xs ys = names_apart n xs ys ∙ or_turned (is_among n (names_of (not_blank xs))) (is_among n (names_of (not_blank ys))) ∙ sym (names_apart n ys xs)
 
   -- `_` in the place of a name that is left out declares nothing

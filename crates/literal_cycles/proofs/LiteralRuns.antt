@@ -20,8 +20,11 @@ use Rattle.order_runs.proofs.CycleRuns.OrderedSteps.Modules.{package-at}
 use Rattle.order_runs.proofs.CycleRuns.Runs.{step-linked, writes-of, one-step}
 use Rattle.literal_cycles.specs.FormCycles.Runs.{puts_what_stood, changes_a_body}
 use Rattle.literal_cycles.proofs.FormCycles.FormSteps.{body-step}
-use Rattle.literal_cycles.specs.Runs.{KeepsCycles, gives_way, puts_literal, AllKeepCycles}
+use Rattle.literal_cycles.specs.Runs.{KeepsCycles, gives_way, puts_literal, puts_body, puts_block, puts_expression, AllKeepCycles}
 use Rattle.literal_cycles.proofs.ThroughLiterals.{literal_step}
+use Rattle.literal_cycles.proofs.BodyForms.StepsPut.{body_step}
+use Rattle.literal_cycles.proofs.BodyForms.StepsBound.{block_step}
+use Rattle.literal_cycles.proofs.BodyForms.StepsExpressions.{expression_step}
 
 -- ---- files by their numbers, as a module is read
 
@@ -48,6 +51,9 @@ one_way : (marks : List MarkRef) (st : Standing) (l : Logged) (after : Standing)
 one_way marks st l after n h reads s (gives_way (puts_what_stood p)) m = one-step marks st l after n h s p m
 one_way marks st l after n h reads s (gives_way (changes_a_body b c)) m = body-step marks st l after n h s b c m
 one_way marks st l after n h reads s (puts_literal b k) m = literal_step marks st l after n k h reads s b m
+one_way marks st l after n h reads s (puts_body b k) m = body_step marks st l after n k h reads s b m
+one_way marks st l after n h reads s (puts_block b k) m = block_step marks st l after n k h reads s b m
+one_way marks st l after n h reads s (puts_expression b k) m = expression_step marks st l after n k h reads s b m
 
 run_keeps : (marks : List MarkRef) (st last : Standing) (log : List Logged) (run : Run marks st log last) → Linked st.packages → ProgramReads st → OnePathEach st.packages → AllKeepCycles run → (m : MarkRef) → is_recursive st.packages marks m ≡ is_recursive last.packages marks m
 run_keeps marks _ _ _ (ends st over) h reads one a m = refl

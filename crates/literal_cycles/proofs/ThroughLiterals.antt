@@ -59,7 +59,7 @@ in_front b xs ys e = list_any-append (same_mark b) xs ys ∙ or_left (is_among_m
 in_back : (b : MarkRef) (xs ys : List MarkRef) → is_among_marks ys b ≡ true → is_among_marks (xs ++ ys) b ≡ true
 in_back b xs ys e = list_any-append (same_mark b) xs ys ∙ or_right (is_among_marks xs b) (is_among_marks ys b) e
 
-only_mark : (b m : MarkRef) → (same_mark b m || false) ≡ true → b ≡ m
+pub only_mark : (b m : MarkRef) → (same_mark b m || false) ≡ true → b ≡ m
 only_mark b m e = of (same_mark b m) refl e
   where
     of : (t : Bool) → same_mark b m ≡ t → (t || false) ≡ true → b ≡ m

@@ -34,17 +34,17 @@ use Rattle.order_runs.proofs.CycleLaws.Walked.{callee-env, literal-place}
 use Rattle.literal_cycles.proofs.Along.{AllPlain, front, back, last_part, unless, NamesAgree, Along, along_block, along_more, beside}
 use Rattle.literal_cycles.proofs.Callees.{callee_there}
 
-into_back : (o : Option GoType) → into_type (into_or o) ≡ o
+pub into_back : (o : Option GoType) → into_type (into_or o) ≡ o
 into_back None = refl
 into_back (Some t) = refl
 
-either_none : (b : Bool) (xs ys : List MarkRef) → b ≡ true → (if b then [] else xs) ≡ (if b then [] else ys)
+pub either_none : (b : Bool) (xs ys : List MarkRef) → b ≡ true → (if b then [] else xs) ≡ (if b then [] else ys)
 either_none true xs ys e = refl
 either_none false xs ys e = absurd (grind (arith, e))
 
 module _ {S : Type 0} where
   -- an element in braces alone stands in no struct
-  elem_into : (a : Env) (u : Option GoType) (i : ℕ) (k : ValueOption S) → is_some (given u (inner_type (defined_in a))) ≡ true → into_type (elem_use a u i k) ≡ given u (inner_type (defined_in a))
+  pub elem_into : (a : Env) (u : Option GoType) (i : ℕ) (k : ValueOption S) → is_some (given u (inner_type (defined_in a))) ≡ true → into_type (elem_use a u i k) ≡ given u (inner_type (defined_in a))
   elem_into a None i k e = refl
   elem_into a (Some u) i k e = go u e
     where

@@ -86,8 +86,8 @@ LiteralStepsKeepCycles =
     → (m : MarkRef)
     → is_recursive st.packages marks m ≡ is_recursive after.packages marks m
 
--- So does each run, from files that read as a module, of steps that settle their files and put such literals, or give
--- way as form_cycles has it.
+-- So does each run, from files that read as a module, of steps that settle their files and put such literals, or bodies
+-- as body_forms has it, or give way as form_cycles has it.
 abbrev pub RunsKeepCycles : Type 0
 RunsKeepCycles =
     (files : List Source) (ps : List (Package Span)) (texts : List (List ℕ × FileText)) (marks : List MarkRef)

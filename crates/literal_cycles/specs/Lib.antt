@@ -4,3 +4,4 @@ pub mod Uses
 pub mod Runs
 pub mod Laws
 pub mod FormCycles
+pub mod BodyForms

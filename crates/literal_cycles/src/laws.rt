@@ -30,8 +30,8 @@ pub fn literal_steps_keep_cycles()
     ensures kept { law.LiteralStepsKeepCycles }
 {}
 
-/// So does each run of such steps, and of steps that give way as form_cycles has it, from files that read
-/// as a module.
+/// So does each run of such steps, of steps that put bodies as body_forms has it, and of steps that give
+/// way as form_cycles has it, from files that read as a module.
 pub fn literal_runs_keep_cycles()
     ensures { law.RunsKeepCycles }
 {

@@ -27,13 +27,13 @@ append-none : {A : Type 0} (xs : List A) → xs ++ [] ≡ xs
 append-none [] = refl
 append-none (x ∷ xs) = λ v. x ∷ append-none xs v
 
-of-both : (b : MarkRef) (xs ys : List MarkRef) → is_among_marks (xs ++ ys) b ≡ true → (is_among_marks xs b ≡ true) ⊎ (is_among_marks ys b ≡ true)
+pub of-both : (b : MarkRef) (xs ys : List MarkRef) → is_among_marks (xs ++ ys) b ≡ true → (is_among_marks xs b ≡ true) ⊎ (is_among_marks ys b ≡ true)
 of-both b xs ys e = or_cases (is_among_marks xs b) (is_among_marks ys b) (sym (list_any-append (same_mark b) xs ys) ∙ e)
 
-in-front : (b : MarkRef) (xs ys : List MarkRef) → is_among_marks xs b ≡ true → is_among_marks (xs ++ ys) b ≡ true
+pub in-front : (b : MarkRef) (xs ys : List MarkRef) → is_among_marks xs b ≡ true → is_among_marks (xs ++ ys) b ≡ true
 in-front b xs ys e = list_any-append (same_mark b) xs ys ∙ or_left (is_among_marks xs b) (is_among_marks ys b) e
 
-in-back : (b : MarkRef) (xs ys : List MarkRef) → is_among_marks ys b ≡ true → is_among_marks (xs ++ ys) b ≡ true
+pub in-back : (b : MarkRef) (xs ys : List MarkRef) → is_among_marks ys b ≡ true → is_among_marks (xs ++ ys) b ≡ true
 in-back b xs ys e = list_any-append (same_mark b) xs ys ∙ or_right (is_among_marks xs b) (is_among_marks ys b) e
 
 module _ (ps : List (Package At)) (marks : List MarkRef) (v : Where At) (at : ℕ) (m : MarkRef) (q : Place At) where
@@ -50,12 +50,12 @@ module _ (ps : List (Package At)) (marks : List MarkRef) (v : Where At) (at : �
   names-none env b (expr_and e es) h = absurd h
 
   -- a statement that is an expression or returns it calls what the expression does
-  held-call : (x : Expr At) (t : Stmt At) → Holds x t → calls_stmt C q.env bound t ≡ calls_expr C q.env bound x
+  pub held-call : (x : Expr At) (t : Stmt At) → Holds x t → calls_stmt C q.env bound t ≡ calls_expr C q.env bound x
   held-call x _ (is_it z) = append-none (calls_expr C q.env bound x)
   held-call x _ (returns_it z) = append-none (calls_expr C q.env bound x ++ []) ∙ append-none (calls_expr C q.env bound x)
 
   -- a statement that binds values calls what they do
-  binding-calls : (env : Env) (b : List (List ℕ)) (values : Exprs At) (t : Stmt At) → Binds values t → calls_stmt C env b t ≡ calls_all C env b values
+  pub binding-calls : (env : Env) (b : List (List ℕ)) (values : Exprs At) (t : Stmt At) → Binds values t → calls_stmt C env b t ≡ calls_all C env b values
   binding-calls env b values _ (to_new_names z ns) = append-none (calls_all C env b values)
   binding-calls env b values _ (to_blanks z es h) = (λ i. (names-none env b es h i ++ calls_all C env b values) ++ []) ∙ append-none (calls_all C env b values)
 
@@ -80,22 +80,22 @@ module _ (ps : List (Package At)) (marks : List MarkRef) (v : Where At) (at : �
 
   module _ (x : Expr At) (k : NamesFunction ps marks v m q x) where
     -- what the receiver and the arguments call
-    abbrev args_call : List MarkRef
+    abbrev pub args_call : List MarkRef
     args_call = calls_expr C q.env bound k.name ++ calls_all C q.env bound k.args
 
     own-is : called_by C (callee C q.env bound k.name) ≡ m ∷ []
     own-is = ap (called_by C) (sym (callee-is ps marks v q k.name) ∙ k.names) ∙ (λ z. if k.marked_function z then m ∷ [] else [])
 
-    call-calls : calls_expr C q.env bound x ≡ args_call ++ m ∷ []
+    pub call-calls : calls_expr C q.env bound x ≡ args_call ++ m ∷ []
     call-calls = ap (calls_expr C q.env bound) k.is_call ∙ (λ z. args_call ++ own-is z)
 
     -- what the values call at a place with the same names
-    values-call : (there : Place At) → names_of there.bound ≡ bound → (values : Exprs At) → CallsArguments ps marks v q there k.name k.args values → calls_all C there.env bound values ≡ args_call
+    pub values-call : (there : Place At) → names_of there.bound ≡ bound → (values : Exprs At) → CallsArguments ps marks v q there k.name k.args values → calls_all C there.env bound values ≡ args_call
     values-call there h values a =
         sym (all-led ps marks v at there bound h [] values) ∙ a at
         ∙ (λ z. expr-led ps marks v at q bound refl other k.name z ++ all-led ps marks v at q bound refl [] k.args z)
 
-    only : (b : MarkRef) → (same_mark b m || false) ≡ true → b ≡ m
+    pub only : (b : MarkRef) → (same_mark b m || false) ≡ true → b ≡ m
     only b e = of (same_mark b m) refl e
       where
         of : (t : Bool) → same_mark b m ≡ t → (t || false) ≡ true → b ≡ m

@@ -1,0 +1,4 @@
+pub mod Uses
+pub mod Arguments
+pub mod Steps
+pub mod Laws
