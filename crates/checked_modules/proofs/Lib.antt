@@ -7,3 +7,4 @@ pub mod FirstLemmas
 pub mod ModuleLemmas
 pub mod FilePlaces
 pub mod RefusedBodies
+pub mod FunctionBodies

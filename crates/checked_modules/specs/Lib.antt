@@ -7,3 +7,4 @@ pub mod Firsts
 pub mod Modules
 pub mod FilePlaces
 pub mod RefusedBodies
+pub mod FunctionBodies

@@ -6,6 +6,7 @@
 mod bodies;
 pub mod file_places;
 mod firsts;
+pub mod function_bodies;
 mod modules;
 pub mod refused_bodies;
 mod uses;

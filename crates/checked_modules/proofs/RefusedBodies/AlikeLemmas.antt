@@ -10,7 +10,7 @@ use Rattle.go_tree.specs.GoTypes.Types.{GoType, base_of}
 use Rattle.go_tree.specs.GoTypes.Entities as go
 use Rattle.go_tree.specs.GoTypes.Entities.{Place, World, block_of, exported, in_block, is_exported, meaning, universe}
 use Rattle.go_tree.specs.GoTypes.Operands.{Operand, Typed, a_function, plain_value}
-use Rattle.go_tree.specs.GoTypes.Primary.{call_of, field_type, home_of, is_addressable, method_of, method_value, sees, selected}
+use Rattle.go_tree.specs.GoTypes.Primary.{call_of, home_of, is_addressable, method_of, method_value, sees, selected}
 use Rattle.go_tree.specs.GoTypes.Bodies.{is_body}
 use Rattle.go_tree.specs.GoTypes.Programs.{Headed, env_of}
 use Rattle.type_table.specs.TypeRelations.Environment.{Environment}
@@ -27,11 +27,12 @@ use Rattle.checked_modules.specs.RefusedBodies.Laws.{TablesTellOfPrinters}
 use Rattle.checked_modules.proofs.RefusedBodies.PrintLemmas.{and_both, printers_typed, printing_alike}
 use Rattle.checked_modules.specs.RefusedBodies.Worlds.{FindsTheSame}
 
-module _ (left right : World) (same : FindsTheSame left right) where
-  abbrev bare : World → World
-  bare w = record w { blocks = [] }
+-- a world without its package blocks
+abbrev pub bare : World → World
+bare w = record w { blocks = [] }
 
-  rules : SameRules (bare left) (bare right)
+module _ (left right : World) (same : FindsTheSame left right) where
+  pub rules : SameRules (bare left) (bare right)
   rules = record { under = same.under; comparable = same.comparable; keys = same.keys; blocks = λ p. refl }
 
   method_same :

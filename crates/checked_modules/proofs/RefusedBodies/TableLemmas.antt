@@ -53,7 +53,7 @@ module _ (ds : List Defined) (same : (t : GoType) → under ds t ≡ t) where
 
 -- ---- methods in the tables
 
-abbrev Found : List TypeNode → List Definition → ℕ → List ℕ → Type 0
+abbrev pub Found : List TypeNode → List Definition → ℕ → List ℕ → Type 0
 Found rows xs p n =
     (t : ℕ) × (t < length rows) × (slice_get rows t ≡ Some (named_node p n)) × (is_defined xs t ≡ true)
 
@@ -70,7 +70,7 @@ module _ (rows : List TypeNode) (ms : List (ℕ × List MethodRow)) (p : ℕ) (n
       by true e = refl
       by false e = e
 
-  found :
+  pub found :
       (xs : List Definition) → AreDefinitions rows xs →
       (find_defined (map (defined_at rows ms) xs) p n ≡ None) ⊎ Found rows xs p n
   found [] a = inl refl

@@ -1,0 +1,5 @@
+pub mod HeaderLemmas
+pub mod StartLemmas
+pub mod FoundSame
+pub mod WorldLemmas
+pub mod TableLemmas

@@ -1,0 +1,4 @@
+pub mod Headers
+pub mod Receivers
+pub mod Starts
+pub mod Laws
