@@ -20,7 +20,7 @@ use Rattle.run_rules.specs.FormTrees.{ExprForm, as_expr, one_expr, conversion}
 use Rattle.run_rules.specs.Steps.{At, same_here}
 use Rattle.run_rules.proofs.CaseTools.{mark}
 use Rattle.order_runs.proofs.CycleLaws.ConstantCycles.Examples.{node}
-use Rattle.literal_cycles.specs.BodyForms.Uses.{CalledUse, call_of, chosen_of, Becomes, names_for, plainly, LinkedUse, BodyServed, NamedCall, TypedBlock, ConvertsNothing}
+use Rattle.literal_cycles.specs.BodyForms.Uses.{CalledUse, call_of, chosen_of, Becomes, names_for, plainly, LinkedUse, BodyServed, NamedCall, TypedBlock, ConvertsToType}
 use Rattle.std.specs.Prelude.{is_some}
 use Rattle.go_tree.proofs.GoTypes.Agreeing.{some_same}
 use Rattle.run_rules.specs.Places.{expr_seen}
@@ -114,8 +114,8 @@ its_expression : one_expr add_use.callee.body ≡ Some (true, the_value)
 unfolding add_use
 its_expression = refl
 
-converts_nothing : ConvertsNothing same_here no_comments rs marks use_of_add add_use
-converts_nothing q e = only converts_here (true, the_value) q false nothing_converted (sym its_expression ∙ e)
+converts_nothing : ConvertsToType same_here no_comments rs marks use_of_add add_use
+converts_nothing q e v t r = absurd (grind (arith, sym (only converts_here (true, the_value) q false nothing_converted (sym its_expression ∙ e)) ∙ v))
 
 -- 3, or int(3)
 abbrev argument : Bool → Expr At
@@ -150,7 +150,7 @@ add_puts = record {
   value = the_value;
   one = refl;
   flat = ((tt, (tt, tt)), tt);
-  unconverted = converts_nothing;
+  conversion = converts_nothing;
   callees = λ w. (tt, (tt, (refl, (tt, (tt, tt)))));
   arguments = arguments_call;
 }

@@ -10,11 +10,11 @@ use Rattle.go_tree.specs.GoTypes.Answers.{given, otherwise}
 use Rattle.go_tree.proofs.GoTypes.Agreeing.{from_given, some_same}
 use Rattle.run_rules.specs.Surroundings.{Use, called, returned, other, Place, in_slot, inner_slot, callee_place, Seen, seen}
 use Rattle.run_rules.specs.Places.{expr_seen, all_seen, option_seen}
-use Rattle.run_rules.specs.Sites.{MarkRef, is_among_marks, Where, Site, a_function}
+use Rattle.run_rules.specs.Sites.{MarkRef, is_among_marks, Where, Site, a_function, called_mark}
 use Rattle.run_rules.specs.Naming.{Names, member_qualifier, import_qualifier}
 use Rattle.run_rules.specs.Rewriting.{new_all, new_option}
 use Rattle.run_rules.specs.Calls.{Call, func_type_is, start, start_with}
-use Rattle.run_rules.specs.FormTrees.{ExprForm, Form, as_expr, as_dropped, is_statement, one_expr, a_name, outside_name}
+use Rattle.run_rules.specs.FormTrees.{ExprForm, Form, as_expr, as_dropped, is_statement, type_expr, one_expr, a_name, outside_name}
 use Rattle.run_rules.specs.Forms as forms
 use Rattle.run_rules.specs.Forms.{chosen_arg, param_number, form_tree, expr_tree, value_converts, converted_value, result_text, is_statement_call}
 use Rattle.run_rules.specs.Steps.{At, same_here}
@@ -30,7 +30,7 @@ use Rattle.literal_cycles.proofs.FormCycles.BlockCalls.{of-both, in-front, in-ba
 use Rattle.literal_cycles.specs.BodyForms.Uses.{IsExpression, alone, dropped, CalledUse, call_of, chosen_of, names_for}
 use Rattle.literal_cycles.specs.BodyForms.Arguments.{IsFlat, AllFlat, OptionFlat, written_for, CalleeNamed, AllCalleesNamed, PutsArguments}
 use Rattle.literal_cycles.proofs.BodyForms.FreeForms.{free_form}
-use Rattle.literal_cycles.proofs.BodyForms.FormsWritten.{apart, is_block, expr_in}
+use Rattle.literal_cycles.proofs.BodyForms.FormsWritten.{apart, conversion_calls, is_block, expr_in}
 
 module _ (commented : ℕ → ℕ → At → Bool) (rs : List (Package At)) (marks : List MarkRef) (x : Site At) (u : CalledUse same_here commented rs marks x) (k : PutsArguments commented rs marks x u) (at : ℕ) where
   abbrev c : Call At
@@ -173,10 +173,10 @@ module _ (commented : ℕ → ℕ → At → Bool) (rs : List (Package At)) (mar
   one_calls b q i = apart (ap is_some i)
 
   -- the form's expression is that one, written at the call
-  converted_none : (o : Option (TypeExpr At)) (b : Bool) (e : Expr At) → b ≡ false → converted_value same_here rs c nm ch o b e ≡ e
-  converted_none None b e i = refl
-  converted_none (Some t) false e i = refl
-  converted_none (Some t) true e i = apart (sym i)
+  converted_calls : (o : Option (TypeExpr At)) (b : Bool) (e : Expr At) → (b ≡ true → (t : TypeExpr At) → o ≡ Some t → called_mark rs marks x.at x.place (type_expr c.new t) ≡ None) → E (converted_value same_here rs c nm ch o b e) ≡ E e
+  converted_calls None b e i = refl
+  converted_calls (Some t) false e i = refl
+  converted_calls (Some t) true e i = conversion_calls D x.place.env around c.new t e (sym (callee-is rs marks x.at x.place (type_expr c.new t)) ∙ i refl t refl)
 
   abbrev value : Use → Expr At
   value w = forms.new_value same_here rs c nm ch w k.value
@@ -187,11 +187,11 @@ module _ (commented : ℕ → ℕ → At → Bool) (rs : List (Package At)) (mar
   tree_comes : (d : Expr At) → Comes (E (expr_in d (expr_tree same_here rs c nm ch (k.returned_value, k.value)))) (leads_to rs marks x.mark)
   tree_comes d = go (is_statement c.use_) (is_statement_call same_here rs c nm ch k.value)
     where
-      plain : forms.written_value same_here rs c nm ch k.value ≡ value (returned (func_type_is same_here rs c).results)
-      plain = converted_none (result_text same_here rs c nm ch) (value_converts same_here rs c nm ch k.value) (value (returned (func_type_is same_here rs c).results)) (k.unconverted (k.returned_value, k.value) k.one)
+      plain : E (forms.written_value same_here rs c nm ch k.value) ≡ E (value (returned (func_type_is same_here rs c).results))
+      plain = converted_calls (result_text same_here rs c nm ch) (value_converts same_here rs c nm ch k.value) (value (returned (func_type_is same_here rs c).results)) (k.conversion (k.returned_value, k.value) k.one)
 
       unchanged : Comes (E (forms.written_value same_here rs c nm ch k.value)) (leads_to rs marks x.mark)
-      unchanged = subst (λ e. Comes (E e) (leads_to rs marks x.mark)) (sym plain) (its_comes (returned (func_type_is same_here rs c).results))
+      unchanged = subst (λ l. Comes l (leads_to rs marks x.mark)) (sym plain) (its_comes (returned (func_type_is same_here rs c).results))
 
       go : (a b : Bool) → Comes (E (expr_in d (if a then (if b then as_expr (value other) else as_dropped (forms.written_value same_here rs c nm ch k.value)) else as_expr (forms.written_value same_here rs c nm ch k.value)))) (leads_to rs marks x.mark)
       go true true = its_comes other

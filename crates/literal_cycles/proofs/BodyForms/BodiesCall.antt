@@ -1,7 +1,7 @@
 -- What a call of a function without parameters becomes calls what the function leads to.
-use Rattle.std.proofs.Common.{◌≡◌, refl, sym, ap, ◌∙◌, inr, ℕ, Bool, true, List, [], ◌∷◌, ◌++◌, if◌then◌else◌}
+use Rattle.std.proofs.Common.{◌≡◌, refl, sym, ap, ◌∙◌, inr, ℕ, Bool, true, List, [], ◌∷◌, ◌++◌, Some, None, if◌then◌else◌}
 use Rattle.go_tree.specs.declared.exprs.Rest.TheVariants.{Plain}
-use Rattle.go_tree.specs.Tree.{Expr, Stmts, call}
+use Rattle.go_tree.specs.Tree.{TypeExpr, Expr, Stmts, call}
 use Rattle.go_tree.specs.ScopeNames.FreeNames.{names_of}
 use Rattle.pkg_graph.specs.Package.{Package}
 use Rattle.go_tree.specs.GoTypes.Answers.{meets}
@@ -11,7 +11,8 @@ use Rattle.run_rules.specs.Surroundings.{other, Place, block}
 use Rattle.run_rules.specs.Places.{expr_seen, stmts_seen}
 use Rattle.run_rules.specs.Programs.{body_place}
 use Rattle.run_rules.specs.Sites.{MarkRef, is_among_marks, Where, Site, inlinable, is_function, expr_mark}
-use Rattle.run_rules.specs.FormTrees.{FormKind, ExprForm, as_block}
+use Rattle.run_rules.specs.FormTrees.{FormKind, ExprForm, as_block, type_expr, one_expr}
+use Rattle.run_rules.specs.Forms.{value_converts, result_text}
 use Rattle.run_rules.specs.Steps.{At, same_here}
 use Rattle.run_rules.specs.Cycles.{leads_to}
 use Rattle.order_runs.specs.CycleLaws.PutCalls.{called_among}
@@ -20,7 +21,7 @@ use Rattle.order_runs.proofs.CycleLaws.Walked.{callees, callee-is, expr-led, stm
 use Rattle.order_runs.proofs.CycleRuns.LiteralCalls.Through.{body-led}
 use Rattle.literal_cycles.specs.FormCycles.Puts.{ExprCallsThrough}
 use Rattle.literal_cycles.specs.Uses.{place_of_use}
-use Rattle.literal_cycles.specs.BodyForms.Uses.{IsExpression, NamesCallee, plainly, by_import, TypedForm, ConvertsNothing}
+use Rattle.literal_cycles.specs.BodyForms.Uses.{IsExpression, NamesCallee, plainly, by_import, TypedForm, call_of, chosen_of, names_for, ConvertsToType}
 use Rattle.literal_cycles.proofs.BodyForms.FunctionWritten as written
 use Rattle.literal_cycles.proofs.BodyForms.FunctionWritten.{nth_decl, body_there}
 use Rattle.literal_cycles.proofs.BodyForms.FormsWritten.{block_calls, expr_calls}
@@ -50,10 +51,18 @@ module _ (commented : ℕ → ℕ → At → Bool) (rs : List (Package At)) (mar
   blocks_call b q at =
       stmts-led rs marks x.at at (block x.place) around refl b ∙ block_calls same_here commented rs marks x u.use_ u.bare u.linked k u.becomes here u.stands u.served b q ∙ body_led
 
-  pub expressions_call : k ≡ ExprForm → ConvertsNothing same_here commented rs marks x u.use_ → (e : Expr At) → IsExpression e u.becomes.form → (at : ℕ) → called_among rs marks x.at at (expr_seen x.place other e) ≡ leads_to rs marks x.mark
+  to_type : k ≡ ExprForm → ConvertsToType same_here commented rs marks x u.use_ → (q : Bool × Expr At) → one_expr u.use_.callee.body ≡ Some q
+      → value_converts same_here rs (call_of same_here commented rs marks x u.use_) (names_for same_here commented rs marks x u.use_ k) (chosen_of same_here commented rs marks x u.use_) q.1 ≡ true → (t : TypeExpr At)
+      → result_text same_here rs (call_of same_here commented rs marks x u.use_) (names_for same_here commented rs marks x u.use_ k) (chosen_of same_here commented rs marks x u.use_) ≡ Some t
+      → callee D x.place.env around (type_expr (call_of same_here commented rs marks x u.use_).new t) ≡ None
+  to_type i n q j v t r =
+      sym (callee-is rs marks x.at x.place (type_expr (call_of same_here commented rs marks x u.use_).new t))
+      ∙ n q j v t (ap (λ k. result_text same_here rs (call_of same_here commented rs marks x u.use_) (names_for same_here commented rs marks x u.use_ k) (chosen_of same_here commented rs marks x u.use_)) (sym i) ∙ r)
+
+  pub expressions_call : k ≡ ExprForm → ConvertsToType same_here commented rs marks x u.use_ → (e : Expr At) → IsExpression e u.becomes.form → (at : ℕ) → called_among rs marks x.at at (expr_seen x.place other e) ≡ leads_to rs marks x.mark
   expressions_call i n e f at =
       expr-led rs marks x.at at x.place around refl other e
-      ∙ expr_calls same_here commented rs marks x u.use_ u.bare u.linked k u.becomes here u.stands u.served i n e f ∙ body_led
+      ∙ expr_calls same_here commented rs marks x u.use_ u.bare u.linked k u.becomes here u.stands u.served i (λ q j v t r. to_type i n q j v t r) e f ∙ body_led
 
   -- ---- what the call calls
 
@@ -72,7 +81,7 @@ module _ (commented : ℕ → ℕ → At → Bool) (rs : List (Package At)) (mar
   call_calls at =
       expr-led rs marks x.at at x.place around refl other u.use_.tree ∙ ap (calls_expr D x.place.env around) (u.bare.named.tree_is ∙ ap (λ es. call u.bare.named.span u.bare.named.called es Plain) u.bare.no_args) ∙ (λ z. name_calls u.bare.named.called u.bare.named.named z ++ [] ++ own_is z)
 
-  pub expressions_through : k ≡ ExprForm → ConvertsNothing same_here commented rs marks x u.use_ → (e : Expr At) → IsExpression e u.becomes.form → (at : ℕ) → ExprCallsThrough rs marks x.at at x.mark x.place e u.use_.tree
+  pub expressions_through : k ≡ ExprForm → ConvertsToType same_here commented rs marks x u.use_ → (e : Expr At) → IsExpression e u.becomes.form → (at : ℕ) → ExprCallsThrough rs marks x.at at x.mark x.place e u.use_.tree
   expressions_through i n e f at = record {
     comes = λ b h. inr (sym (ap (λ (ms : List MarkRef). is_among_marks ms b) (expressions_call i n e f at)) ∙ h);
     stays = λ b h. inr (only_mark b x.mark (sym (ap (λ (ms : List MarkRef). is_among_marks ms b) (call_calls at)) ∙ h));

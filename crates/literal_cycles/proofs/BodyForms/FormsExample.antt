@@ -34,7 +34,7 @@ use Rattle.order_runs.proofs.CycleLaws.ConstantCycles.Examples.{node}
 use Rattle.literal_steps.specs.CalledAt.{CalledAt}
 use Rattle.literal_steps.proofs.PartsHere.{all_here}
 use Rattle.literal_cycles.specs.Uses.{place_of_use}
-use Rattle.literal_cycles.specs.BodyForms.Uses.{CalledUse, call_of, chosen_of, Becomes, names_for, ConvertsNothing, plainly, BareCall, LinkedUse, BodyServed, TypedForm}
+use Rattle.literal_cycles.specs.BodyForms.Uses.{CalledUse, call_of, chosen_of, Becomes, names_for, ConvertsToType, plainly, BareCall, LinkedUse, BodyServed, TypedForm}
 use Rattle.literal_cycles.specs.BodyForms.Uses as form_of
 use Rattle.literal_cycles.specs.BodyForms.Steps.{AllStayThere}
 use Rattle.literal_cycles.proofs.BodyForms.BodiesCall.{blocks_call, expressions_call}
@@ -179,8 +179,8 @@ its_expression : one_expr two_use.callee.body ≡ Some (true, more_than_one node
 unfolding two_use
 its_expression = refl
 
-converts_nothing : ConvertsNothing same_here no_comments rs marks printed two_use
-converts_nothing q e = only converts (true, more_than_one node) q false nothing_converted (sym its_expression ∙ e)
+converts_nothing : ConvertsToType same_here no_comments rs marks printed two_use
+converts_nothing q e v t r = absurd (grind (arith, sym (only converts (true, more_than_one node) q false nothing_converted (sym its_expression ∙ e)) ∙ v))
 
 -- by the law alone: what is printed calls `one`, as `two` does
 two_calls : called_among rs marks here 4 (expr_seen printed.place other (more_than_one (all_at (node 54)))) ≡ mark 0 0 1 0 ∷ []

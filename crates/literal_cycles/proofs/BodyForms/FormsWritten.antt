@@ -23,13 +23,13 @@ use Rattle.run_rules.specs.Programs.{numbered, with_receiver, param_types}
 use Rattle.run_rules.specs.Rewriting.{Changes, new_expr, new_stmts}
 use Rattle.run_rules.specs.Sites.{MarkRef, Site, qualifier}
 use Rattle.run_rules.specs.Calls.{Given, Call, func_type_is, givens, args, start, start_with, chosen_binds, bound_from, bound_params, given_params, all_params, spread_call, declared_place}
-use Rattle.run_rules.specs.FormTrees.{FormKind, ExprForm, BlockForm, TailForm, LiteralForm, ConstForm, TypeForm, Form, as_expr, as_dropped, as_block, as_type, is_statement, one_expr, outside_name}
+use Rattle.run_rules.specs.FormTrees.{FormKind, ExprForm, BlockForm, TailForm, LiteralForm, ConstForm, TypeForm, Form, as_expr, as_dropped, as_block, as_type, is_statement, type_expr, conversion, one_expr, outside_name}
 use Rattle.run_rules.specs.Forms as forms
 use Rattle.run_rules.specs.Forms.{body_changes, chosen_arg, param_number, new_body, form_tree, expr_tree, value_converts, converted_value, result_text, with_binding, is_statement_call}
 use Rattle.literal_steps.specs.AlikeChanges.{AllAlike}
 use Rattle.literal_steps.specs.CalledAt.{CalledAt}
 use Rattle.literal_steps.proofs.WalksBare.{expr-bare, stmts-bare}
-use Rattle.order_runs.proofs.CycleLaws.Called.{Callees, calls_expr, calls_stmts}
+use Rattle.order_runs.proofs.CycleLaws.Called.{Callees, called_by, callee, calls_expr, calls_stmts}
 use Rattle.order_runs.proofs.CycleLaws.CallsBare.{expr-calls-bare, stmts-calls-bare}
 use Rattle.order_runs.proofs.CycleLaws.Walked.{callees}
 use Rattle.literal_cycles.specs.BodyForms.Uses.{IsExpression, alone, dropped, CalledUse, call_of, chosen_of, Becomes, names_for, BareCall, LinkedUse, BodyServed}
@@ -53,6 +53,22 @@ module _ {S : Type 0} (site : Landing) (puts : site.puts ≡ false) where
   alone_there (body_and (s_eval w ws) body_none) = w_call w ws
   alone_there (body_and (s_eval_into b w q ws) body_none) = absurd (grind (arith, sym b ∙ puts))
   alone_there (body_and (s_eval_whole b w q i ws) body_none) = absurd (grind (arith, sym b ∙ puts))
+
+-- ---- a conversion
+
+-- a type as an expression holds no call
+type_none : {S : Type 0} (D : Callees) (env : Env) (b : List (List ℕ)) (z : S) (t : TypeExpr S) → calls_expr D env b (type_expr z t) ≡ []
+type_none D env b z (named s None n) = refl
+type_none D env b z (named s (Some q) n) = refl
+type_none D env b z (pointer s t) = λ i. type_none D env b z t i ++ []
+type_none D env b z (slice_type s t) = refl
+type_none D env b z (map_type s k t) = refl
+type_none D env b z (struct_type s fs) = refl
+
+-- a conversion to a type that names no function calls what is converted
+pub conversion_calls : {S : Type 0} (D : Callees) (env : Env) (b : List (List ℕ)) (z : S) (t : TypeExpr S) (e : Expr S) → callee D env b (type_expr z t) ≡ None → calls_expr D env b (conversion z t e) ≡ calls_expr D env b e
+conversion_calls D env b z t e h =
+    (λ i. (type_none D env b z t i ++ (calls_expr D env b e ++ [])) ++ called_by D (h i)) ∙ (append_none (calls_expr D env b e ++ []) ∙ append_none (calls_expr D env b e))
 
 abbrev pub is_block : {S : Type 0} → Form S → Bool
 is_block (as_block b) = true
@@ -222,24 +238,27 @@ module _ {S : Type 0} (same : S → S → Bool) (commented : ℕ → ℕ → S �
   one_calls b q i g j t = apart (ap Rattle.std.specs.Prelude.is_some i)
 
   -- the form's expression is that one, written at the call
-  converted_none : (o : Option (TypeExpr S)) (b : Bool) (e : Expr S) → b ≡ false → converted_value same rs k nm ch o b e ≡ e
-  converted_none None b e i = refl
-  converted_none (Some t) false e i = refl
-  converted_none (Some t) true e i = apart (sym i)
+  abbrev ToType : Bool → Option (TypeExpr S) → Type 0
+  ToType b o = b ≡ true → (t : TypeExpr S) → o ≡ Some t → callee D c.env around (type_expr k.new t) ≡ None
 
-  tree_calls : (q : Bool × Expr S) → value_converts same rs k nm ch q.1 ≡ false → (m : List MarkRef) → ((t : Use) → E (forms.new_value same rs k nm ch t q.1) ≡ m) → (d : Expr S) → E (expr_in d (expr_tree same rs k nm ch q)) ≡ m
+  converted_calls : (o : Option (TypeExpr S)) (b : Bool) (e : Expr S) → ToType b o → E (converted_value same rs k nm ch o b e) ≡ E e
+  converted_calls None b e i = refl
+  converted_calls (Some t) false e i = refl
+  converted_calls (Some t) true e i = conversion_calls D c.env around k.new t e (i refl t refl)
+
+  tree_calls : (q : Bool × Expr S) → ToType (value_converts same rs k nm ch q.1) (result_text same rs k nm ch) → (m : List MarkRef) → ((t : Use) → E (forms.new_value same rs k nm ch t q.1) ≡ m) → (d : Expr S) → E (expr_in d (expr_tree same rs k nm ch q)) ≡ m
   tree_calls q n m each d = go (is_statement k.use_) (is_statement_call same rs k nm ch q.1)
     where
       go : (a b : Bool) → E (expr_in d (if a then (if b then as_expr (forms.new_value same rs k nm ch other q.1) else as_dropped (forms.written_value same rs k nm ch q.1)) else as_expr (forms.written_value same rs k nm ch q.1))) ≡ m
       go true true = each other
-      go true false = ap E (converted_none (result_text same rs k nm ch) (value_converts same rs k nm ch q.1) (forms.new_value same rs k nm ch (returned (func_type_is same rs k).results) q.1) n) ∙ each (returned (func_type_is same rs k).results)
-      go false b = ap E (converted_none (result_text same rs k nm ch) (value_converts same rs k nm ch q.1) (forms.new_value same rs k nm ch (returned (func_type_is same rs k).results) q.1) n) ∙ each (returned (func_type_is same rs k).results)
+      go true false = converted_calls (result_text same rs k nm ch) (value_converts same rs k nm ch q.1) (forms.new_value same rs k nm ch (returned (func_type_is same rs k).results) q.1) n ∙ each (returned (func_type_is same rs k).results)
+      go false b = converted_calls (result_text same rs k nm ch) (value_converts same rs k nm ch q.1) (forms.new_value same rs k nm ch (returned (func_type_is same rs k).results) q.1) n ∙ each (returned (func_type_is same rs k).results)
 
   expr_of : (e : Expr S) (f : Form S) → IsExpression e f → expr_in e f ≡ e
   expr_of e _ alone = refl
   expr_of e _ dropped = refl
 
-  pub expr_calls : kind ≡ ExprForm → ((q : Bool × Expr S) → one_expr u.callee.body ≡ Some q → value_converts same rs k nm ch q.1 ≡ false) → (e : Expr S) → IsExpression e w.form → E e ≡ calls_stmts D (in_block c.env) around kept_body
+  pub expr_calls : kind ≡ ExprForm → ((q : Bool × Expr S) → one_expr u.callee.body ≡ Some q → ToType (value_converts same rs k nm ch q.1) (result_text same rs k nm ch)) → (e : Expr S) → IsExpression e w.form → E e ≡ calls_stmts D (in_block c.env) around kept_body
   expr_calls i n e f =
       let r = from_given (one_expr u.callee.body) (λ q. Some (expr_tree same rs k nm ch q)) w.form (ap (form_tree same rs k nm ch) (sym i) ∙ (free_form same commented rs marks x u kind w).form_is) in
       ap E (sym (expr_of e w.form f)) ∙ ap (λ g. E (expr_in e g)) (sym (some_same (expr_tree same rs k nm ch r.0) w.form r.2))

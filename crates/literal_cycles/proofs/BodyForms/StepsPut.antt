@@ -32,7 +32,7 @@ use Rattle.go_tree.proofs.GoTypes.Agreeing.{some_same}
 use Rattle.literal_cycles.specs.FormCycles.Bodies.{StandsInFunction, changes_of}
 use Rattle.literal_cycles.specs.FormCycles.Puts.{ExprCallsThrough, StatementCallsThrough, AllPutThrough, PutsInBody}
 use Rattle.literal_cycles.proofs.FormCycles.FormSteps.{calls-change, call-step}
-use Rattle.literal_cycles.specs.BodyForms.Uses.{IsExpression, alone, dropped, ConvertsNothing, TypedForm}
+use Rattle.literal_cycles.specs.BodyForms.Uses.{IsExpression, alone, dropped, ConvertsToType, TypedForm}
 use Rattle.literal_cycles.specs.BodyForms.Steps.{AllStayThere, IsBody, expression, a_block, a_tail, PutsBody}
 use Rattle.literal_cycles.proofs.BodyForms.BodiesCall.{blocks_call, expressions_call, call_calls}
 use Rattle.literal_cycles.proofs.BodyForms.FreeForms.{free_form}
@@ -115,7 +115,7 @@ module _ (marks : List MarkRef) (st : Standing) (l : Logged) (after : Standing) 
   no_expression e b _ alone q = ap is_expr (some_same (as_block b) (as_expr e) q)
   no_expression e b _ dropped q = ap is_expr (some_same (as_block b) (as_dropped e) q)
 
-  expression_is : (j : FormKind) (u : TypedForm (is_commented st) ps marks x j) → IsBody (ConvertsNothing same_here (is_commented st) ps marks x u.use_) j → (e : Expr At) → IsExpression e u.becomes.form → calls x.place e ≡ leads_to ps marks x.mark
+  expression_is : (j : FormKind) (u : TypedForm (is_commented st) ps marks x j) → IsBody (ConvertsToType same_here (is_commented st) ps marks x u.use_) j → (e : Expr At) → IsExpression e u.becomes.form → calls x.place e ≡ leads_to ps marks x.mark
   expression_is _ u (expression h) e f = expressions_call (is_commented st) ps marks x ExprForm u refl h e f x.decl
   expression_is _ u a_block e f = apart (sym (no_expression e _ u.becomes.form f (free_form same_here (is_commented st) ps marks x u.use_ BlockForm u.becomes).form_is))
   expression_is _ u a_tail e f = apart (sym (no_expression e _ u.becomes.form f (free_form same_here (is_commented st) ps marks x u.use_ TailForm u.becomes).form_is))

@@ -13,7 +13,7 @@ use Rattle.run_rules.specs.FormTrees.{ExprForm, one_expr}
 use Rattle.run_rules.specs.Forms.{body_changes, chosen_arg}
 use Rattle.run_rules.specs.Steps.{At, same_here}
 use Rattle.order_runs.specs.CycleLaws.PutCalls.{called_among}
-use Rattle.literal_cycles.specs.BodyForms.Uses.{CalledUse, call_of, chosen_of, names_for, Becomes, ConvertsNothing}
+use Rattle.literal_cycles.specs.BodyForms.Uses.{CalledUse, call_of, chosen_of, names_for, Becomes, ConvertsToType}
 
 abbrev mutual
   -- no literal of a function stands in the expression, and no composite literal
@@ -70,15 +70,16 @@ module _ (commented : ℕ → ℕ → At → Bool) (rs : List (Package At)) (mar
       (at : ℕ) (b : MarkRef) → is_among_marks (called_among rs marks x.at at (expr_seen x.place other z)) b ≡ true →
       is_among_marks (called_among rs marks x.at at (expr_seen x.place other u.tree)) b ≡ true
 
-  -- The use becomes the one expression of the body, written without a conversion; nothing in it declares names, what is
-  -- called in it names what it named, and what is put for its parameters calls what the call does.
+  -- The use becomes the one expression of the body; a type to which it is converted names no marked function, nothing
+  -- in it declares names, what is called in it names what it named, and what is put for its parameters calls what the
+  -- call does.
   pub record PutsArguments : Type 0 where
     pub becomes : Becomes same_here commented rs marks x u ExprForm
     pub returned_value : Bool
     pub value : Expr At
     pub one : one_expr u.callee.body ≡ Some (returned_value, value)
     pub flat : IsFlat value
-    pub unconverted : ConvertsNothing same_here commented rs marks x u
+    pub conversion : ConvertsToType same_here commented rs marks x u
     pub callees :
         (w : Use) → AllCalleesNamed (expr_seen
         (start_with same_here rs (call_of same_here commented rs marks x u) (chosen_of same_here commented rs marks x u))

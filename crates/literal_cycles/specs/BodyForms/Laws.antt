@@ -17,7 +17,7 @@ use Rattle.order_runs.specs.CycleLaws.PutCalls.{called_among}
 use Rattle.literal_cycles.specs.FormCycles.Puts.{CalleeStays, ExprCallsThrough, StatementCallsThrough, PutsInBody}
 use Rattle.literal_cycles.specs.BodyForms.Steps.{IsStatement, BeforeDotStays, PutsBody, PutsBlock, PutsExpression}
 use Rattle.literal_cycles.specs.BodyForms.Arguments.{PutsArguments}
-use Rattle.literal_cycles.specs.BodyForms.Uses.{CalledUse, TypedForm, IsExpression, ConvertsNothing, TypedBlock}
+use Rattle.literal_cycles.specs.BodyForms.Uses.{CalledUse, TypedForm, IsExpression, ConvertsToType, TypedBlock}
 use Rattle.literal_cycles.specs.FormCycles.Blocks.{Holds}
 
 -- The statements that a call becomes in braces, a block or a tail, call in a block at its place what the function leads
@@ -28,11 +28,12 @@ BlocksCallTheirFunctions =
     (u : TypedForm commented rs marks x k) (b : Stmts At) → u.becomes.form ≡ as_block b → (at : ℕ)
     → called_among rs marks x.at at (stmts_seen (block x.place) b) ≡ leads_to rs marks x.mark
 
--- So does the expression that a call becomes, or that is assigned to `_` in its place, where no conversion is written.
+-- So does the expression that a call becomes, or that is assigned to `_` in its place, where a type to which it is
+-- converted names no marked function.
 abbrev pub ExpressionsCallTheirFunctions : Type 0
 ExpressionsCallTheirFunctions =
     (commented : ℕ → ℕ → At → Bool) (rs : List (Package At)) (marks : List MarkRef) (x : Site At)
-    (u : TypedForm commented rs marks x ExprForm) → ConvertsNothing same_here commented rs marks x u.use_ →
+    (u : TypedForm commented rs marks x ExprForm) → ConvertsToType same_here commented rs marks x u.use_ →
     (e : Expr At) → IsExpression e u.becomes.form → (at : ℕ)
     → called_among rs marks x.at at (expr_seen x.place other e) ≡ leads_to rs marks x.mark
 
@@ -40,7 +41,7 @@ ExpressionsCallTheirFunctions =
 abbrev pub ExpressionsCallThrough : Type 0
 ExpressionsCallThrough =
     (commented : ℕ → ℕ → At → Bool) (rs : List (Package At)) (marks : List MarkRef) (x : Site At)
-    (u : TypedForm commented rs marks x ExprForm) → ConvertsNothing same_here commented rs marks x u.use_ →
+    (u : TypedForm commented rs marks x ExprForm) → ConvertsToType same_here commented rs marks x u.use_ →
     (e : Expr At) → IsExpression e u.becomes.form → (at : ℕ)
     → ExprCallsThrough rs marks x.at at x.mark x.place e u.use_.tree
 

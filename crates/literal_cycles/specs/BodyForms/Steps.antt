@@ -16,7 +16,7 @@ use Rattle.run_rules.specs.Run.{Standing, Logged, Next, is_commented}
 use Rattle.literal_cycles.specs.FormCycles.Bodies.{changes_of}
 use Rattle.literal_cycles.specs.FormCycles.Puts.{CalleeStays, StatementStays}
 use Rattle.literal_cycles.specs.Uses.{place_of_use}
-use Rattle.literal_cycles.specs.BodyForms.Uses.{CalledUse, Becomes, BareCall, LinkedUse, BodyServed, ConvertsNothing}
+use Rattle.literal_cycles.specs.BodyForms.Uses.{CalledUse, Becomes, BareCall, LinkedUse, BodyServed, ConvertsToType}
 use Rattle.literal_cycles.specs.BodyForms.Uses.{IsExpression, TypedBlock}
 use Rattle.literal_cycles.specs.BodyForms.Arguments.{PutsArguments}
 use Rattle.order_runs.specs.CycleLaws.PutCalls.{called_among}
@@ -53,12 +53,12 @@ BeforeDotStays c p (call s (selector t b n) xs r) =
     ≡ type_at p.env b
 BeforeDotStays c p y = Unit {0}
 
--- The form is the body of a function: an expression, written without a conversion, or its assignment to `_`; a block; a
+-- The form is the body of a function: an expression, whose conversion is such, or its assignment to `_`; a block; a
 -- tail.
-pub data IsBody (unconverted : Type 0) : FormKind → Type 0 where
-  expression : unconverted → IsBody unconverted ExprForm
-  a_block : IsBody unconverted BlockForm
-  a_tail : IsBody unconverted TailForm
+pub data IsBody (conversion : Type 0) : FormKind → Type 0 where
+  expression : conversion → IsBody conversion ExprForm
+  a_block : IsBody conversion BlockForm
+  a_tail : IsBody conversion TailForm
 
 module _ {marks : List MarkRef} {st : Standing} {l : Logged} {after : Standing} (n : Next marks st l after) where
   -- The step's use is a call of a function without parameters that becomes its body, in no group of constants, and adds
@@ -66,7 +66,7 @@ module _ {marks : List MarkRef} {st : Standing} {l : Logged} {after : Standing} 
   pub record PutsBody : Type 0 where
     pub use_ : CalledUse same_here (is_commented st) st.packages marks n.found.site
     pub kind : FormKind
-    pub is_body : IsBody (ConvertsNothing same_here (is_commented st) st.packages marks n.found.site use_) kind
+    pub is_body : IsBody (ConvertsToType same_here (is_commented st) st.packages marks n.found.site use_) kind
     pub becomes : Becomes same_here (is_commented st) st.packages marks n.found.site use_ kind
     pub bare : BareCall same_here (is_commented st) st.packages marks n.found.site use_
     pub linked : LinkedUse same_here (is_commented st) st.packages marks n.found.site use_

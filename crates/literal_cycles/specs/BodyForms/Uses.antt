@@ -2,7 +2,7 @@
 -- braces (Go specification, Calls; Return statements; Blocks; Function declarations; Qualified identifiers).
 use Rattle.std.specs.Prelude.{◌≡◌, ℕ, Bool, true, false, List, [], ◌∷◌, ◌++◌, Some, None, slice_get}
 use Rattle.go_tree.specs.declared.exprs.Rest.TheVariants.{Plain}
-use Rattle.go_tree.specs.Tree.{Expr, ident, selector, call, Exprs, no_exprs, Stmt, no_stmts, stmt_and}
+use Rattle.go_tree.specs.Tree.{TypeExpr, Expr, ident, selector, call, Exprs, no_exprs, Stmt, no_stmts, stmt_and}
 use Rattle.go_tree.specs.File.{Func}
 use Rattle.go_tree.specs.ScopeNames.FreeNames.{names_of}
 use Rattle.go_tree.specs.ScopeNames.Scopes.{sig_declares}
@@ -14,12 +14,13 @@ use Rattle.param_choice.specs.Chosen.{has}
 use Rattle.form_meaning.specs.FormInPlace.Bound.{literal_binds}
 use Rattle.run_rules.specs.Surroundings.{block, after_stmt}
 use Rattle.run_rules.specs.Calls.{Given, Call, body_seen, chosen, given_params}
-use Rattle.run_rules.specs.FormTrees.{FormKind, ExprForm, Form, as_expr, as_dropped, one_expr}
-use Rattle.run_rules.specs.Forms.{value_converts, with_binding}
+use Rattle.run_rules.specs.FormTrees.{FormKind, ExprForm, Form, as_expr, as_dropped, type_expr, one_expr}
+use Rattle.run_rules.specs.Forms.{value_converts, result_text, with_binding}
 use Rattle.run_rules.specs.Naming.{Named, Names, names_by}
 use Rattle.run_rules.specs.Programs.{linked, top_env}
 use Rattle.run_rules.specs.Reduced.{becomes, call_at, names_in_form, reduced}
-use Rattle.run_rules.specs.Sites.{MarkRef, Where, Site, a_function, an_expr, where_is, inlinable, qualifier, expr_mark}
+use Rattle.run_rules.specs.Sites.{MarkRef, Where, Site, a_function, an_expr, where_is, inlinable, qualifier}
+use Rattle.run_rules.specs.Sites.{called_mark, expr_mark}
 use Rattle.run_rules.specs.Steps.{At, same_here}
 use Rattle.constant_steps.specs.Alone.{PackageAt}
 use Rattle.constant_steps.specs.PlainUse.{linked_at}
@@ -108,11 +109,14 @@ module _ {S : Type 0} (same : S → S → Bool) (commented : ℕ → ℕ → S �
       pub away :
           AllAway rs u.home x.at.number (names_for k) c.env.names (names_of x.place.bound) (body_seen same rs call_of)
 
-    -- the one expression of the body is written without a conversion to the result's type
-    abbrev pub ConvertsNothing : Type 0
-    ConvertsNothing =
+    -- where the one expression of the body is written with a conversion to the result's type, that type names no marked
+    -- function at the call
+    abbrev pub ConvertsToType : Type 0
+    ConvertsToType =
         (q : Bool × Expr S) → one_expr u.callee.body ≡ Some q →
-        value_converts same rs call_of (names_for ExprForm) chosen_of q.1 ≡ false
+        value_converts same rs call_of (names_for ExprForm) chosen_of q.1 ≡ true → (t : TypeExpr S) →
+        result_text same rs call_of (names_for ExprForm) chosen_of ≡ Some t →
+        called_mark rs marks x.at x.place (type_expr call_of.new t) ≡ None
 
 -- The use is such a call that becomes this form, in well-typed packages; names around it that aren't local mean what
 -- they do at the top of its file, and packages that the body names have names that serve there.

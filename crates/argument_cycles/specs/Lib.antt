@@ -1,0 +1,4 @@
+pub mod Uses
+pub mod Quiet
+pub mod Stands
+pub mod Laws
