@@ -45,20 +45,20 @@ use Rattle.constants_anywhere.proofs.PartsMeant.{known_answered}
 
 module _ {S : Type 0} where
   module _ (same : S → S → Bool) (z : S) (e : Expr S) (top : Env) where
-    known_front : (xs ys : List (Seen S)) → AllKnown same z e top (xs ++ ys) → AllKnown same z e top xs
+    pub known_front : (xs ys : List (Seen S)) → AllKnown same z e top (xs ++ ys) → AllKnown same z e top xs
     known_front [] ys a = tt
     known_front (x ∷ xs) ys a = (a.0, known_front xs ys a.1)
 
-    known_behind : (xs ys : List (Seen S)) → AllKnown same z e top (xs ++ ys) → AllKnown same z e top ys
+    pub known_behind : (xs ys : List (Seen S)) → AllKnown same z e top (xs ++ ys) → AllKnown same z e top ys
     known_behind [] ys a = a
     known_behind (x ∷ xs) ys a = known_behind xs ys a.1
 
   module _ (same : S → S → Bool) (x : Site S) (old : Expr S) where
-    use_front : (xs ys : List (Seen S)) → AllTheUse same x old (xs ++ ys) → AllTheUse same x old xs
+    pub use_front : (xs ys : List (Seen S)) → AllTheUse same x old (xs ++ ys) → AllTheUse same x old xs
     use_front [] ys a = tt
     use_front (y ∷ xs) ys a = (a.0, use_front xs ys a.1)
 
-    use_behind : (xs ys : List (Seen S)) → AllTheUse same x old (xs ++ ys) → AllTheUse same x old ys
+    pub use_behind : (xs ys : List (Seen S)) → AllTheUse same x old (xs ++ ys) → AllTheUse same x old ys
     use_behind [] ys a = a
     use_behind (y ∷ xs) ys a = use_behind xs ys a.1
 

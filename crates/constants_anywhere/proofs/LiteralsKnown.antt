@@ -54,7 +54,7 @@ module _ {S : Type 0} (same : S → S → Bool) (x : Site S) (old : Expr S) (alo
   Said = IsTheUse same x old
 
   -- what is said of all parts of a list, by either name
-  said_all : (ys : List (Seen S)) → (R : List (List ℕ) → Env → Env → List (NameAt S) → Type 0) → AllTheUse same x old ys → AllOf R Said ys
+  pub said_all : (ys : List (Seen S)) → (R : List (List ℕ) → Env → Env → List (NameAt S) → Type 0) → AllTheUse same x old ys → AllOf R Said ys
   said_all [] R a = tt
   said_all (y ∷ ys) R a = (a.0, said_all ys R a.1)
 
@@ -67,7 +67,7 @@ module _ {S : Type 0} (same : S → S → Bool) (x : Site S) (old : Expr S) (alo
     abbrev W : List (List ℕ) → Env → Env → List (NameAt S) → Type 0
     W = Walked before x.at.number
 
-    stmt_known : (p : Place S) (s : Stmt S) → PartTyped (seen_stmt p s) → Placed W Said (seen_stmt p s) → GroupKept same z p s
+    pub stmt_known : (p : Place S) (s : Stmt S) → PartTyped (seen_stmt p s) → Placed W Said (seen_stmt p s) → GroupKept same z p s
     stmt_known p (const_decl s g ss) d h = group_kept same x old alone p s g ss d (all_said _ W h)
     stmt_known p s d h = tt
 

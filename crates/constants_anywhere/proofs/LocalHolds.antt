@@ -295,14 +295,14 @@ module _ {S : Type 0} (p : Place S) (each : (n : List ℕ) → is_local p n ≡ 
   value_no_package d e = refl
 
   -- what means a type isn't local
-  type_there : (n : List ℕ) (u : GoType) → type_of_name (meaning p.env n) ≡ Some u → is_local p n ≡ false
+  pub type_there : (n : List ℕ) (u : GoType) → type_of_name (meaning p.env n) ≡ Some u → is_local p n ≡ false
   type_there n u e = go (is_local p n) refl
     where
       go : (b : Bool) → is_local p n ≡ b → b ≡ false
       go true q = absurd (grind (arith, ap is_some (sym (value_no_type (meaning p.env n) (each n q)) ∙ e)))
       go false q = refl
 
-  package_there : (n : List ℕ) (k : ℕ) → package_of (meaning p.env n) ≡ Some k → is_local p n ≡ false
+  pub package_there : (n : List ℕ) (k : ℕ) → package_of (meaning p.env n) ≡ Some k → is_local p n ≡ false
   package_there n k e = go (is_local p n) refl
     where
       go : (b : Bool) → is_local p n ≡ b → b ≡ false

@@ -59,7 +59,7 @@ module _ {S : Type 0} (top : Env) (name : List ℕ) where
       }
 
   -- what is known of an expression is known where one more name counts as declared around
-  one_more_known : (c : Changes S) (p : Place S) (y : Expr S) → ExprKnown c (NamesOutside top) p y → ExprKnown c (WithOne top name) p y
+  pub one_more_known : (c : Changes S) (p : Place S) (y : Expr S) → ExprKnown c (NamesOutside top) p y → ExprKnown c (WithOne top name) p y
   one_more_known c p (composite s t es) h = λ around env r. h r.0 env r.2
   one_more_known c p (func_lit s g z b) h = h
   one_more_known c p y h = tt

@@ -155,13 +155,13 @@ module _ {S : Type 0} (ps : List (Package S)) where
             same_receiver a b e = some_same a b e
 
     -- so of a declaration that is one
-    starts_typed : (d : Decl S) → DeclIsTyped ds (world ps) k in_main n (imports_mean ps p file) d → (f : Func S) → d ≡ func f → StartTyped ps (world ps) (headed_func ps k p file f) f
+    pub starts_typed : (d : Decl S) → DeclIsTyped ds (world ps) k in_main n (imports_mean ps p file) d → (f : Func S) → d ≡ func f → StartTyped ps (world ps) (headed_func ps k p file f) f
     starts_typed d a f q = go (subst (DeclIsTyped ds (world ps) k in_main n (imports_mean ps p file)) q a)
       where
         go : DeclIsTyped ds (world ps) k in_main n (imports_mean ps p file) (func f) → StartTyped ps (world ps) (headed_func ps k p file f) f
         go (all_and r rs) = start_typed f r
 
-    decl_typed : (d : Decl S) → DeclIsTyped ds (world ps) k in_main n (imports_mean ps p file) d → AllTyped (decl_seen ps k p file d)
+    pub decl_typed : (d : Decl S) → DeclIsTyped ds (world ps) k in_main n (imports_mean ps p file) d → AllTyped (decl_seen ps k p file d)
     decl_typed (values (const_decl s g ss)) a = constants_typed (at_member g s) None no_exprs 0 ss a
     decl_typed (values (var_decl s g ss)) a = variables_typed (at_member g s) ss a
     decl_typed (values s) a = tt
@@ -181,14 +181,14 @@ module _ {S : Type 0} (ds : DeclaredTypes) (w : World) where
     pub nth : ℕ
     pub typed : DeclIsTyped ds w home in_main nth is d
 
-  in_files : (home : ℕ) (in_main : Bool) (members : List (List ℕ)) (i m n : ℕ) (fs : List (SourceFile S)) (f : SourceFile S) (d : Decl S) → FilesTyped ds w home in_main members i m n fs → slice_get fs m ≡ Some f → slice_get f.decls n ≡ Some d → TypedInFile home in_main (file_block members [] f.imports) d
+  pub in_files : (home : ℕ) (in_main : Bool) (members : List (List ℕ)) (i m n : ℕ) (fs : List (SourceFile S)) (f : SourceFile S) (d : Decl S) → FilesTyped ds w home in_main members i m n fs → slice_get fs m ≡ Some f → slice_get f.decls n ≡ Some d → TypedInFile home in_main (file_block members [] f.imports) d
   in_files home in_main members i m n [] f d a q r = absurd (grind (arith, q))
   in_files home in_main members i zero n (x ∷ fs) f d a q r =
       let y : x ≡ f = some_same x f q in
       subst (λ f. TypedInFile home in_main (file_block members [] f.imports) d) y (record { nth = i; typed = nth_decl home in_main i (file_block members [] x.imports) n x.decls d a (ap (λ f. slice_get f.decls n) y ∙ r) })
   in_files home in_main members i (suc m) n (x ∷ fs) f d a q r = in_files home in_main members (suc i) m n fs f d a q r
 
-  in_package : (p : SourcePackage S) (k m n : ℕ) {qs : Program S} → PackageAt p k qs → All (HeaderTyped ds w) (headed qs) → PackageIsTyped ds w m n p
+  pub in_package : (p : SourcePackage S) (k m n : ℕ) {qs : Program S} → PackageAt p k qs → All (HeaderTyped ds w) (headed qs) → PackageIsTyped ds w m n p
   in_package p _ m n (this_package {ps = qs}) a = of-packages ds w zero m n (p ∷ []) qs a
   in_package p _ m n (a_later_package {q = q} {ps = qs} e r) a = in_package p _ m n r (all-behind (headed_package q) (headed qs) a)
 

@@ -36,7 +36,7 @@ use Rattle.constants_anywhere.proofs.UsesStand.{swaps_there}
 -- ---- simple parts
 
 module _ {S : Type 0} (same : S → S → Bool) (z : S) (e : Expr S) (top : Env) where
-  simple_parts : (ys : List (Seen S)) → AllSimple ys → AllKnown same z e top ys
+  pub simple_parts : (ys : List (Seen S)) → AllSimple ys → AllKnown same z e top ys
   simple_parts [] h = tt
   simple_parts (seen p u y ∷ ys) h = (simple_known (put same z e) (NamesOutside top) p u y h.0, simple_parts ys h.1)
   simple_parts (seen_type p t ∷ ys) h = (tt, simple_parts ys h.1)
@@ -47,7 +47,7 @@ module _ {S : Type 0} (same : S → S → Bool) (z : S) (e : Expr S) (top : Env)
   simple_swappable p u (func_lit s g r b) h = absurd h
   simple_swappable p u y h = tt
 
-  simple_translated : (ys : List (Seen S)) → AllSimple ys → AllTranslated same z e top ys
+  pub simple_translated : (ys : List (Seen S)) → AllSimple ys → AllTranslated same z e top ys
   simple_translated [] h = tt
   simple_translated (seen p u y ∷ ys) h = (simple_swappable p u y h.0, simple_translated ys h.1)
   simple_translated (seen_type p t ∷ ys) h = (tt, simple_translated ys h.1)

@@ -43,14 +43,14 @@ only_some false r q = absurd (grind (arith, q))
 -- ---- the declaration with these numbers
 
 module _ {S : Type 0} (same : S → S → Bool) (rs : List (Package S)) (z : S) (e : Expr S) (number : ℕ) (pk : Package S) (tree : File S) (w : World) (home : ℕ) (members : List (List ℕ)) where
-  files_use : (m n : ℕ) (fs : List (SourceFile S)) (f : SourceFile S) (d : Decl S) → slice_get fs m ≡ Some f → slice_get f.decls n ≡ Some d → AllUsesThere same z e (file_env w home (file_block members [] f.imports) None) (decl_seen rs number pk tree d) → FilesUse same rs z e number pk tree w home members m n fs
+  pub files_use : (m n : ℕ) (fs : List (SourceFile S)) (f : SourceFile S) (d : Decl S) → slice_get fs m ≡ Some f → slice_get f.decls n ≡ Some d → AllUsesThere same z e (file_env w home (file_block members [] f.imports) None) (decl_seen rs number pk tree d) → FilesUse same rs z e number pk tree w home members m n fs
   files_use m n [] f d q r h = tt
   files_use zero n (g ∷ gs) f d q r h =
       at_nth (λ d. AllUsesThere same z e (file_env w home (file_block members [] g.imports) None) (decl_seen rs number pk tree d)) n g.decls d (ap (λ f. slice_get f.decls n) (some_same g f q) ∙ r)
       (subst (λ f. AllUsesThere same z e (file_env w home (file_block members [] f.imports) None) (decl_seen rs number pk tree d)) (sym (some_same g f q)) h)
   files_use (suc m) n (g ∷ gs) f d q r h = files_use m n gs f d q r h
 
-  files_swap : (m n : ℕ) (fs : List (SourceFile S)) (f : SourceFile S) (d : Decl S) → slice_get fs m ≡ Some f → slice_get f.decls n ≡ Some d → AllSwapsThere same z e (file_env w home (file_block members [] f.imports) None) (decl_seen rs number pk tree d) → FilesSwapThere same rs z e number pk tree w home members m n fs
+  pub files_swap : (m n : ℕ) (fs : List (SourceFile S)) (f : SourceFile S) (d : Decl S) → slice_get fs m ≡ Some f → slice_get f.decls n ≡ Some d → AllSwapsThere same z e (file_env w home (file_block members [] f.imports) None) (decl_seen rs number pk tree d) → FilesSwapThere same rs z e number pk tree w home members m n fs
   files_swap m n [] f d q r h = tt
   files_swap zero n (g ∷ gs) f d q r h =
       at_nth (λ d. AllSwapsThere same z e (file_env w home (file_block members [] g.imports) None) (decl_seen rs number pk tree d)) n g.decls d (ap (λ f. slice_get f.decls n) (some_same g f q) ∙ r)

@@ -66,7 +66,7 @@ some_only false o e = cc
 
 module _ {S : Type 0} (ds : DeclaredTypes) (w : World) where
   -- each header that is no method's declares something
-  abbrev Declares : Headed S → Type 0
+  abbrev pub Declares : Headed S → Type 0
   Declares h = is_method h.header ≡ false → is_some (declared_by ds w h) ≡ true
 
   -- of each header of a file where none is refused
@@ -257,7 +257,7 @@ module _ {S : Type 0} (ps : Program S) where
       of_spec (Some t) i x = of_type t i (not (t.alias || (is_blank t.name.name || not h.sound))) refl
           (resolved (env_of (aliased_world ps hs) h None) t.of) refl x
 
-  types_finite : (xs : List (Headed S)) → AllOf (Declares ds (collected ps)) xs →
+  pub types_finite : (xs : List (Headed S)) → AllOf (Declares ds (collected ps)) xs →
       AllOf (λ (d : DeclaredType). is_finite ds d.type ≡ true) (declared_types (aliased_world ps hs) xs)
   types_finite [] k = tt
   types_finite (h ∷ xs) k =

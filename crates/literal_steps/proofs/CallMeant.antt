@@ -524,6 +524,9 @@ module _ {S : Type 0} (same : S → S → Bool) (commented : ℕ → ℕ → S �
         go _ q (plainly {s = s} same_package) = callee_plain s q same_package
         go _ q (by_import {s = s} {z = z} {t = t} {q = p} {k = k} f is_public) = callee_import s z t p k q f is_public
 
+    pub callee_operand : parts c.env v.called ≡ Some (a_function meant.type)
+    callee_operand = the_callee.operand
+
     code_is : program_of (codes_of ms) F ≡ function_code (paths_in ms) (world rs) first.header u.callee meant.type
     code_is =
         program_code ms l.distinct K v.name (number_there p l.nth ms (linked rs) l.sources_are l.stands) first.header u.callee meant.type first.home_is first.header_is first.free first.named
@@ -562,7 +565,7 @@ module _ {S : Type 0} (same : S → S → Bool) (commented : ℕ → ℕ → S �
     abbrev whole_form : Expr S
     whole_form = written same commented rs marks x u v at (world rs) top_names.names beyond
 
-    form_is : (e : Expr S) → u.form ≡ as_expr e → bare_expr e ≡ bare_expr (call v.span (func_lit v.span (filled_sig changed_sig) v.span changed_body) v.args Plain)
+    pub form_is : (e : Expr S) → u.form ≡ as_expr e → bare_expr e ≡ bare_expr (call v.span (func_lit v.span (filled_sig changed_sig) v.span changed_body) v.args Plain)
     form_is e q =
         ap bare_expr (ap (expr_in e) (sym q ∙ (clear same commented rs marks x u).form_is)) ∙ form_bare same commented rs marks x u v at (world rs) top_names.names beyond all_given v.span v.span
 
@@ -611,7 +614,7 @@ module _ {S : Type 0} (same : S → S → Bool) (commented : ℕ → ℕ → S �
     called_alone : (f : Expr S) → parts c.env f ≡ Some (a_function meant.type) → alone f ≡ given (parts c.env (call v.span f v.args Plain)) (λ o. Some false)
     called_alone f e = (λ i. only_if (meets (e i) stands_alone) (given (parts c.env (call v.span f v.args Plain)) (λ o. Some (called_no_panic f e i))))
 
-    filled_operand : parts c.env (func_lit v.span (filled_sig changed_sig) v.span changed_body) ≡ Some (a_function meant.type)
+    pub filled_operand : parts c.env (func_lit v.span (filled_sig changed_sig) v.span changed_body) ≡ Some (a_function meant.type)
     filled_operand = literal_parts c.env v.span v.span changed_sig changed_body ∙ literal_typed
 
     pub stmt_beside : (k : Ctx) (s : S) (e : Expr S) → u.form ≡ as_expr e → stmt k c.env (eval s u.tree) ≡ stmt k c.env (eval s e)
