@@ -1,0 +1,2 @@
+pub mod FewNames
+pub mod LookUps
