@@ -1,0 +1,32 @@
+//! Laws of calls and literals in whole functions and packages.
+
+ghost use Rattle.literals_in_place.specs.Laws.{BodiesKeepTheirTermAfter, BodiesStayTypedAfter};
+ghost use Rattle.literals_in_place.specs.Laws.{DeferredLiteralsStand, LiteralsHaveTheFactsOfCalls};
+ghost use Rattle.literals_in_place.specs.Laws.{LiteralsMentionAlike, LiteralsStand};
+ghost use Rattle.literals_in_place.specs.Laws.{ModulesShowTheSame, ModulesAreCovered};
+
+/// A call and its literal have the same facts to the rules of typing, so a tree in which the one stands for
+/// the other is typed as it was; and they mention alike what is declared around. So the literal stands for
+/// the call as an operand in the body of a function of higher rank, also in the file with the imports that
+/// it adds; and the deferred literal for the deferred call.
+pub fn literals_stand_for_calls()
+    ensures facts { LiteralsHaveTheFactsOfCalls }
+    ensures mentions { LiteralsMentionAlike }
+    ensures operands { LiteralsStand }
+    ensures deferred { DeferredLiteralsStand }
+{}
+
+/// In the file with the imports that the literal of a call adds, a body whose free names stand in the file is
+/// typed as before, and has the same term.
+pub fn bodies_stay_with_imports()
+    ensures typed { BodiesStayTypedAfter }
+    ensures terms { BodiesKeepTheirTermAfter }
+{}
+
+/// A module in whose functions parts stand for others, as literals do for calls, shows the same under free
+/// prices, by the ranks of the marked functions that lie on no cycle; so each shows what the other does
+/// within the budget (A + 1)(n + 1), where A is the number of marked functions.
+pub fn modules_with_literals_show_the_same()
+    ensures shows { ModulesShowTheSame }
+    ensures covered { ModulesAreCovered }
+{}

@@ -1,0 +1,86 @@
+-- Packages in whose bodies parts stand for others declare the same: nothing outside bodies changes.
+use Rattle.std.specs.Prelude.{◌≡◌, refl, ℕ, Bool, true, List, [], ◌∷◌, ◌++◌}
+use mathlib.Core.Path.{ap}
+use Rattle.go_tree.specs.File.{Func as Function}
+use Rattle.go_tree.specs.Tree.{Stmts}
+use Rattle.go_tree.specs.GoTypes.Collect.{aliased_world, types_declared, typed_world, valued_world, collected, alias_entity, type_declared, good_entity, declared_by}
+use Rattle.go_tree.specs.GoTypes.Entities.{World}
+use Rattle.go_tree.specs.GoTypes.Programs.{a_func, Headed, headed, Program}
+use Rattle.go_tree.specs.GoTypes.WellTyped.{well_typed}
+use Rattle.go_kernel.specs.Kernel.{ImportPath, FuncName, Program as Code}
+use Rattle.go_translation.specs.Packages.{Package, sources, paths_in}
+use Rattle.typed_in_place.specs.ImportRule.{SamePackage, imports_ok}
+use Rattle.typed_in_place.specs.ProgramReplaced.{InPlace}
+use Rattle.typed_in_place.specs.ProgramsAlike.{OneByOne, no_more, and_more, SameHeader, SameMethod, DeclareAlike, AliasesStand, TypesStand, ValuesStand, BodiesAlike}
+use Rattle.typed_in_place.proofs.Collected.{same_collected}
+use Rattle.typed_in_place.proofs.ProgramsReplaced.{aliases_stand_itself, types_stand_itself, values_stand_itself, stays_well_typed}
+use Rattle.meaning_in_place.specs.InPackages.{header_stays, function_stands, HeadersStand, no_headers, and_header, MembersStand, no_packages, and_package}
+
+appended : {A B : Type 0} {R : A → B → Type 0} {xs zs : List A} {ys vs : List B} → OneByOne R xs ys → OneByOne R zs vs → OneByOne R (xs ++ zs) (ys ++ vs)
+appended no_more q = q
+appended (and_more r p) q = and_more r (appended p q)
+
+abbrev first_number : List (ℕ × ImportPath) → ℕ
+first_number [] = 0
+first_number (p ∷ ps) = p.0
+
+abbrev later : List (ℕ × ImportPath) → List (ℕ × ImportPath)
+later [] = []
+later (p ∷ ps) = ps
+
+module _ {S : Type 0} (P : Code) (free : FuncName → Bool) (A : ℕ) (rank : FuncName → ℕ) (paths : List (ℕ × ImportPath)) (w : World) where
+  -- what holds of a declaration and itself, and of a function and one with another body
+  module _ (R : Headed S → Headed S → Type 0) (itself : (h : Headed S) → R h h) (put : (h : Headed S) (f : Function S) (b : Stmts S) → R (record h { header = a_func f }) (record h { header = a_func (record f { body = b }) })) where
+    each_header : {hs ks : List (Headed S)} → HeadersStand P free A rank paths w hs ks → OneByOne R hs ks
+    each_header no_headers = no_more
+    each_header (and_header (header_stays {h = h}) rs) = and_more (itself h) (each_header rs)
+    each_header (and_header (function_stands h f g n around {b = b} c e a q) rs) = and_more (put h f b) (each_header rs)
+
+    all_headers : {ps qs : List (Package S)} → MembersStand P free A rank paths w ps qs → OneByOne R (headed (sources ps)) (headed (sources qs))
+    all_headers no_packages = no_more
+    all_headers (and_package e r rs) = appended (each_header r) (all_headers rs)
+
+  same_numbers : {ps qs : List (Package S)} → MembersStand P free A rank paths w ps qs → paths_in ps ≡ paths_in qs → OneByOne (λ p q. p.number ≡ q.number) (sources ps) (sources qs)
+  same_numbers no_packages e = no_more
+  same_numbers (and_package d r rs) e = and_more (ap first_number e) (same_numbers rs (ap later e))
+
+  module _ (ps qs : List (Package S)) (e : paths_in ps ≡ paths_in qs) (r : MembersStand P free A rank paths w ps qs) where
+    abbrev before : Program S
+    before = sources ps
+
+    abbrev after : Program S
+    after = sources qs
+
+    declare_alike : DeclareAlike before after
+    declare_alike =
+        record {
+          numbers = same_numbers r e;
+          headers = all_headers SameHeader (λ h. record { home = refl; file = refl; sound = refl; names = refl; method = refl }) (λ h f b. record { home = refl; file = refl; sound = refl; names = refl; method = refl }) r;
+          aliases_before = all_headers (λ h k. alias_entity (aliased_world before (headed before)) h ≡ alias_entity (aliased_world before (headed before)) k) (λ h. refl) (λ h f b. refl) r;
+          aliases_after = all_headers (λ h k. alias_entity (aliased_world after (headed after)) h ≡ alias_entity (aliased_world after (headed after)) k) (λ h. refl) (λ h f b. refl) r;
+          defined = all_headers (λ h k. type_declared (aliased_world before (headed before)) h ≡ type_declared (aliased_world before (headed before)) k) (λ h. refl) (λ h f b. refl) r;
+          good_before = all_headers (λ h k. good_entity (types_declared before (headed before)) (typed_world before (headed before)) h ≡ good_entity (types_declared before (headed before)) (typed_world before (headed before)) k) (λ h. refl) (λ h f b. refl) r;
+          good_after = all_headers (λ h k. good_entity (types_declared after (headed after)) (typed_world after (headed after)) h ≡ good_entity (types_declared after (headed after)) (typed_world after (headed after)) k) (λ h. refl) (λ h f b. refl) r;
+          declared_before = all_headers (λ h k. declared_by (types_declared before (headed before)) (valued_world before (headed before)) h ≡ declared_by (types_declared before (headed before)) (valued_world before (headed before)) k) (λ h. refl) (λ h f b. refl) r;
+          declared_after = all_headers (λ h k. declared_by (types_declared after (headed after)) (valued_world after (headed after)) h ≡ declared_by (types_declared after (headed after)) (valued_world after (headed after)) k) (λ h. refl) (λ h f b. refl) r;
+          methods = all_headers (SameMethod (valued_world before (headed before))) (λ h. record { method = refl; on = refl }) (λ h f b. record { method = refl; on = refl }) r;
+        }
+
+    pub declared_same : collected before ≡ collected after
+    declared_same = same_collected before after declare_alike
+
+    in_place : OneByOne SamePackage before after → BodiesAlike (collected before) (headed before) (headed after) → InPlace before after
+    in_place packages bodies =
+        record {
+          aliases_before = all_headers (AliasesStand (aliased_world before (headed before))) (λ h. aliases_stand_itself (aliased_world before (headed before)) h) (λ h f b. record { header = record { home = refl; file = refl; sound = refl; names = refl; method = refl }; alias = refl; defined = refl }) r;
+          aliases_after = all_headers (AliasesStand (aliased_world after (headed after))) (λ h. aliases_stand_itself (aliased_world after (headed after)) h) (λ h f b. record { header = record { home = refl; file = refl; sound = refl; names = refl; method = refl }; alias = refl; defined = refl }) r;
+          types_before = all_headers (TypesStand (typed_world before (headed before))) (λ h. types_stand_itself (typed_world before (headed before)) h) (λ h f b. record { good = λ ds. refl }) r;
+          types_after = all_headers (TypesStand (typed_world after (headed after))) (λ h. types_stand_itself (typed_world after (headed after)) h) (λ h f b. record { good = λ ds. refl }) r;
+          before = λ w y. all_headers (ValuesStand w) (λ h. values_stand_itself w h) (λ h f b. record { declared = λ ds. refl; method = record { method = refl; on = refl } }) r;
+          after = λ w y. all_headers (ValuesStand w) (λ h. values_stand_itself w h) (λ h f b. record { declared = λ ds. refl; method = record { method = refl; on = refl } }) r;
+          bodies = bodies;
+          packages = packages;
+        }
+
+    pub typed_still : OneByOne SamePackage before after → BodiesAlike (collected before) (headed before) (headed after) → well_typed before ≡ true → imports_ok after ≡ true → well_typed after ≡ true
+    typed_still packages bodies = stays_well_typed before after (in_place packages bodies)

@@ -1,0 +1,10 @@
+pub mod Terms
+pub mod Mentioned
+pub mod Unchanged
+pub mod Statements
+pub mod Functions
+pub mod Operands
+pub mod Declared
+pub mod Packages
+pub mod Runs
+mod Example
