@@ -1,2 +1,4 @@
+pub mod ConstantNames
 pub mod FewNames
 pub mod LookUps
+pub mod TypedUses

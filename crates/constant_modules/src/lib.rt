@@ -1,6 +1,9 @@
-//! Modules of any form whose good marks are all of constants: definitions and laws alone, without code (Go
-//! specification, Constant declarations; Import declarations).
+//! Modules all of whose marks are of constants, whatever else they declare: definitions and laws alone, without code (Go
+//! specification, Constant declarations; Declarations and scope; Import declarations; Program initialization and
+//! execution).
 #![tactic(auto)]
 
+pub mod constant_names;
 pub mod few_names;
 pub mod look_ups;
+pub mod typed_uses;

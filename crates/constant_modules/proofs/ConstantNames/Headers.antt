@@ -1,0 +1,24 @@
+-- The first header of its package with a name, as one of the headers of a declaration.
+use Rattle.std.proofs.Common.{◌≡◌, ◌⊎◌, ℕ, true, List, [], ◌∷◌}
+use Rattle.go_tree.specs.File.{Decl}
+use Rattle.go_tree.specs.ScopeNames.Means.{Environment}
+use Rattle.go_tree.specs.GoTypes.Answers.{is_among}
+use Rattle.go_tree.specs.GoTypes.Entities.{Entity}
+use Rattle.go_tree.specs.GoTypes.Programs.{Header, Headed, headers, header_names}
+use Rattle.typed_in_place.specs.Declared.{FirstWith}
+
+module _ {S : Type 0} where
+  -- it is one of these headers
+  abbrev pub HasHeader : Header S → List (S × Header S) → Type 0
+  HasHeader y [] = ⊥
+  HasHeader y (h ∷ hs) = (y ≡ h.1) ⊎ HasHeader y hs
+
+  -- The first header with the name n of a package with this number is one of those of the declaration; its file has
+  -- these imports.
+  pub record FirstOf (n : List ℕ) (home : ℕ) (imports : Environment Entity) (d : Decl S) (hs : List (Headed S)) : Type 0 where
+    pub header : Headed S
+    pub first : FirstWith n header hs
+    pub home_is : header.home ≡ home
+    pub imports_are : header.imports ≡ imports
+    pub one : HasHeader header.header (headers d)
+    pub named : is_among n (header_names header.header) ≡ true

@@ -1,0 +1,518 @@
+-- In a typed declaration each written type means something where it stands, and names that aren't declared around it mean what they do at the top of the file; what stands behind a dot is typed there: one line a rule of typing.
+use Rattle.std.specs.Prelude.{◌≡◌, refl, ℕ, suc, ◌+◌, Bool, true, false, not, ◌&&◌, ◌||◌, List, [], ◌∷◌, ◌++◌, length, Option, Some, None, if◌then◌else◌, is_some}
+use Rattle.std.specs.List.{list_all}
+use mathlib.Core.Path.{ap, sym, ◌∙◌, subst}
+use Rattle.std.proofs.Common.{arith}
+use Rattle.go_tree.specs.Tree.{NameAt, Param, Sig, TypeExpr, Expr, ident, int_lit, rune_lit, str_lit, composite, selector, index, slice, call, func_lit, type_operand, unary, binary, star, Exprs, no_exprs, expr_and, ExprOption, no_expr, some_expr, Elems, no_elems, elem, Value, plain, braced, ValueOption, no_value, some_value, Stmt, const_decl, var_decl, empty, eval, step, assign, define, return_, break_, continue_, inner, if_, for_, range_, switch, defer, label, Stmts, no_stmts, stmt_and, StmtOption, no_stmt, some_stmt, BlockOption, no_block, some_block, RangeLeft, nothing, assigns, defines, Arms, no_arms, arm, Cases, no_cases, case, ValueSpecs, no_specs, spec}
+use Rattle.go_tree.specs.GoWords.Terminals.{level_of}
+use Rattle.go_tree.specs.ScopeNames.Scopes.{sig_declares}
+use Rattle.go_tree.specs.ScopeNames.FreeNames.{names_of, sig_names, declared, declared_option, defined}
+use Rattle.go_tree.specs.GoTypes.Answers.{given, both, meets, only_if, answers_of, is_among}
+use Rattle.go_tree.specs.GoTypes.Types.{GoType, FuncType}
+use Rattle.go_tree.specs.GoTypes.Defined.{under}
+use Rattle.go_tree.specs.GoTypes.Entities.{variable, Env, Binds, exported, defined_in, extend, in_block}
+use Rattle.go_tree.specs.GoTypes.TypeNames.{type_meant, params_meant, func_type, written_type}
+use Rattle.go_tree.specs.GoTypes.Operands.{Operand, Typed, typed, with_value, all_typed, named_operand}
+use Rattle.go_tree.specs.GoTypes.Operators.{unary_of, binary_of, star_of}
+use Rattle.go_tree.specs.GoTypes.Primary.{selected, index_of, sliced, call_of, stands_alone, may_be_deferred}
+use Rattle.go_tree.specs.GoTypes.Literals.{Element, is_struct, field_key, built, built_inside, key_type, inner_type, literal_type, of_field, keyed}
+use Rattle.go_tree.specs.GoTypes.Declarations.{Declared, no_names, bind_all, bind_each, variable_entity, constant_entity, constants_declared, new_constants, may_declare, variables_declared, new_variables, new_by_define, names_once, some_declared, defined_by, binds_or, binds_of, and_then, unused_after, all_used}
+use Rattle.go_tree.specs.GoTypes.Bodies.{Ctx, in_loop, in_switch, body_binds, body_ctx, no_values, literal_env, is_body, labelled, returns}
+use Rattle.go_tree.specs.GoTypes.Statements.{Target, blank, target_at, stores_all, updates, step_op, one_more, right_values, is_test, is_condition, tag_of, choice, package_before, is_blank_name, is_panic, is_define, is_empty_stmt, range_types, range_assigns, case_value, has_last, Clauses}
+use Rattle.go_tree.specs.GoTypes.Typing.{parts, all_parts, bound, elements, element, with_key, place, places, used, used_option, used_stmts, used_first, used_block, used_arms, used_cases, used_variables, declares, declares_first, declares_constants, declares_variables, range_declares, targets, stmt, stmts, first, block, is_call, ranges, arms, clauses}
+use Rattle.go_tree.proofs.GoTypes.Agreeing.{from_given, from_both, from_only}
+use Rattle.typed_in_place.proofs.Rising.{and_second}
+use Rattle.run_rules.specs.Surroundings.{Use, whole, stored, updated, called, deferred_call, alone, other, a_slot, Slot, Place, Seen, seen, seen_type, seen_stmt, alike, into_or, into_type, head_use, later_uses, arg_uses, unary_use, operand_use, first_operand_use, right_uses, every_use, value_use, return_uses, elem_use, key_use, inner_slot, last_slot, in_slot, callee_place, comma_slot, elem_closed, after_stmt, after_first, first_declares, left_declares, looping, switching, in_heading, at_stmt, plain_slot, ranged, in_literal, after_variables, is_local, is_old, repeated_by, in_constant, after_constants, before_repeats}
+use Rattle.run_rules.specs.Surroundings as around
+use Rattle.run_rules.specs.Places.{type_seen, written_seen, params_seen, sig_seen, old_seen, after_arms, expr_seen, all_seen, option_seen, elems_seen, key_seen, value_seen, stmt_seen, stmts_seen, first_seen, block_seen, left_seen, arms_seen, cases_seen, constants_seen, variables_seen}
+use Rattle.go_tree.specs.GoTypes.Declarations.{Repeated, nothing_to_repeat}
+use Rattle.constant_steps.specs.StepLaws.Answered.{HoldsWithin}
+use Rattle.constant_steps.specs.StepLaws.NamesOutside.{NamesOutside}
+use Rattle.constant_steps.proofs.StepLaws.OutsideHolds.{outside_holds}
+use Rattle.go_layout.specs.LayoutLaws.Formed.{FormedExpr, FormedOption, FormedExprs, FormedElems, FormedKey, FormedValue, FormedStmt, FormedStmts, FormedPart, FormedBlock, FormedLeft, FormedArms, FormedCases, FormedSpec, FormedSpecs}
+use Rattle.run_rules.specs.Respanned.{type_option_with, expr_with, exprs_with, expr_option_with, elems_with, value_option_with, value_with, stmt_with, stmts_with, stmt_option_with, block_option_with, left_with, arms_with, cases_with, specs_with}
+use Rattle.printed_constants.proofs.TypedParts.Walk.{met, there_is, into_back, elem_into}
+use Rattle.constant_modules.proofs.TypedUses.Types.{IsPlaced, Known, AllKnown, join, meant_resolved, written_resolved, at_member}
+
+-- ---- answers
+
+passed : {A : Type 0} (b : Bool) (r : Option A) (x : A) → only_if b r ≡ Some x → b ≡ true
+passed true r x e = refl
+passed false r x e = absurd (grind (arith, e))
+
+there : {A : Type 0} (o : Option A) (x : A) → o ≡ Some x → is_some o ≡ true
+there o x e = ap is_some e
+
+some_values : (a : Env) (ns : List (List ℕ)) (vs : Option (List Typed)) (d : Declared) → new_by_define a ns vs ≡ Some d → (x : List Typed) × (vs ≡ Some x)
+some_values a ns vs d e =
+    let k : (Binds → Option Declared) = (λ bs. only_if (not (Rattle.go_tree.specs.GoTypes.Answers.is_empty bs)) (variables_declared (Some bs))) in
+    let q = from_given (given vs (defined_by (defined_in a) a ns)) k d (from_only (names_once ns) (some_declared (given vs (defined_by (defined_in a) a ns))) d e) in
+    let r = from_given vs (defined_by (defined_in a) a ns) q.0 q.1 in (r.0, r.1)
+
+typed_variables : (a : Env) (ns : List (List ℕ)) (t : Option (Option GoType)) (zeros : Bool) (vs : Option (List Typed)) (d : Declared) → new_variables a ns t zeros vs ≡ Some d → (u : Option GoType) × (t ≡ Some u) × (zeros ≡ false → is_some vs ≡ true)
+typed_variables a ns t zeros vs d e =
+    let by : (Option GoType → Option Binds) = (λ t. if zeros then given t (λ t. Some (bind_each (variable t) ns)) else given vs (bind_all (variable_entity (defined_in a) t) ns)) in
+    let q = from_given (given t by) (λ bs. Some (record { binds = bs; fresh = Rattle.go_tree.specs.GoTypes.Declarations.bound_names bs })) d (from_only (may_declare a ns) (variables_declared (given t by)) d e) in
+    let r = from_given t by q.0 q.1 in
+    (r.0, r.1, go zeros r.0 q.0 r.2)
+  where
+    go : (z : Bool) (u : Option GoType) (bs : Binds) → (if z then given u (λ t. Some (bind_each (variable t) ns)) else given vs (bind_all (variable_entity (defined_in a) u) ns)) ≡ Some bs → z ≡ false → is_some vs ≡ true
+    go true u bs e f = absurd (grind (arith, f))
+    go false u bs e f = let r = from_given vs (bind_all (variable_entity (defined_in a) u) ns) bs e in there vs r.0 r.1
+
+known_values : {A B : Type 0} (o : Option A) (k : A → Option B) → is_some (given o k) ≡ true → (x : A) × (o ≡ Some x)
+known_values None k e = absurd (grind (arith, e))
+known_values (Some x) k e = (x, refl)
+
+one_more_is : (i : ℕ) → suc i ≡ i + 1
+one_more_is i = omega arith
+
+-- the values of the members of a group of constants
+typed_constants : (a : Env) (ns : List (List ℕ)) (t : Option (Option GoType)) (os : Option (List Operand)) (d : Declared) → new_constants a ns t os ≡ Some d → is_some os ≡ true
+typed_constants a ns t os d e =
+    let by : (Option GoType → List Operand → Option Binds) = (λ t os. given (all_typed os) (bind_all (constant_entity (defined_in a) t) ns)) in
+    let q = from_given (both t os by) (λ bs. Some (record { binds = bs; fresh = [] })) d (from_only (may_declare a ns) (constants_declared (both t os by)) d e) in
+    let r = from_both t os by q.0 q.1 in
+    there os r.1 r.3
+
+-- the type of a member of a group of constants
+constants_kind : (a : Env) (ns : List (List ℕ)) (t : Option (Option GoType)) (os : Option (List Operand)) (d : Declared) → new_constants a ns t os ≡ Some d → (u : Option GoType) × (t ≡ Some u)
+constants_kind a ns t os d e =
+    let by : (Option GoType → List Operand → Option Binds) = (λ t os. given (all_typed os) (bind_all (constant_entity (defined_in a) t) ns)) in
+    let q = from_given (both t os by) (λ bs. Some (record { binds = bs; fresh = [] })) d (from_only (may_declare a ns) (constants_declared (both t os by)) d e) in
+    let r = from_both t os by q.0 q.1 in (r.0, r.2)
+
+-- `to` gives a node its span, and `top` is the top of the file, to typing
+module _ {S B : Type 0} (to : S → B) (top : Env) where
+  abbrev Stand : List (Seen S) → Type 0
+  Stand xs = AllKnown top xs
+
+  abbrev pub N : Place S → Type 0
+  N p = IsPlaced top p
+
+  -- ---- scopes
+
+  abbrev scopes_hold : HoldsWithin (NamesOutside {S = S} top)
+  scopes_hold = outside_holds top
+
+  block_known : (p : Place S) → N p → N (around.block p)
+  block_known p known = (known.0, scopes_hold.in_blocks known.0 p.env p.env p.bound known.1)
+
+  stmt_known : (p : Place S) (s : Stmt S) → N p → N (after_stmt p s)
+  stmt_known p s known = (declared s ++ known.0, scopes_hold.after_stmts known.0 p.env p s known.1)
+
+  first_known : (p : Place S) (i : StmtOption S) → N p → N (after_first p i)
+  first_known p i known = (declared_option i ++ known.0, scopes_hold.after_firsts known.0 p.env p i known.1)
+
+  range_known : (p : Place S) (x : RangeLeft S) (y : Expr S) → N p → N (ranged p x y)
+  range_known p x y known = (defined x ++ known.0, scopes_hold.in_ranges known.0 p.env p x y known.1)
+
+  specs_known : (p : Place S) (ns : List (NameAt S)) (t : Option (TypeExpr S)) (es : Exprs S) → N p → N (after_variables p ns t es)
+  specs_known p ns t es known = (names_of ns ++ known.0, scopes_hold.after_specs known.0 p.env p ns t es known.1)
+
+  pub member_known : (p : Place S) (i : ℕ) → N p → N (in_constant i p)
+  member_known p i known = (known.0, scopes_hold.at_members known.0 p.env p.env p.bound (Some i) (Some i) known.1)
+
+  members_known : (p : Place S) (again : Repeated) (i : ℕ) (ns : List (NameAt S)) → N p → N (after_constants p again i ns)
+  members_known p again i ns known = (names_of ns ++ known.0, scopes_hold.after_members known.0 p.env p again again i i ns known.1)
+
+  callee_known : (s : Slot) (f : Expr S) (p : Place S) → N p → N (callee_place s f p)
+  callee_known s (func_lit _ _ _ _) p known = known
+  callee_known s f p known = known
+
+  -- ---- lists
+
+  joined : (xs ys : List (Seen S)) → Stand xs → Stand ys → Stand (xs ++ ys)
+  joined xs ys a b = join top xs ys a b
+
+  -- some parts, and then one more
+  and_last : (xs : List (Seen S)) (x : Seen S) → Stand xs → Known top x → Stand (xs ++ x ∷ [])
+  and_last xs x f h = joined xs (x ∷ []) f (h, tt)
+
+  -- ---- places
+
+  callee_parts : (s : Slot) (f : Expr S) (p : Place S) (x : Expr S) → parts (callee_place s f p).env x ≡ parts p.env x
+  callee_parts s (func_lit _ _ _ _) p x = refl
+  callee_parts s f p x = refl
+
+  -- the body of a literal with a typed signature
+  literal_env_is : (p : Place S) (g : Sig S) (f : FuncType) → func_type p.env g ≡ Some f → (in_literal p g).env ≡ literal_env p.env g
+  literal_env_is p g f e =
+      ap (λ o. (elim o as (λ z. Place S) [
+        | None ↦ p
+        | Some f ↦ record p {
+          env = literal_env p.env g;
+          bound = sig_declares g ++ p.bound;
+          ctx = body_ctx g f;
+          deferred = p.deferred || p.deferring;
+          deferring = false;
+          since = sig_declares g ++ (if p.deferring then [] else p.since);
+          literals = suc p.literals;
+        }
+      ]).env) e
+
+  literal_known : (p : Place S) (g : Sig S) (f : FuncType) → func_type p.env g ≡ Some f → N p → N (in_literal p g)
+  literal_known p g f e known =
+      (sig_names g ++ known.0, subst (λ (a : Env). NamesOutside top (sig_names g ++ known.0) a (in_literal p g).env (in_literal p g).bound) (sym (literal_env_is p g f e)) (scopes_hold.in_literals known.0 p.env p g f e known.1))
+
+  -- ---- types
+
+  type_stands : (p : Place S) → N p → (t : TypeExpr S) (u : GoType) → type_meant p.env t ≡ Some u → Stand (type_seen p t)
+  type_stands p known t u e = ((known, meant_resolved p.env t u e), tt)
+
+  pub written_stands : (p : Place S) → N p → (t : Option (TypeExpr S)) (u : Option GoType) → written_type p.env t ≡ Some u → Stand (written_seen p t)
+  written_stands p known None u e = tt
+  written_stands p known (Some t) u e = ((known, written_resolved p.env t u e), tt)
+
+  params_stand : (p : Place S) → N p → (xs : List (Param S)) (ts : List GoType) → params_meant p.env xs ≡ Some ts → Stand (params_seen p xs)
+  params_stand p known [] ts e = tt
+  params_stand p known (x ∷ xs) ts e =
+      let r = from_both (type_meant p.env x.of) (params_meant p.env xs) (λ y ys. Some (y ∷ ys)) ts e in
+      ((known, meant_resolved p.env x.of r.0 r.2), params_stand p known xs r.1 r.3)
+
+  pub sig_stands : (p : Place S) → N p → (g : Sig S) (f : FuncType) → func_type p.env g ≡ Some f → Stand (sig_seen p g)
+  sig_stands p known g f e =
+      let r = from_both (params_meant p.env g.params) (params_meant p.env g.results) (λ ts us. Some (record { params = ts; results = us })) f e in
+      joined (params_seen p g.params) (params_seen p g.results) (params_stand p known g.params r.0 r.2) (params_stand p known g.results r.1 r.3)
+
+  -- that of a member of a group: a text writes none where the member has no values
+  pub member_stands : (p : Place S) (i : ℕ) → N (in_constant i p) → (ns : List (NameAt S)) (ss : ValueSpecs S) (r : Repeated) (t : Option (TypeExpr S)) (es : Exprs S) → FormedSpec true (type_option_with to t) (exprs_with to es) → (u : Option GoType) → (repeated_by r t es).0 p.env ≡ Some u
+      → Stand (written_seen (before_repeats (in_constant i p) ns ss) t)
+  member_stands p i known ns ss r None es formed u e = tt
+  member_stands p i known ns ss r (Some t) no_exprs formed u e = absurd formed
+  member_stands p i known ns ss r (Some t) (expr_and x xs) formed u e = ((known, at_member p.env i t (written_resolved p.env t u e)), tt)
+
+  old_stand : (p : Place S) → N p → (ns : List (NameAt S)) → Stand (old_seen p ns)
+  old_stand p known [] = tt
+  old_stand p known (n ∷ ns) = go (is_old p n) refl (old_stand p known ns)
+    where
+      go : (b : Bool) → is_old p n ≡ b → Stand (old_seen p ns) → Stand (if b then seen p stored (ident n.span n.name) ∷ old_seen p ns else old_seen p ns)
+      go true e f = (tt, f)
+      go false e f = f
+
+  -- what stands before a dot: a package's name, or an expression
+  base_stands : (p : Place S) (b : Expr S) (n : NameAt S) (o : Operand) → (z : Option ℕ) → package_before p.env b ≡ z
+      → elim z [ Some q ↦ named_operand p.env (exported p.env.world q n.name) | None ↦ given (parts p.env b) (λ o. with_value o (selected (defined_in p.env) p.env.home n.name (place p.env b))) ] ≡ Some o
+      → ((o : Operand) → parts p.env b ≡ Some o → Stand (expr_seen p other b)) → Stand (expr_seen p other b)
+  base_stands p b n o None e h f = let r = from_given (parts p.env b) (λ o. with_value o (selected (defined_in p.env) p.env.home n.name (place p.env b))) o h in f r.0 r.1
+  base_stands p (ident s q) n o (Some k) e h f = (tt, tt)
+  base_stands p b n o (Some k) e h f = absurd (grind (arith, ap is_some e))
+
+  -- a key of a struct is no expression
+  keyed_stands : (p : Place S) (u : GoType) (k : Value S) (o : Operand) (x : Element) → with_key p.env u (some_value k) o ≡ Some x → ((q : Operand) → element p.env (key_type (defined_in p.env) u) k ≡ Some q → Stand (value_seen p (key_use p.env (Some u)) k)) → Stand (key_seen p (Some u) (some_value k))
+  keyed_stands p u k o x e f = go (is_struct u) e
+    where
+      go : (b : Bool) → (if b then given (field_key k) (λ n. Some (of_field n o)) else given (element p.env (key_type (defined_in p.env) u) k) (λ q. Some (keyed q o))) ≡ Some x → Stand (if b then [] else value_seen p (key_use p.env (Some u)) k)
+      go true e = tt
+      go false e = let r = from_given (element p.env (key_type (defined_in p.env) u) k) (λ q. Some (keyed q o)) x e in f r.0 r.1
+
+  -- `_` on the left, or what is typed
+  target_stands : (p : Place S) → N p → (u : Use) (x : Expr S) (b : Bool) (t : Target) → is_blank_name x ≡ b → (if b then Some blank else given (parts p.env x) (λ o. with_value o (target_at (place p.env x)))) ≡ Some t → ((o : Operand) → parts p.env x ≡ Some o → Stand (expr_seen p u x)) → Stand (expr_seen p u x)
+  target_stands p known u x false t q e f = let r = from_given (parts p.env x) (λ o. with_value o (target_at (place p.env x))) t e in f r.0 r.1
+  target_stands p known u (ident s n) true t q e f = (tt, tt)
+  target_stands p known u x true t q e f = absurd (grind (arith, q))
+
+  -- ---- statements with headers
+
+  -- a first statement that is typed declares what it declares
+  first_is : (c : Ctx) (a : Env) (i : StmtOption S) (d : Declared) → first c a i ≡ Some d → declares_first a i ≡ Some d
+  first_is c a no_stmt d e = e
+  first_is c a (some_stmt s) d e = let r = from_both (stmt c a s) (declares a s) (λ ends d. Some d) d e in r.3 ∙ r.4
+
+  -- what is said after it is said at the place after it
+  first_then : {A : Type 0} (p : Place S) (c : Ctx) (i : StmtOption S) (d : Declared) (q : Env → A) (x : A) → first c p.env i ≡ Some d → q (extend d.binds p.env) ≡ x → q (after_first p i).env ≡ x
+  first_then p c i d q x e h = ap (λ o. q (extend (binds_of (declared_option i) o) p.env)) (first_is c p.env i d e) ∙ h
+
+  for_stands : (p : Place S) (l : Bool) (c : Ctx) (s : S) (i : StmtOption S) (t : ExprOption S) (q : StmtOption S) (z : S) (b : Stmts S) (e : Bool) → stmt c p.env (for_ s i t q z b) ≡ Some e
+      → ((d : Declared) → first c (in_block p.env) i ≡ Some d → Stand (first_seen (in_heading true (around.block p)) i))
+      → ((o : Option Typed) → bound (after_first (around.block p) i).env t ≡ Some o → Stand (option_seen (in_heading true (after_first (around.block p) i)) t))
+      → ((d : Declared) → first c (after_first (around.block p) i).env q ≡ Some d → Stand (first_seen (in_heading true (after_first (around.block p) i)) q))
+      → ((e : Bool) → stmts (in_loop c) (in_block (after_first (around.block p) i).env) false b ≡ Some e → Stand (stmts_seen (looping (around.block (after_first (around.block p) i))) b))
+      → Stand (stmt_seen p l (for_ s i t q z b))
+  for_stands p l c s i t q z b e h f1 f2 f3 f4 =
+      let here : Place S = around.block p in
+      let then_ : Place S = after_first here i in
+      let ends : (Declared → Bool → Option Bool) = (λ q ends. Some (Rattle.go_tree.specs.GoTypes.Statements.is_absent t && not (Rattle.go_tree.specs.GoTypes.Jumps.breaks_in false None b))) in
+      let inner_ : (Declared → Option Bool) = (λ d. let k : Env = extend d.binds (in_block p.env) in only_if (all_used d.fresh (used_option k t ++ used_first k q ++ used_stmts (in_block k) b) && (not (is_define q) && is_test k (bound k t))) (both (first c k q) (stmts (in_loop c) (in_block k) false b) ends)) in
+      let r = from_given (first c (in_block p.env) i) inner_ e h in
+      let k : Env = extend (r.0).binds (in_block p.env) in
+      let w : Bool = all_used (r.0).fresh (used_option k t ++ used_first k q ++ used_stmts (in_block k) b) in
+      let g = passed (w && (not (is_define q) && is_test k (bound k t))) (both (first c k q) (stmts (in_loop c) (in_block k) false b) ends) e r.2 in
+      let test = met (bound k t) (λ v. Rattle.go_tree.specs.GoTypes.Answers.unless_missing v (λ v. is_condition (defined_in k) (Rattle.go_tree.specs.GoTypes.Operands.value v.0 v.1))) (and_second (not (is_define q)) (is_test k (bound k t)) (and_second w (not (is_define q) && is_test k (bound k t)) g)) in
+      let y = from_both (first c k q) (stmts (in_loop c) (in_block k) false b) ends e (from_only (w && (not (is_define q) && is_test k (bound k t))) (both (first c k q) (stmts (in_loop c) (in_block k) false b) ends) e r.2) in
+      and_last (first_seen (in_heading true here) i ++ option_seen (in_heading true then_) t ++ first_seen (in_heading true then_) q ++ stmts_seen (looping (around.block then_)) b) (seen_stmt p (for_ s i t q z b)) (joined (first_seen (in_heading true here) i ++ option_seen (in_heading true then_) t ++ first_seen (in_heading true then_) q) (stmts_seen (looping (around.block then_)) b) (joined (first_seen (in_heading true here) i ++ option_seen (in_heading true then_) t) (first_seen (in_heading true then_) q) (joined (first_seen (in_heading true here) i) (option_seen (in_heading true then_) t) (f1 r.0 r.1) (f2 test.0 (first_then here c i r.0 (λ k. bound k t) (Some test.0) r.1 test.1))) (f3 y.0 (first_then here c i r.0 (λ k. first c k q) (Some y.0) r.1 y.2))) (f4 y.1 (first_then here c i r.0 (λ k. stmts (in_loop c) (in_block k) false b) (Some y.1) r.1 y.3))) tt
+
+  range_stands : (p : Place S) (l : Bool) (c : Ctx) (s : S) (x : RangeLeft S) (y : Expr S) (z : S) (b : Stmts S) (e : Bool) → stmt c p.env (range_ s x y z b) ≡ Some e
+      → ((o : Operand) → ranges p.env o x ≡ true → Stand (left_seen (in_heading true p) x))
+      → ((o : Operand) → parts p.env y ≡ Some o → Stand (expr_seen (in_heading true p) other y))
+      → ((e : Bool) → stmts (in_loop c) (in_block (ranged p x y).env) false b ≡ Some e → Stand (stmts_seen (looping (around.block (ranged p x y))) b))
+      → Stand (stmt_seen p l (range_ s x y z b))
+  range_stands p l c s x y z b e h f1 f2 f3 =
+      let last : (Declared → Option Bool) = (λ d. let k : Env = in_block (extend d.binds p.env) in only_if (all_used d.fresh (used_stmts k b)) (given (stmts (in_loop c) k false b) (λ ends. Some false))) in
+      let k1 : (Operand → Option Bool) = (λ o. only_if (ranges p.env o x) (given (range_declares p.env (Some o) x) last)) in
+      let r = from_given (parts p.env y) k1 e h in
+      let g = passed (ranges p.env r.0 x) (given (range_declares p.env (Some r.0) x) last) e r.2 in
+      let d = from_given (range_declares p.env (Some r.0) x) last e (from_only (ranges p.env r.0 x) (given (range_declares p.env (Some r.0) x) last) e r.2) in
+      let k : Env = in_block (extend (d.0).binds p.env) in
+      let w = from_given (stmts (in_loop c) k false b) (λ ends. Some false) e (from_only (all_used (d.0).fresh (used_stmts k b)) (given (stmts (in_loop c) k false b) (λ ends. Some false)) e d.2) in
+      and_last (left_seen (in_heading true p) x ++ expr_seen (in_heading true p) other y ++ stmts_seen (looping (around.block (ranged p x y))) b) (seen_stmt p (range_ s x y z b)) (joined (left_seen (in_heading true p) x ++ expr_seen (in_heading true p) other y) (stmts_seen (looping (around.block (ranged p x y))) b) (joined (left_seen (in_heading true p) x) (expr_seen (in_heading true p) other y) (f1 r.0 g) (f2 r.0 r.1)) (f3 w.0 (ap (λ o. stmts (in_loop c) (in_block (extend (binds_of (defined x) (range_declares p.env o x)) p.env)) false b) r.1 ∙ ap (λ o. stmts (in_loop c) (in_block (extend (binds_of (defined x) o) p.env)) false b) d.1 ∙ w.1))) tt
+
+  switch_stands : (p : Place S) (l : Bool) (c : Ctx) (s : S) (i : StmtOption S) (t : ExprOption S) (cs : Cases S) (e : Bool) → stmt c p.env (switch s i t cs) ≡ Some e
+      → ((d : Declared) → first c (in_block p.env) i ≡ Some d → Stand (first_seen (in_heading true (around.block p)) i))
+      → ((o : Option Typed) → bound (after_first (around.block p) i).env t ≡ Some o → Stand (option_seen (in_heading true (after_first (around.block p) i)) t))
+      → ((tag : Typed) (r : Clauses) → clauses (in_switch c) (after_first (around.block p) i).env tag cs ≡ Some r → Stand (cases_seen (switching (after_first (around.block p) i)) cs))
+      → Stand (stmt_seen p l (switch s i t cs))
+  switch_stands p l c s i t cs e h f1 f2 f3 =
+      let here : Place S = around.block p in
+      let then_ : Place S = after_first here i in
+      let inner_ : (Declared → Option Bool) = (λ d. let k : Env = extend d.binds (in_block p.env) in only_if (all_used d.fresh (used_option k t ++ used_cases k cs)) (given (tag_of k (bound k t)) (λ tag. given (clauses (in_switch c) k tag cs) choice))) in
+      let r = from_given (first c (in_block p.env) i) inner_ e h in
+      let k : Env = extend (r.0).binds (in_block p.env) in
+      let g = from_given (tag_of k (bound k t)) (λ tag. given (clauses (in_switch c) k tag cs) choice) e (from_only (all_used (r.0).fresh (used_option k t ++ used_cases k cs)) (given (tag_of k (bound k t)) (λ tag. given (clauses (in_switch c) k tag cs) choice)) e r.2) in
+      let o = from_given (bound k t) (Rattle.go_tree.specs.GoTypes.Statements.tag_value (defined_in k)) g.0 g.1 in
+      let y = from_given (clauses (in_switch c) k g.0 cs) choice e g.2 in
+      and_last (first_seen (in_heading true here) i ++ option_seen (in_heading true then_) t ++ cases_seen (switching then_) cs) (seen_stmt p (switch s i t cs)) (joined (first_seen (in_heading true here) i ++ option_seen (in_heading true then_) t) (cases_seen (switching then_) cs) (joined (first_seen (in_heading true here) i) (option_seen (in_heading true then_) t) (f1 r.0 r.1) (f2 o.0 (first_then here c i r.0 (λ k. bound k t) (Some o.0) r.1 o.1))) (f3 g.0 y.0 (first_then here c i r.0 (λ k. clauses (in_switch c) k g.0 cs) (Some y.0) r.1 y.1))) tt
+
+  -- ---- what the arms of an `if` leave for its last block
+
+  pub record ArmsEnd (last : Env → Option Bool) (p : Place S) : Type 0 where
+    pub ends : Bool
+    pub last_is : last p.env ≡ Some ends
+    pub known : N p
+
+  mutual
+    pub expr_stands : (p : Place S) (known : N p) (u : Use) (x : Expr S) (o : Operand) → FormedExpr (expr_with to x) → parts p.env x ≡ Some o → Stand (expr_seen p u x)
+    expr_stands p known u (ident s n) o formed e = (tt, tt)
+    expr_stands p known u (int_lit s n) o formed e = (tt, tt)
+    expr_stands p known u (rune_lit s n) o formed e = (tt, tt)
+    expr_stands p known u (str_lit s n) o formed e = (tt, tt)
+    expr_stands p known u (composite s t es) o formed e =
+        let r = from_given (type_meant p.env t) (λ u. given (elements p.env (under (defined_in p.env) u) es) (built (defined_in p.env) p.env.home u)) o e in
+        let q = from_given (elements p.env (under (defined_in p.env) r.0) es) (built (defined_in p.env) p.env.home r.0) o r.2 in
+        and_last (type_seen p t ++ elems_seen (in_slot (a_slot 1 false false) p) (given (type_meant p.env t) (λ u. Some (under (defined_in p.env) u))) 0 es) (seen p u (composite s t es)) (joined (type_seen p t) (elems_seen (in_slot (a_slot 1 false false) p) (given (type_meant p.env t) (λ u. Some (under (defined_in p.env) u))) 0 es) (type_stands p known t r.0 r.1) (subst (λ o. Stand (elems_seen (in_slot (a_slot 1 false false) p) (given o (λ u. Some (under (defined_in p.env) u))) 0 es)) (sym r.1) (elems_stand (in_slot (a_slot 1 false false) p) known (under (defined_in p.env) r.0) 0 es q.0 formed.1 q.1))) tt
+    expr_stands p known u (selector s b n) o formed e =
+        and_last (expr_seen (in_slot (inner_slot p.slot (selector s b n) 7 false true) p) other b) (seen p u (selector s b n)) (base_stands (in_slot (inner_slot p.slot (selector s b n) 7 false true) p) b n o (package_before p.env b) refl e (λ o q. expr_stands (in_slot (inner_slot p.slot (selector s b n) 7 false true) p) known other b o formed.1 q)) (known, there (parts p.env (selector s b n)) o e)
+    expr_stands p known u (index s b i) o formed e =
+        let r = from_both (parts p.env b) (parts p.env i) (λ o j. both (typed o) (typed j) (index_of (defined_in p.env))) o e in
+        and_last (expr_seen (in_slot (inner_slot p.slot (index s b i) 7 false false) p) other b ++ expr_seen (in_slot (a_slot 1 false false) p) other i) (seen p u (index s b i)) (joined (expr_seen (in_slot (inner_slot p.slot (index s b i) 7 false false) p) other b) (expr_seen (in_slot (a_slot 1 false false) p) other i) (expr_stands (in_slot (inner_slot p.slot (index s b i) 7 false false) p) known other b r.0 formed.1 r.2) (expr_stands (in_slot (a_slot 1 false false) p) known other i r.1 formed.3 r.3)) tt
+    expr_stands p known u (slice s b i j) o formed e =
+        let r = from_given (parts p.env b) (λ o. both (bound p.env i) (bound p.env j) (λ i j. with_value o (λ v. sliced (defined_in p.env) v i j))) o e in
+        let q = from_both (bound p.env i) (bound p.env j) (λ i j. with_value r.0 (λ v. sliced (defined_in p.env) v i j)) o r.2 in
+        and_last (expr_seen (in_slot (inner_slot p.slot (slice s b i j) 7 false false) p) other b ++ option_seen (in_slot (a_slot 1 false false) p) i ++ option_seen (in_slot (a_slot 1 false false) p) j) (seen p u (slice s b i j)) (joined (expr_seen (in_slot (inner_slot p.slot (slice s b i j) 7 false false) p) other b ++ option_seen (in_slot (a_slot 1 false false) p) i) (option_seen (in_slot (a_slot 1 false false) p) j) (joined (expr_seen (in_slot (inner_slot p.slot (slice s b i j) 7 false false) p) other b) (option_seen (in_slot (a_slot 1 false false) p) i) (expr_stands (in_slot (inner_slot p.slot (slice s b i j) 7 false false) p) known other b r.0 formed.1 r.1) (option_stands (in_slot (a_slot 1 false false) p) known i q.0 formed.2 q.2)) (option_stands (in_slot (a_slot 1 false false) p) known j q.1 formed.3 q.3)) tt
+    expr_stands p known u (call s f xs z) o formed e =
+        let r = from_both (parts p.env f) (all_parts p.env xs) (call_of (defined_in p.env)) o e in
+        let k : Place S = callee_place (inner_slot p.slot (call s f xs z) 7 true false) f p in
+        and_last (expr_seen k called f ++ all_seen (in_slot (a_slot 1 false true) p) (arg_uses p.env (parts p.env f) (all_parts p.env xs)) xs) (seen p u (call s f xs z)) (joined (expr_seen k called f) (all_seen (in_slot (a_slot 1 false true) p) (arg_uses p.env (parts p.env f) (all_parts p.env xs)) xs) (expr_stands k (callee_known (inner_slot p.slot (call s f xs z) 7 true false) f p known) called f r.0 formed.0 (callee_parts (inner_slot p.slot (call s f xs z) 7 true false) f p f ∙ r.2)) (all_stand (in_slot (a_slot 1 false true) p) known (arg_uses p.env (parts p.env f) (all_parts p.env xs)) xs r.1 formed.1 r.3)) tt
+    expr_stands p known u (func_lit s g z b) o formed e =
+        let last : (FuncType → Binds → Option Operand) = (λ f bs. only_if (is_body f b (stmts (body_ctx g f) (extend bs (in_block p.env)) false b)) (Some (Rattle.go_tree.specs.GoTypes.Operands.a_function f))) in
+        let r = from_given (func_type p.env g) (λ f. given (body_binds [] g f) (last f)) o e in
+        let q = from_given (body_binds [] g r.0) (last r.0) o r.2 in
+        let here : Env = extend q.0 (in_block p.env) in
+        let y = met (stmts (body_ctx g r.0) here false b) (λ ends. (Rattle.go_tree.specs.GoTypes.Answers.is_empty (r.0).results || ends) && Rattle.go_tree.specs.GoTypes.Answers.distinct_by Rattle.std.specs.Prelude.bytes_eq (Rattle.go_tree.specs.GoTypes.Jumps.labels_in b)) (passed (is_body r.0 b (stmts (body_ctx g r.0) here false b)) (Some (Rattle.go_tree.specs.GoTypes.Operands.a_function r.0)) o q.2) in
+        and_last (sig_seen p g ++ stmts_seen (in_literal p g) b) (seen p u (func_lit s g z b)) (joined (sig_seen p g) (stmts_seen (in_literal p g) b) (sig_stands p known g r.0 r.1) (stmts_stand (in_literal p g) (literal_known p g r.0 r.1 known) (body_ctx g r.0) false b y.0 formed.1
+        (ap (λ a. stmts (body_ctx g r.0) a false b) (literal_env_is p g r.0 r.1)
+        ∙ ap (λ o. stmts (body_ctx g r.0) (extend (binds_or (sig_names g) (given o (body_binds [] g))) (in_block p.env)) false b) r.1
+        ∙ ap (λ o. stmts (body_ctx g r.0) (extend (binds_or (sig_names g) o) (in_block p.env)) false b) q.1 ∙ y.1))) tt
+    expr_stands p known u (type_operand s t) o formed e =
+        let r = from_given (type_meant p.env t) (λ u. Some (Rattle.go_tree.specs.GoTypes.Operands.a_type u)) o e in
+        and_last (type_seen p t) (seen p u (type_operand s t)) (type_stands p known t r.0 r.1) tt
+    expr_stands p known u (unary s op x) o formed e =
+        let r = from_given (parts p.env x) (unary_of (defined_in p.env) op (place p.env x)) o e in
+        and_last (expr_seen (in_slot (last_slot p.slot (unary s op x) 6 (Some op)) p) (unary_use op) x) (seen p u (unary s op x)) (expr_stands (in_slot (last_slot p.slot (unary s op x) 6 (Some op)) p) known (unary_use op) x r.0 formed.1 r.1) tt
+    expr_stands p known u (binary s op x y) o formed e =
+        let r = from_both (parts p.env x) (parts p.env y) (binary_of (defined_in p.env) op) o e in
+        and_last (expr_seen (in_slot (inner_slot p.slot (binary s op x y) (level_of op) false false) p) (operand_use p.env op y) x ++ expr_seen (in_slot (last_slot p.slot (binary s op x y) (level_of op + 1) None) p) (operand_use p.env op x) y) (seen p u (binary s op x y)) (joined (expr_seen (in_slot (inner_slot p.slot (binary s op x y) (level_of op) false false) p) (operand_use p.env op y) x) (expr_seen (in_slot (last_slot p.slot (binary s op x y) (level_of op + 1) None) p) (operand_use p.env op x) y) (expr_stands (in_slot (inner_slot p.slot (binary s op x y) (level_of op) false false) p) known (operand_use p.env op y) x r.0 formed.1 r.2) (expr_stands (in_slot (last_slot p.slot (binary s op x y) (level_of op + 1) None) p) known (operand_use p.env op x) y r.1 formed.3 r.3)) tt
+    expr_stands p known u (star s x) o formed e =
+        let r = from_given (parts p.env x) (star_of (defined_in p.env)) o e in
+        and_last (expr_seen (in_slot (last_slot p.slot (star s x) 6 None) p) other x) (seen p u (star s x)) (expr_stands (in_slot (last_slot p.slot (star s x) 6 None) p) known other x r.0 formed.1 r.1) tt
+
+    pub all_stand : (p : Place S) (known : N p) (us : List Use) (xs : Exprs S) (os : List Operand) → FormedExprs (exprs_with to xs) → all_parts p.env xs ≡ Some os → Stand (all_seen p us xs)
+    all_stand p known us no_exprs os formed e = tt
+    all_stand p known us (expr_and x xs) os formed e =
+        let r = from_both (parts p.env x) (all_parts p.env xs) (λ o os. Some (o ∷ os)) os e in
+        joined (expr_seen (record p { slot = comma_slot p.slot xs }) (head_use us) x) (all_seen p (later_uses us) xs) (expr_stands (record p { slot = comma_slot p.slot xs }) known (head_use us) x r.0 formed.1 r.2) (all_stand p known (later_uses us) xs r.1 formed.2 r.3)
+
+    pub option_stands : (p : Place S) (known : N p) (x : ExprOption S) (o : Option Typed) → FormedOption (expr_option_with to x) → bound p.env x ≡ Some o → Stand (option_seen p x)
+    option_stands p known no_expr o formed e = tt
+    option_stands p known (some_expr x) o formed e = let r = from_given (parts p.env x) (λ o. with_value o (λ v. Some (Some v))) o e in expr_stands p known other x r.0 formed.1 r.1
+
+    pub elems_stand : (p : Place S) (known : N p) (u : GoType) (i : ℕ) (es : Elems S) (xs : List Element) → FormedElems (elems_with to es) → elements p.env u es ≡ Some xs → Stand (elems_seen p (Some u) i es)
+    elems_stand p known u i no_elems xs formed e = tt
+    elems_stand p known u i (elem s k x es) xs formed e =
+        let r = from_both (given (element p.env (inner_type (defined_in p.env) u) x) (λ o. with_key p.env u k o)) (elements p.env u es) (λ x xs. Some (x ∷ xs)) xs e in
+        let q = from_given (element p.env (inner_type (defined_in p.env) u) x) (λ o. with_key p.env u k o) r.0 r.2 in
+        let here : Place S = record p { slot = a_slot 1 false (elem_closed es) } in
+        joined (key_seen p (Some u) k ++ value_seen here (elem_use p.env (Some u) i k) x) (elems_seen p (Some u) (suc i) es) (joined (key_seen p (Some u) k) (value_seen here (elem_use p.env (Some u) i k) x) (key_stands p known u k q.0 r.0 formed.0 q.2) (value_stands here known (elem_use p.env (Some u) i k) (inner_type (defined_in p.env) u) x q.0 (elem_into p.env u i k) formed.1 q.1)) (elems_stand p known u (suc i) es r.1 formed.2 r.3)
+
+    pub key_stands : (p : Place S) (known : N p) (u : GoType) (k : ValueOption S) (o : Operand) (x : Element) → FormedKey (value_option_with to k) → with_key p.env u k o ≡ Some x → Stand (key_seen p (Some u) k)
+    key_stands p known u no_value o x formed e = tt
+    key_stands p known u (some_value k) o x formed e = keyed_stands p u k o x e (λ q f. value_stands p known (key_use p.env (Some u)) (key_type (defined_in p.env) u) k q (λ t. into_back (key_type (defined_in p.env) u)) formed f)
+
+    pub value_stands : (p : Place S) (known : N p) (u : Use) (t : Option GoType) (x : Value S) (o : Operand) → (is_some t ≡ true → into_type u ≡ t) → FormedValue (value_with to x) → element p.env t x ≡ Some o → Stand (value_seen p u x)
+    value_stands p known u t (plain x) o g formed e = expr_stands p known u x o formed.1 e
+    value_stands p known u t (braced s es) o g formed e =
+        let r = from_given t (λ t. given (elements p.env (under (defined_in p.env) (literal_type (defined_in p.env) t)) es) (built_inside (defined_in p.env) p.env.home t)) o e in
+        let w : GoType = under (defined_in p.env) (literal_type (defined_in p.env) r.0) in
+        let q = from_given (elements p.env w es) (built_inside (defined_in p.env) p.env.home r.0) o r.2 in
+        subst (λ o. Stand (elems_seen p (given o (λ t. Some (under (defined_in p.env) (literal_type (defined_in p.env) t)))) 0 es)) (sym (g (there t r.0 r.1) ∙ r.1)) (elems_stand p known w 0 es q.0 formed q.1)
+
+    pub stmt_stands : (p : Place S) (known : N p) (l : Bool) (c : Ctx) (s : Stmt S) (e : Bool) → FormedStmt (stmt_with to s) → stmt c p.env s ≡ Some e → Stand (stmt_seen p l s)
+    stmt_stands p known l c (const_decl s g ss) e formed h =
+        let r = from_given (declares_constants p.env nothing_to_repeat 0 ss) (λ d. Some false) e h in
+        and_last (constants_seen (plain_slot p) nothing_to_repeat 0 ss) (seen_stmt p (const_decl s g ss)) (constants_stand (plain_slot p) known nothing_to_repeat 0 ss r.0 formed.1 r.1) tt
+    stmt_stands p known l c (var_decl s g ss) e formed h =
+        let r = from_given (declares_variables p.env ss) (λ d. Some false) e h in
+        and_last (variables_seen (plain_slot p) ss) (seen_stmt p (var_decl s g ss)) (variables_stand (plain_slot p) known ss r.0 formed.1 r.1) tt
+    stmt_stands p known l c (empty s) e formed h = (tt, tt)
+    stmt_stands p known l c (eval s x) e formed h =
+        let r = from_given (parts p.env x) (λ o. Some (is_panic p.env x)) e (from_only (is_call stands_alone p.env x) (given (parts p.env x) (λ o. Some (is_panic p.env x))) e h) in
+        and_last (expr_seen p (alone l) x) (seen_stmt p (eval s x)) (expr_stands p known (alone l) x r.0 formed.1 r.1) tt
+    stmt_stands p known l c (step s x up) e formed h =
+        let r = from_given (parts p.env x) (λ o. only_if (updates (defined_in p.env) (step_op up) (place p.env x ∷ []) (o ∷ []) (one_more ∷ [])) (Some false)) e h in
+        and_last (expr_seen p updated x) (seen_stmt p (step s x up)) (expr_stands p known updated x r.0 formed.1 r.1) tt
+    stmt_stands p known l c (assign s xs None ys) e formed h =
+        let k : (List Target → Bool) = (λ ts. meets (right_values p.env (length ts) (places p.env ys) (all_parts p.env ys)) (stores_all (defined_in p.env) ts)) in
+        let r = from_given (targets p.env xs) (λ ts. only_if (k ts) (Some false)) e h in
+        let q = met (right_values p.env (length r.0) (places p.env ys) (all_parts p.env ys)) (stores_all (defined_in p.env) r.0) (passed (k r.0) (Some false) e r.2) in
+        let y = from_given (all_parts p.env ys) (Rattle.go_tree.specs.GoTypes.Statements.assigned_values (defined_in p.env) (length r.0) (places p.env ys)) q.0 q.1 in
+        and_last (all_seen p (every_use stored xs) xs ++ all_seen p (right_uses p.env xs) ys) (seen_stmt p (assign s xs None ys)) (joined (all_seen p (every_use stored xs) xs) (all_seen p (right_uses p.env xs) ys) (targets_stand p known (every_use stored xs) xs r.0 formed.1 r.1) (all_stand p known (right_uses p.env xs) ys y.0 formed.4 y.1)) tt
+    stmt_stands p known l c (assign s xs (Some op) ys) e formed h =
+        let r = from_both (all_parts p.env xs) (all_parts p.env ys) (λ os qs. only_if (updates (defined_in p.env) op (places p.env xs) os qs) (Some false)) e h in
+        and_last (all_seen p (every_use updated xs) xs ++ all_seen p (first_operand_use p.env op xs ∷ []) ys) (seen_stmt p (assign s xs (Some op) ys)) (joined (all_seen p (every_use updated xs) xs) (all_seen p (first_operand_use p.env op xs ∷ []) ys) (all_stand p known (every_use updated xs) xs r.0 formed.1 r.2) (all_stand p known (first_operand_use p.env op xs ∷ []) ys r.1 formed.4 r.3)) tt
+    stmt_stands p known l c (define s ns ys) e formed h =
+        let vs : Option (List Typed) = right_values p.env (length ns) (places p.env ys) (all_parts p.env ys) in
+        let r = from_given (new_by_define p.env (names_of ns) vs) (λ d. Some false) e h in
+        let q = some_values p.env (names_of ns) vs r.0 r.1 in
+        let y = from_given (all_parts p.env ys) (Rattle.go_tree.specs.GoTypes.Statements.assigned_values (defined_in p.env) (length ns) (places p.env ys)) q.0 q.1 in
+        and_last (old_seen p ns ++ all_seen p (alike whole ns) ys) (seen_stmt p (define s ns ys)) (joined (old_seen p ns) (all_seen p (alike whole ns) ys) (old_stand p known ns) (all_stand p known (alike whole ns) ys y.0 formed.3 y.1)) tt
+    stmt_stands p known l c (return_ s xs) e formed h = and_last (all_seen p (return_uses p.ctx.results xs) xs) (seen_stmt p (return_ s xs)) (returned_stand p known (return_uses p.ctx.results xs) c xs formed (passed (returns c p.env xs (all_parts p.env xs)) (Some true) e h)) tt
+    stmt_stands p known l c (break_ s n) e formed h = (tt, tt)
+    stmt_stands p known l c (continue_ s n) e formed h = (tt, tt)
+    stmt_stands p known l c (inner s b) e formed h = and_last (stmts_seen (around.block p) b) (seen_stmt p (inner s b)) (stmts_stand (around.block p) (block_known p known) c false b e formed h) tt
+    stmt_stands p known l c (if_ s bs z) e formed h =
+        let r = from_given (arms c (in_block p.env) (λ k. used_block k z) (λ k. block c k z) bs) (λ ends. Some (has_last z && ends)) e h in
+        let q = arms_stand (around.block p) (block_known p known) c (λ k. used_block k z) (λ k. block c k z) bs r.0 formed.1 r.1 in
+        and_last (arms_seen (around.block p) bs ++ block_seen (after_arms (around.block p) bs) z) (seen_stmt p (if_ s bs z)) (joined (arms_seen (around.block p) bs) (block_seen (after_arms (around.block p) bs) z) q.0 (block_stands (after_arms (around.block p) bs) (q.1).known c z (q.1).ends formed.2 (q.1).last_is)) tt
+    stmt_stands p known l c (for_ s i t q z b) e formed h =
+        for_stands p l c s i t q z b e h (λ d k. first_stands (in_heading true (around.block p)) (block_known p known) c i d formed.0 k)
+        (λ o k. option_stands (in_heading true (after_first (around.block p) i)) (first_known (around.block p) i (block_known p known)) t o formed.1 k)
+        (λ d k. first_stands (in_heading true (after_first (around.block p) i)) (first_known (around.block p) i (block_known p known)) c q d formed.2 k)
+        (λ e k. stmts_stand (looping (around.block (after_first (around.block p) i))) (block_known (after_first (around.block p) i) (first_known (around.block p) i (block_known p known))) (in_loop c) false b e formed.3 k)
+    stmt_stands p known l c (range_ s x y z b) e formed h =
+        range_stands p l c s x y z b e h (λ o k. left_stands (in_heading true p) known x o formed.0 k) (λ o k. expr_stands (in_heading true p) known other y o formed.2 k)
+        (λ e k. stmts_stand (looping (around.block (ranged p x y))) (block_known (ranged p x y) (range_known p x y known)) (in_loop c) false b e formed.3 k)
+    stmt_stands p known l c (switch s i t cs) e formed h =
+        switch_stands p l c s i t cs e h (λ d k. first_stands (in_heading true (around.block p)) (block_known p known) c i d formed.0 k)
+        (λ o k. option_stands (in_heading true (after_first (around.block p) i)) (first_known (around.block p) i (block_known p known)) t o formed.1 k)
+        (λ tag r k. cases_stand (switching (after_first (around.block p) i)) (first_known (around.block p) i (block_known p known)) (in_switch c) tag cs r formed.2 k)
+    stmt_stands p known l c (defer s x) e formed h =
+        let r = from_given (parts p.env x) (λ o. Some false) e (from_only (is_call may_be_deferred p.env x) (given (parts p.env x) (λ o. Some false)) e h) in
+        and_last (expr_seen (record p { deferring = true; slot = a_slot 0 false false }) deferred_call x) (seen_stmt p (defer s x)) (expr_stands (record p { deferring = true; slot = a_slot 0 false false }) known deferred_call x r.0 formed.1 r.1) tt
+    stmt_stands p known l c (label s n x) e formed h =
+        let jumps : Bool = Rattle.go_tree.specs.GoTypes.Jumps.breaks true (Some n.name) x in
+        let last : (Bool → Option Bool) = (λ ends. Some (ends && not (Rattle.go_tree.specs.GoTypes.Jumps.breaks false (Some n.name) x))) in
+        let r = from_given (stmt (labelled c n x) p.env x) last e (from_only jumps (given (stmt (labelled c n x) p.env x) last) e h) in
+        and_last (stmt_seen (record p { ctx = labelled p.ctx n x }) false x) (seen_stmt p (label s n x)) (stmt_stands (record p { ctx = labelled p.ctx n x }) known false (labelled c n x) x r.0 formed.1 r.1) tt
+
+    pub stmts_stand : (p : Place S) (known : N p) (c : Ctx) (before : Bool) (b : Stmts S) (e : Bool) → FormedStmts (stmts_with to b) → stmts c p.env before b ≡ Some e → Stand (stmts_seen p b)
+    stmts_stand p known c before no_stmts e formed h = tt
+    stmts_stand p known c before (stmt_and s ss) e formed h =
+        let r = from_both (stmt c p.env s) (declares p.env s) (λ ends d. only_if (all_used d.fresh (used_stmts (extend d.binds p.env) ss)) (stmts c (extend d.binds p.env) (if is_empty_stmt s then before else ends) ss)) e h in
+        let q = from_only (all_used (r.1).fresh (used_stmts (extend (r.1).binds p.env) ss)) (stmts c (extend (r.1).binds p.env) (if is_empty_stmt s then before else r.0) ss) e r.4 in
+        joined (stmt_seen (at_stmt p s) true s) (stmts_seen (after_stmt p s) ss) (stmt_stands (at_stmt p s) known true c s r.0 formed.0 r.2) (stmts_stand (after_stmt p s) (stmt_known p s known) c (if is_empty_stmt s then before else r.0) ss e formed.1 (ap (λ o. stmts c (extend (binds_of (declared s) o) p.env) (if is_empty_stmt s then before else r.0) ss) r.3 ∙ q))
+
+    pub first_stands : (p : Place S) (known : N p) (c : Ctx) (i : StmtOption S) (d : Declared) → FormedPart (stmt_option_with to i) → first c p.env i ≡ Some d → Stand (first_seen p i)
+    first_stands p known c no_stmt d formed h = tt
+    first_stands p known c (some_stmt s) d formed h = let r = from_both (stmt c p.env s) (declares p.env s) (λ ends d. Some d) d h in stmt_stands p known false c s r.0 formed.1 r.2
+
+    pub block_stands : (p : Place S) (known : N p) (c : Ctx) (x : BlockOption S) (e : Bool) → FormedBlock (block_option_with to x) → block c p.env x ≡ Some e → Stand (block_seen p x)
+    block_stands p known c no_block e formed h = tt
+    block_stands p known c (some_block s b) e formed h = stmts_stand (around.block p) (block_known p known) c false b e formed h
+
+    pub left_stands : (p : Place S) (known : N p) (x : RangeLeft S) (o : Operand) → FormedLeft (left_with to x) → ranges p.env o x ≡ true → Stand (left_seen p x)
+    left_stands p known nothing o formed h = tt
+    left_stands p known (assigns es) o formed h =
+        let r = met (typed o) (λ v. meets (targets p.env es) (range_assigns (defined_in p.env) v)) h in
+        let q = met (targets p.env es) (range_assigns (defined_in p.env) r.0) r.2 in
+        targets_stand p known (every_use stored es) es q.0 formed.1 q.1
+    left_stands p known (defines ns) o formed h = tt
+
+    -- where the left sides of an assignment are typed
+    pub targets_stand : (p : Place S) (known : N p) (us : List Use) (xs : Exprs S) (ts : List Target) → FormedExprs (exprs_with to xs) → targets p.env xs ≡ Some ts → Stand (all_seen p us xs)
+    targets_stand p known us no_exprs ts formed e = tt
+    targets_stand p known us (expr_and x xs) ts formed e =
+        let r = from_both (if is_blank_name x then Some blank else given (parts p.env x) (λ o. with_value o (target_at (place p.env x)))) (targets p.env xs) (λ t ts. Some (t ∷ ts)) ts e in
+        joined (expr_seen (record p { slot = comma_slot p.slot xs }) (head_use us) x) (all_seen p (later_uses us) xs) (target_stands (record p { slot = comma_slot p.slot xs }) known (head_use us) x (is_blank_name x) r.0 refl r.2 (λ o q. expr_stands (record p { slot = comma_slot p.slot xs }) known (head_use us) x o formed.1 q)) (targets_stand p known (later_uses us) xs r.1 formed.2 r.3)
+
+    pub returned_stand : (p : Place S) (known : N p) (us : List Use) (c : Ctx) (xs : Exprs S) → FormedExprs (exprs_with to xs) → returns c p.env xs (all_parts p.env xs) ≡ true → Stand (all_seen p us xs)
+    returned_stand p known us c no_exprs formed e = tt
+    returned_stand p known us c (expr_and x xs) formed e =
+        let m = met (all_parts p.env (expr_and x xs)) (λ os. Rattle.go_tree.specs.GoTypes.Operands.takes_all (defined_in p.env) c.results (Rattle.go_tree.specs.GoTypes.Operands.spread os)) e in
+        let r = from_both (parts p.env x) (all_parts p.env xs) (λ o os. Some (o ∷ os)) m.0 m.1 in
+        joined (expr_seen (record p { slot = comma_slot p.slot xs }) (head_use us) x) (all_seen p (later_uses us) xs) (expr_stands (record p { slot = comma_slot p.slot xs }) known (head_use us) x r.0 formed.1 r.2) (all_stand p known (later_uses us) xs r.1 formed.2 r.3)
+
+    pub arms_stand : (p : Place S) (known : N p) (c : Ctx) (ul : Env → List (List ℕ)) (last : Env → Option Bool) (x : Arms S) (e : Bool) → FormedArms (arms_with to x) → arms c p.env ul last x ≡ Some e → Stand (arms_seen p x) × ArmsEnd last (after_arms p x)
+    arms_stand p known c ul last no_arms e formed h = (tt, record { ends = e; last_is = h; known = known })
+    arms_stand p known c ul last (arm s i t z b r) e formed h =
+        let k1 : (Declared → Option Bool) = (λ d. let k : Env = extend d.binds p.env in only_if (all_used d.fresh (used k t ++ used_stmts (in_block k) b ++ used_arms (in_block k) ul r) && meets (parts k t) (is_condition (defined_in k))) (both (stmts c (in_block k) false b) (arms c (in_block k) ul last r) (λ ends r. Some (ends && r)))) in
+        let f = from_given (first c p.env i) k1 e h in
+        let k : Env = extend (f.0).binds p.env in
+        let w : Bool = all_used (f.0).fresh (used k t ++ used_stmts (in_block k) b ++ used_arms (in_block k) ul r) in
+        let rest : Option Bool = both (stmts c (in_block k) false b) (arms c (in_block k) ul last r) (λ ends r. Some (ends && r)) in
+        let o = met (parts k t) (is_condition (defined_in k)) (and_second w (meets (parts k t) (is_condition (defined_in k))) (passed (w && meets (parts k t) (is_condition (defined_in k))) rest e f.2)) in
+        let y = from_both (stmts c (in_block k) false b) (arms c (in_block k) ul last r) (λ ends r. Some (ends && r)) e (from_only (w && meets (parts k t) (is_condition (defined_in k))) rest e f.2) in
+        let then_ : Place S = after_first p i in
+        let later = arms_stand (around.block then_) (block_known then_ (first_known p i known)) c ul last r y.1 formed.4 (first_then p c i f.0 (λ k. arms c (in_block k) ul last r) (Some y.1) f.1 y.3) in
+        (joined (first_seen (in_heading true p) i ++ expr_seen (in_heading true then_) other t ++ stmts_seen (around.block then_) b) (arms_seen (around.block then_) r) (joined (first_seen (in_heading true p) i ++ expr_seen (in_heading true then_) other t) (stmts_seen (around.block then_) b) (joined (first_seen (in_heading true p) i) (expr_seen (in_heading true then_) other t) (first_stands (in_heading true p) known c i f.0 formed.0 f.1) (expr_stands (in_heading true then_) (first_known p i known) other t o.0 formed.2 (first_then p c i f.0 (λ k. parts k t) (Some o.0) f.1 o.1))) (stmts_stand (around.block then_) (block_known then_ (first_known p i known)) c false b y.0 formed.3 (first_then p c i f.0 (λ k. stmts c (in_block k) false b) (Some y.0) f.1 y.2))) later.0, later.1)
+
+    pub cases_stand : (p : Place S) (known : N p) (c : Ctx) (tag : Typed) (x : Cases S) (r : Clauses) → FormedCases (cases_with to x) → clauses c p.env tag x ≡ Some r → Stand (cases_seen p x)
+    cases_stand p known c tag no_cases r formed h = tt
+    cases_stand p known c tag (case s es b cs) r formed h =
+        let last : (List Typed → Bool → Clauses → Option Clauses) = (λ vs ends r. Some (record { consts = Rattle.go_tree.specs.GoTypes.Statements.case_constants vs ++ r.consts; defaults = Rattle.go_tree.specs.GoTypes.Statements.is_default es + r.defaults; ends = (ends && not (Rattle.go_tree.specs.GoTypes.Jumps.breaks_in false None b)) && r.ends })) in
+        let k2 : (List Typed → Option Clauses) = (λ vs. only_if (list_all (case_value (defined_in p.env) tag) vs) (both (stmts c (in_block p.env) false b) (clauses c p.env tag cs) (last vs))) in
+        let f = from_given (all_parts p.env es) (λ os. given (all_typed os) k2) r h in
+        let g = from_given (all_typed f.0) k2 r f.2 in
+        let y = from_both (stmts c (in_block p.env) false b) (clauses c p.env tag cs) (last g.0) r (from_only (list_all (case_value (defined_in p.env) tag) g.0) (both (stmts c (in_block p.env) false b) (clauses c p.env tag cs) (last g.0)) r g.2) in
+        joined (all_seen (in_heading false p) [] es ++ stmts_seen (around.block p) b) (cases_seen p cs) (joined (all_seen (in_heading false p) [] es) (stmts_seen (around.block p) b) (all_stand (in_heading false p) known [] es f.0 formed.0 f.1) (stmts_stand (around.block p) (block_known p known) c false b y.0 formed.1 y.2)) (cases_stand p known c tag cs y.1 formed.2 y.3)
+
+    pub variables_stand : (p : Place S) (known : N p) (x : ValueSpecs S) (d : Declared) → FormedSpecs false (specs_with to x) → declares_variables p.env x ≡ Some d → Stand (variables_seen p x)
+    variables_stand p known no_specs d formed e = tt
+    variables_stand p known (spec s ns t es ss) d formed e =
+        let vs : Option (List Typed) = right_values p.env (length ns) (places p.env es) (all_parts p.env es) in
+        let o : Option Declared = new_variables p.env (names_of ns) (written_type p.env t) (no_values es) vs in
+        let q = from_given o (λ d. given (declares_variables (extend d.binds p.env) ss) (λ e. Some (and_then (unused_after (used_variables (extend d.binds p.env) ss) d) e))) d e in
+        let z = from_given (declares_variables (extend (q.0).binds p.env) ss) (λ e. Some (and_then (unused_after (used_variables (extend (q.0).binds p.env) ss) q.0) e)) d q.2 in
+        let w = typed_variables p.env (names_of ns) (written_type p.env t) (no_values es) vs q.0 q.1 in
+        joined (written_seen p t ++ all_seen p (alike (value_use p.env t) ns) es) (variables_seen (after_variables p ns t es) ss) (joined (written_seen p t) (all_seen p (alike (value_use p.env t) ns) es) (written_stands p known t w.0 w.1) (values_stand p known (alike (value_use p.env t) ns) (length ns) es formed.3 w.2)) (variables_stand (after_variables p ns t es) (specs_known p ns t es known) ss z.0 formed.5 (ap (λ o. declares_variables (extend (binds_of (names_of ns) o) p.env) ss) q.1 ∙ z.1))
+
+    -- a group of constants, from the i-th member on
+    pub constants_stand : (p : Place S) (known : N p) (r : Repeated) (i : ℕ) (x : ValueSpecs S) (d : Declared) → FormedSpecs true (specs_with to x) → declares_constants p.env r i x ≡ Some d → Stand (constants_seen p r i x)
+    constants_stand p known r i no_specs d formed e = tt
+    constants_stand p known r i (spec s ns t es ss) d formed e =
+        let again : Repeated = repeated_by r t es in
+        let here : Env = record p.env { iota = Some i } in
+        let rest : (Declared → Option Declared) = (λ d. given (declares_constants (extend d.binds p.env) again (i + 1) ss) (λ e. Some (and_then d e))) in
+        let q = from_given (new_constants here (names_of ns) (again.0 p.env) (again.1 here)) rest d e in
+        let z = from_given (declares_constants (extend (q.0).binds p.env) again (i + 1) ss) (λ e. Some (and_then q.0 e)) d q.2 in
+        let kind = constants_kind here (names_of ns) (again.0 p.env) (again.1 here) q.0 q.1 in
+        let m : Place S = before_repeats (in_constant i p) ns ss in
+        let more : declares_constants (after_constants p again i ns).env again (suc i) ss ≡ Some z.0 = ap (λ o. declares_constants (extend (binds_of (names_of ns) o) p.env) again (suc i) ss) q.1 ∙ ap (λ (k : ℕ). declares_constants (extend (q.0).binds p.env) again k ss) (one_more_is i) ∙ z.1 in
+        joined (written_seen m t ++ all_seen m (alike (value_use p.env t) ns) es) (constants_seen (after_constants p again i ns) again (suc i) ss)
+        (joined (written_seen m t) (all_seen m (alike (value_use p.env t) ns) es) (member_stands p i (member_known p i known) ns ss r t es formed.4 kind.0 kind.1) (constant_values m (member_known p i known) (alike (value_use p.env t) ns) es formed.3 (λ f. ap (λ b. is_some ((if b then r else (λ e. written_type e t, λ e. all_parts e es)).1 here)) (sym f) ∙ typed_constants here (names_of ns) (again.0 p.env) (again.1 here) q.0 q.1)))
+        (constants_stand (after_constants p again i ns) (members_known p again i ns known) again (suc i) ss z.0 formed.5 more)
+
+    -- the values of a member, if it has its own
+    pub constant_values : (p : Place S) (known : N p) (us : List Use) (es : Exprs S) → FormedExprs (exprs_with to es) → (no_values es ≡ false → is_some (all_parts p.env es) ≡ true) → Stand (all_seen p us es)
+    constant_values p known us no_exprs formed h = tt
+    constant_values p known us (expr_and x xs) formed h =
+        let m = there_is (all_parts p.env (expr_and x xs)) (h refl) in
+        let r = from_both (parts p.env x) (all_parts p.env xs) (λ o os. Some (o ∷ os)) m.0 m.1 in
+        joined (expr_seen (record p { slot = comma_slot p.slot xs }) (head_use us) x) (all_seen p (later_uses us) xs) (expr_stands (record p { slot = comma_slot p.slot xs }) known (head_use us) x r.0 formed.1 r.2) (all_stand p known (later_uses us) xs r.1 formed.2 r.3)
+
+    -- the values of a spec of variables, if there are any
+    pub values_stand : (p : Place S) (known : N p) (us : List Use) (n : ℕ) (es : Exprs S) → FormedExprs (exprs_with to es) → (no_values es ≡ false → is_some (right_values p.env n (places p.env es) (all_parts p.env es)) ≡ true) → Stand (all_seen p us es)
+    values_stand p known us n no_exprs formed h = tt
+    values_stand p known us n (expr_and x xs) formed h =
+        let m = known_values (all_parts p.env (expr_and x xs)) (Rattle.go_tree.specs.GoTypes.Statements.assigned_values (defined_in p.env) n (places p.env (expr_and x xs))) (h refl) in
+        let r = from_both (parts p.env x) (all_parts p.env xs) (λ o os. Some (o ∷ os)) m.0 m.1 in
+        joined (expr_seen (record p { slot = comma_slot p.slot xs }) (head_use us) x) (all_seen p (later_uses us) xs) (expr_stands (record p { slot = comma_slot p.slot xs }) known (head_use us) x r.0 formed.1 r.2) (all_stand p known (later_uses us) xs r.1 formed.2 r.3)
