@@ -6,4 +6,5 @@
 pub mod constant_names;
 pub mod few_names;
 pub mod look_ups;
+pub mod named_anywhere;
 pub mod typed_uses;

@@ -1,0 +1,148 @@
+-- A use in another package, in a composite literal whose type has a field that isn't exported, by the law alone.
+--   package p: const D = 7; const C = D      package q: import "m/p"; var E = struct{ x int }{ x: p.C }
+-- C is marked; after the step: var E = struct{ x int }{ x: p.D }
+use Rattle.std.specs.Prelude.{refl, ℕ, false, List, [], ◌∷◌, None, if◌then◌else◌, codes, nat_eq}
+use Rattle.std.proofs.Common.{arith}
+use Rattle.go_tree.specs.Tree.{Expr, ident, int_lit, selector, composite, no_exprs, expr_and, no_elems, elem, plain, some_value, named as a_type, struct_type, field, no_fields, var_decl, no_specs, spec}
+use Rattle.go_tree.specs.File.{Decl, values, File}
+use Rattle.pkg_graph.specs.ModuleFiles.Internal.{passes}
+use Rattle.pkg_graph.specs.Package.{SourceTree, Package}
+use Rattle.go_translation.specs.Packages.{sources}
+use Rattle.go_translation.specs.SameMeaning.{Packages, SameMeaning}
+use Rattle.run_rules.specs.Surroundings.{whole, Place, Seen, seen}
+use Rattle.run_rules.specs.Programs.{top_place, decl_seen}
+use Rattle.run_rules.specs.Sites.{MarkRef, Where, Site, an_expr}
+use Rattle.run_rules.specs.FormTrees.{ConstForm}
+use Rattle.constant_steps.specs.Alone.{no_constants, and_constant, constants_alone, no_variables, and_variable, variables_alone, no_decls, and_decl, this_package, a_later_package}
+use Rattle.constant_steps.specs.Alone as alone
+use Rattle.constant_steps.specs.PlainUse.{linked_at}
+use Rattle.constant_steps.specs.QualifiedSteps.MemberNames.{own_member, imported_member}
+use Rattle.constant_steps.specs.QualifiedSteps.NamedUse.{NamedUse, PackagesStand, one_qualifier}
+use Rattle.constant_steps.specs.QualifiedSteps.ImportsStay.{same_before}
+use Rattle.constant_steps.proofs.QualifiedSteps.ExampleParts.{named, declares, of_p, no_comments}
+use Rattle.constant_modules.specs.NamedAnywhere.Use.{NamedUseAnywhere}
+use Rattle.constant_modules.proofs.NamedAnywhere.StepsAnywhere.{meaning_anywhere}
+
+abbrev file_of_p : File ℕ
+file_of_p = record { package_name = named 1 (codes "p"); imports = []; decls = declares 10 (codes "D") (int_lit 11 (codes "7")) ∷ declares 20 (codes "C") (ident 21 (codes "D")) ∷ [] }
+
+abbrev use_before : Expr ℕ
+use_before = selector 31 (ident 32 (codes "p")) (named 33 (codes "C"))
+
+abbrev put : Expr ℕ
+put = selector 31 (ident 31 (codes "p")) (named 31 (codes "D"))
+
+abbrev variable_of : Expr ℕ → Decl ℕ
+variable_of e =
+    values (var_decl 30 false (spec 30 (named 34 (codes "E") ∷ []) None (expr_and
+    (composite 35 (struct_type 36 (field 37 (named 38 (codes "x")) (a_type 39 None (named 40 (codes "int"))) no_fields))
+    (elem 41 (some_value (plain (ident 42 (codes "x")))) (plain e) no_elems)) no_exprs) no_specs))
+
+abbrev file_of_q : Expr ℕ → File ℕ
+file_of_q e = record { package_name = named 1 (codes "q"); imports = of_p ∷ []; decls = variable_of e ∷ [] }
+
+abbrev source_of_p : SourceTree ℕ
+source_of_p = record { path = codes "p.go"; tree = file_of_p }
+
+abbrev source_of_q : SourceTree ℕ
+source_of_q = record { path = codes "q.go"; tree = file_of_q use_before }
+
+abbrev p : Package ℕ
+p = record { path = codes "m/p"; name = codes "p"; files = source_of_p ∷ [] }
+
+abbrev q : Package ℕ
+q = record { path = codes "m/q"; name = codes "q"; files = source_of_q ∷ [] }
+
+abbrev rs : List (Package ℕ)
+rs = p ∷ q ∷ []
+
+abbrev home : Where ℕ
+home = record { number = 0; of = p; file_number = 0; source = source_of_p }
+
+abbrev here : Where ℕ
+here = record { number = 1; of = q; file_number = 0; source = source_of_q }
+
+abbrev mark_of : ℕ → MarkRef
+mark_of d = record { «package» = 0; file = 0; decl = d; item = 0 }
+
+abbrev marks : List MarkRef
+marks = mark_of 1 ∷ []
+
+-- the place of the use
+abbrev place_of_use : Place ℕ → List (Seen ℕ) → Place ℕ
+place_of_use o [] = o
+place_of_use o (seen r u (selector s e n) ∷ xs) = if nat_eq s 31 then r else place_of_use o xs
+place_of_use o (x ∷ xs) = place_of_use o xs
+
+abbrev use_of_c : Site ℕ
+use_of_c =
+    record {
+      at = here;
+      decl = 0;
+      place = place_of_use (top_place rs 1 q source_of_q.tree) (decl_seen rs 1 q source_of_q.tree (variable_of use_before));
+      use_ = whole;
+      part = an_expr use_before;
+      mark = mark_of 1;
+    }
+
+is_named_use : NamedUse nat_eq no_comments rs marks use_of_c
+unfolding passes
+is_named_use = record {
+  use_ = use_before;
+  part = refl;
+  names = imported_member refl refl;
+  home = home;
+  home_is = refl;
+  constant = named 20 (codes "C");
+  text = ident 21 (codes "D");
+  declared = refl;
+  untyped = refl;
+  new_mark = mark_of 0;
+  text_names = own_member refl;
+  new_home = home;
+  new_home_is = refl;
+  new_constant = named 10 (codes "D");
+  new_text = int_lit 11 (codes "7");
+  new_declared = refl;
+  kind = ConstForm;
+  new = put;
+  range = 31;
+  packages = record { of = 0; name = codes "p"; added = None } ∷ [];
+  reduces = refl;
+  none_added = refl;
+}
+
+use_stands : NamedUseAnywhere nat_eq no_comments rs marks use_of_c is_named_use
+unfolding is_named_use
+use_stands = record {
+  package_there = refl;
+  file_there = refl;
+  decl = variable_of use_before;
+  decl_there = refl;
+  plain = alone.and_file (and_decl (variables_alone (and_variable no_variables)) no_decls) alone.no_files;
+  home_plain = alone.and_file (and_decl (constants_alone (and_constant no_constants)) (and_decl (constants_alone (and_constant no_constants)) no_decls)) alone.no_files;
+  new_plain = alone.and_file (and_decl (constants_alone (and_constant no_constants)) (and_decl (constants_alone (and_constant no_constants)) no_decls)) alone.no_files;
+  alone = (tt, (λ i. absurd (grind (arith, i)), (λ i. (refl, refl), (λ i. absurd (grind (arith, i)), tt))));
+}
+
+abbrev packages_with : Expr ℕ → Packages ℕ
+packages_with e =
+    record {
+      members =
+          record { path = codes "m/p"; source = linked_at rs home 1 } ∷
+          record { path = codes "m/q"; source = record (linked_at rs here 1) { files = record { imports = record { span = 3; name = codes "p"; of = 0 } ∷ []; decls = (file_of_q e).decls } ∷ [] } } ∷ [];
+      marked = [];
+    }
+
+stand_there : PackagesStand nat_eq no_comments rs marks use_of_c is_named_use (sources (packages_with use_before).members)
+unfolding is_named_use
+stand_there = record {
+  use_ = record { at = 1; nth = 1; there = a_later_package refl this_package };
+  home = record { at = 1; nth = 0; there = this_package };
+  new_home = record { at = 1; nth = 0; there = this_package };
+}
+
+-- by the law alone
+means_the_same : SameMeaning (packages_with use_before) (packages_with put)
+unfolding use_stands is_named_use stand_there
+means_the_same = meaning_anywhere nat_eq no_comments rs marks use_of_c is_named_use use_stands (packages_with use_before) stand_there refl (λ Q w. same_before one_qualifier)

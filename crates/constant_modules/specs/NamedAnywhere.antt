@@ -1,0 +1,7 @@
+pub mod Use
+pub mod Runs
+pub mod Laws
+pub mod Taken
+pub mod TakenLaws
+pub mod Marked
+pub mod MarkedLaws
