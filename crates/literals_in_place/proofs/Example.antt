@@ -1,7 +1,7 @@
 -- A module whose `main` has a call, and the one with the literal in its place, by the laws alone: they show the same.
 --   package main: func add(x int) int { x = x + 1; return x }; func main() { println(add(2)) }
 -- add is marked; after the step: println(func(x int) int { x = x + 1; return x }(2))
-use Rattle.std.specs.Prelude.{◌≡◌, ◌<◌, refl, ℕ, zero, suc, Bool, false, true, List, [], ◌∷◌, Some, None, codes, bytes_eq}
+use Rattle.std.specs.Prelude.{◌≡◌, ◌<◌, refl, ℕ, zero, suc, Bool, false, true, IsTrue, List, [], ◌∷◌, ◌++◌, Some, None, codes, bytes_eq}
 use Rattle.std.proofs.Common.{arith}
 use Rattle.go_tree.specs.declared.spans.Span.{Span}
 use Rattle.go_tree.specs.declared.exprs.Rest.TheVariants.{Plain}
@@ -12,17 +12,24 @@ use Rattle.pkg_graph.specs.Package.{SourceTree, Package}
 use Rattle.param_choice.specs.Chosen.{has}
 use Rattle.run_rules.specs.ImportRules.Removed.{same_span}
 use Rattle.go_tree.specs.GoTypes.Collect.{collected}
-use Rattle.go_tree.specs.GoTypes.Programs.{a_func, Headed}
+use Rattle.go_tree.specs.GoTypes.Programs.{a_func, Headed, Program as Sources}
 use Rattle.go_kernel.specs.Kernel.{ImportPath, FuncName, Program}
 use Rattle.go_kernel.specs.Alike.{MeanSame, Below}
 use Rattle.go_translation.specs.Here.{Here}
+use Rattle.go_translation.specs.Mentions.{Way, mentions}
 use Rattle.go_translation.specs.Packages as translated
 use Rattle.go_translation.specs.Calls.{function_named}
-use Rattle.go_translation.specs.Packages.{sources, paths_in, codes_of, program_of, freely_shown_by}
+use Rattle.go_translation.specs.Packages.{sources, paths_in, codes_of, program_of, freely_shown_by, are_well_typed}
 use Rattle.go_translation.specs.SwappedPackages.{function_here}
 use Rattle.go_translation.proofs.Ranks.{program_ranked}
 use Rattle.run_rules.specs.Surroundings.{whole, Place, a_slot, in_slot, at_stmt}
-use Rattle.run_rules.specs.Programs.{body_place}
+use Rattle.run_rules.specs.Programs.{body_place, linked}
+use Rattle.typed_in_place.specs.ProgramsAlike.{no_more, and_more}
+use Rattle.typed_in_place.specs.SameFacts.{SameOperand}
+use Rattle.typed_in_place.specs.SameWorlds.SameWorlds.{at as in_world}
+use Rattle.imported_typing.specs.Further.{own_reach}
+use Rattle.imported_typing.specs.Reach.{HeaderWithin, PlaceWithin}
+use Rattle.imported_typing.proofs.HeadersAlike.{around_within}
 use Rattle.run_rules.specs.Sites.{MarkRef, Where, Site, an_expr}
 use Rattle.run_rules.specs.Calls.{body_seen}
 use Rattle.run_rules.specs.FormTrees.{as_expr, top}
@@ -37,9 +44,11 @@ use Rattle.literal_steps.proofs.PartsHere.{all_here}
 use Rattle.meaning_in_place.specs.InOperands.{in_argument}
 use Rattle.meaning_in_place.specs.InPackages.{rank_of_all, function_stands, header_stays, no_headers, and_header, no_packages as no_more_packages, and_package, PackagesStand}
 use Rattle.meaning_in_place.specs.InStatements.{InStmts, this_expr, in_eval, this_stmt}
-use Rattle.meaning_in_place.specs.Standing.{OperandStands}
+use Rattle.meaning_in_place.specs.Standing.{MentionedAlike, OperandStands}
 use Rattle.meaning_in_place.proofs.Operands.{operand_in}
 use Rattle.meaning_in_place.proofs.Packages.{each_below, all_bounded, all_below, packages_same}
+use Rattle.literals_in_place.proofs.FurtherFacts.{same_beside, facts_beside, mentions_beside}
+use Rattle.literals_in_place.proofs.FurtherSteps.{well_typed_beside}
 use Rattle.literals_in_place.proofs.Literals.{operand_stands}
 
 abbrev at : ℕ → Span
@@ -252,3 +261,26 @@ packages_stand =
 
 shown_alike : (main : ImportPath) (choices : List ℕ) (n : ℕ) → freely_shown_by packages free 1 main choices n ≡ freely_shown_by packages_after free 1 main choices n
 shown_alike = packages_same free 1 ranks (all_bounded P free 1 rank below) (all_below P free 1 rank below) packages packages_after (each_below P free 1 rank below (program_ranked packages free rank refl)) packages_stand
+
+-- ---- beside a further package, and beside all
+
+abbrev further : Sources Span
+further = record { number = 1; name = codes "n"; at = at 60; files = [] } ∷ []
+
+main_within : HeaderWithin (own_reach (linked rs)) main_header
+main_within = record { home = refl; imports = λ n. tt }
+
+-- all that names mean in main is within reach
+reached : PlaceWithin (own_reach (linked rs)) there.env
+reached = around_within (record { reach = own_reach (linked rs); left = collected (linked rs); right = collected (linked rs ++ further); same = same_beside (linked rs) further refl refl }) main_header main_within None
+
+facts : SameOperand [] (in_world (collected (linked rs ++ further)) there.env) adding literal
+unfolding is_literal_use is_plain_call
+facts = facts_beside same_span no_comments rs marks use_of_add is_literal_use is_plain_call packages is_linked [] in_main (called_beside is_called) no_packages literal refl [] (λ n e. absurd (grind (arith, e))) further refl reached
+
+mentioned : (way : Way) → MentionedAlike [] (mentions way (in_world (collected (linked rs ++ further)) there.env) adding) (mentions way (in_world (collected (linked rs ++ further)) there.env) literal)
+unfolding is_literal_use is_plain_call
+mentioned way = mentions_beside same_span no_comments rs marks use_of_add is_literal_use is_plain_call packages is_linked [] in_main (called_beside is_called) no_packages way literal refl [] (λ n e. absurd (grind (arith, e))) further refl reached
+
+still_typed : (Q : List (translated.Package Span)) → IsTrue (are_well_typed (packages ++ Q)) → IsTrue (are_well_typed (packages_after ++ Q))
+still_typed = well_typed_beside P free 1 ranks (paths_in packages) (collected (sources packages)) packages packages_after refl packages_stand.members (and_more (record { number = refl; name = refl; files = and_more tt no_more }) no_more) (and_more refl (and_more refl no_more)) refl refl

@@ -1,5 +1,9 @@
 //! Laws of calls and literals in whole functions and packages.
 
+ghost use Rattle.literals_in_place.specs.Further.{FactsReachedAlone, LiteralsHaveTheFactsBesideOthers};
+ghost use Rattle.literals_in_place.specs.Further.{LiteralsMentionAlikeBesideOthers, MentionsReachedAlone};
+ghost use Rattle.literals_in_place.specs.Further.{PackagesStayTypedBesideOthers, StepsShowTheSameBesideOthers};
+ghost use Rattle.literals_in_place.specs.Further.{StepsStayWellTyped};
 ghost use Rattle.literals_in_place.specs.Laws.{BodiesKeepTheirTermAfter, BodiesStayTypedAfter};
 ghost use Rattle.literals_in_place.specs.Laws.{DeferredLiteralsStand, LiteralsHaveTheFactsOfCalls};
 ghost use Rattle.literals_in_place.specs.Laws.{LiteralsMentionAlike, LiteralsStand};
@@ -29,4 +33,28 @@ pub fn bodies_stay_with_imports()
 pub fn modules_with_literals_show_the_same()
     ensures shows { ModulesShowTheSame }
     ensures covered { ModulesAreCovered }
+{}
+
+/// Beside further packages, in dependency order behind those of the module, a call and its literal still have
+/// the same facts to the rules of typing: these need of a world what is reached alone.
+pub fn facts_stay_beside_others()
+    ensures reached { FactsReachedAlone }
+    ensures literals { LiteralsHaveTheFactsBesideOthers }
+{}
+
+/// Packages in whose functions parts stand for others, as literals do for calls, stay well typed beside further
+/// packages, where alone each body is typed as before and the imports are right: so after a step all further
+/// packages that were well typed with the packages before are so with those after, and the step leaves packages
+/// that show the same if its parts mean the same beside all of them.
+pub fn packages_stay_typed_beside_others()
+    ensures packages { PackagesStayTypedBesideOthers }
+    ensures steps { StepsStayWellTyped }
+    ensures shows { StepsShowTheSameBesideOthers }
+{}
+
+/// Beside further packages a call and its literal still mention alike what is declared around: what a body
+/// mentions, so which variables live in cells, needs of a world what is reached alone.
+pub fn mentions_stay_beside_others()
+    ensures reached { MentionsReachedAlone }
+    ensures literals { LiteralsMentionAlikeBesideOthers }
 {}

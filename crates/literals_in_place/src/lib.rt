@@ -6,5 +6,7 @@
 mod laws;
 
 pub use laws::{
-    bodies_stay_with_imports, literals_stand_for_calls, modules_with_literals_show_the_same,
+    bodies_stay_with_imports, facts_stay_beside_others, literals_stand_for_calls,
+    mentions_stay_beside_others, modules_with_literals_show_the_same,
+    packages_stay_typed_beside_others,
 };
