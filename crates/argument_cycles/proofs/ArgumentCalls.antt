@@ -86,7 +86,7 @@ module _ (commented : ℕ → ℕ → At → Bool) (rs : List (Package At)) (mar
 
   -- ---- lists of arguments
 
-  abbrev listed : List (Expr At) → List MarkRef
+  abbrev pub listed : List (Expr At) → List MarkRef
   listed [] = []
   listed (e ∷ es) = E e ++ listed es
 
@@ -140,7 +140,7 @@ module _ (commented : ℕ → ℕ → At → Bool) (rs : List (Package At)) (mar
   receiver_calls false f b h = absurd (grind (arith, h))
 
   -- what the arguments of the function call, the call does
-  arguments_call : (m : Bool) (t : Expr At) (b : MarkRef) → Has b (listed (arguments c.new m env t)) → Has b (E t)
+  pub arguments_call : (m : Bool) (t : Expr At) (b : MarkRef) → Has b (listed (arguments c.new m env t)) → Has b (E t)
   arguments_call m (call s f xs r) b h = go (listed_of b (receiver_in c.new m env f) (list_of xs) h)
     where
       go : Has b (listed (receiver_in c.new m env f)) ⊎ Has b (listed (list_of xs)) → Has b ((E f ++ calls_all D env around xs) ++ called_by D (callee D env around f))

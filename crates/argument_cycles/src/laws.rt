@@ -1,6 +1,7 @@
 //! Laws of calls whose arguments take the places of parameters.
 
 ghost use Rattle.argument_cycles.specs.Laws as law;
+ghost use Rattle.argument_cycles.specs.NamesAlone as alone;
 
 /// Where a call becomes the one expression of its function or method, no obstacle stands in its way: so what
 /// the expression calls by a name, alone or behind a package's name, is at the call the marked function that
@@ -28,4 +29,42 @@ pub fn placed_arguments_call_through()
 pub fn placed_steps_keep_cycles()
     ensures kept { law.PlacedStepsKeepCycles }
     ensures puts { law.PlacedStepsPutExpressions }
+{}
+
+/// Where a call becomes a block or a tail, in which some arguments may take the places of parameters and the
+/// rest is bound first, the statements call only what the call did or what the function leads to. It is
+/// asked by names alone: at no place inside names what is called in the body a marked function that the
+/// function doesn't lead to, nor an argument one that the call doesn't call.
+pub fn placed_blocks_come_through()
+    ensures { law.PlacedBlocksComeThrough }
+{}
+
+/// So a step that puts such statements in a function and adds no import keeps which marked functions lie on
+/// a cycle, where what the receiver and the arguments call is called still, and what is around stays.
+pub fn placed_block_steps_keep_cycles()
+    ensures puts { law.PlacedBlocksArePut }
+    ensures kept { law.PlacedBlockStepsKeepCycles }
+{}
+
+/// Where a call becomes a literal of its function, in which some arguments may take the places of parameters
+/// and the others stay the literal's, the literal calls only what the call did or what the function leads
+/// to: asked by names alone, as of statements in braces.
+pub fn placed_literals_come_through()
+    ensures { law.PlacedLiteralsComeThrough }
+{}
+
+/// So a step that puts such a literal in a function and adds no import keeps which marked functions lie on a
+/// cycle, where what the receiver and the arguments call is called still, and what is around stays.
+pub fn placed_literal_steps_keep_cycles()
+    ensures puts { law.PlacedLiteralsArePut }
+    ensures kept { law.PlacedLiteralStepsKeepCycles }
+{}
+
+/// Inside, where at least what is declared around the use is declared, a name that is called names what it
+/// does at the use, or nothing; an expression that calls by names alone calls at most what it does there. So
+/// what is asked by names of statements in braces and of literals is asked of such names at the use alone.
+pub fn names_name_no_more_inside()
+    ensures names { alone.NamesInside }
+    ensures expressions { alone.ExpressionsInside }
+    ensures arguments { alone.ArgumentsByNames }
 {}

@@ -1,0 +1,81 @@
+-- Expressions that call by names alone: inside a block they call at most what they do around it (Go specification,
+-- Calls; Declarations and scope).
+use Rattle.std.specs.Prelude.{◌≡◌, ℕ, ◌⊎◌, Bool, true, false, List, [], ◌∷◌, None}
+use Rattle.go_tree.specs.Tree.{Expr, ident, composite, selector, index, slice, call, func_lit, unary, binary, star}
+use Rattle.go_tree.specs.Tree.{Exprs, no_exprs, expr_and, ExprOption, no_expr, some_expr}
+use Rattle.pkg_graph.specs.Package.{Package}
+use Rattle.run_rules.specs.Calls.{Given, arg_typed, given_params}
+use Rattle.run_rules.specs.Conversions.{converts}
+use Rattle.run_rules.specs.FormTrees.{FormKind}
+use Rattle.run_rules.specs.Places.{expr_seen}
+use Rattle.run_rules.specs.Sites.{MarkRef, is_among_marks, Site, called_mark}
+use Rattle.run_rules.specs.Steps.{At, same_here}
+use Rattle.run_rules.specs.Surroundings.{Use, other, Place}
+use Rattle.order_runs.specs.CycleLaws.PutCalls.{called_among}
+use Rattle.literal_cycles.specs.BodyForms.Uses.{CalledUse, call_of}
+use Rattle.argument_cycles.specs.Braces.{IsInside, AllArgumentsLed}
+
+abbrev mutual
+  -- what the expression calls are names alone, and no literal of a function and no composite literal stands in it
+  pub CallsNames : Expr At → Type 0
+  CallsNames (composite s t es) = ⊥
+  CallsNames (selector s b n) = CallsNames b
+  CallsNames (index s b i) = CallsNames b × CallsNames i
+  CallsNames (slice s b i j) = CallsNames b × (OptionCallsNames i × OptionCallsNames j)
+  CallsNames (call s (ident z n) xs r) = AllCallNames xs
+  CallsNames (call s f xs r) = ⊥
+  CallsNames (func_lit s g z b) = ⊥
+  CallsNames (unary s o e) = CallsNames e
+  CallsNames (binary s o a b) = CallsNames a × CallsNames b
+  CallsNames (star s e) = CallsNames e
+  CallsNames e = Unit {0}
+
+  -- so of each of these
+  pub AllCallNames : Exprs At → Type 0
+  AllCallNames no_exprs = Unit {0}
+  AllCallNames (expr_and e es) = CallsNames e × AllCallNames es
+
+  -- and of one that may be left out
+  pub OptionCallsNames : ExprOption At → Type 0
+  OptionCallsNames no_expr = Unit {0}
+  OptionCallsNames (some_expr e) = CallsNames e
+
+module _ (commented : ℕ → ℕ → At → Bool) (rs : List (Package At)) (marks : List MarkRef) (x : Site At)
+    (u : CalledUse same_here commented rs marks x) where
+  -- an argument calls by names alone, and is converted in no use
+  abbrev pub ArgumentByNames : Given At → Type 0
+  ArgumentByNames g =
+      CallsNames g.arg
+      × ((w : Use)
+      → converts (arg_typed same_here rs (call_of same_here commented rs marks x u) g.arg) g.type w ≡ false)
+
+  -- so do all
+  abbrev pub AllByNames : List (Given At) → Type 0
+  AllByNames [] = Unit {0}
+  AllByNames (g ∷ gs) = ArgumentByNames g × AllByNames gs
+
+-- A name that is called names inside the function that it names at the use, or none.
+abbrev pub NamesInside : Type 0
+NamesInside =
+    (commented : ℕ → ℕ → At → Bool) (rs : List (Package At)) (marks : List MarkRef) (x : Site At)
+    (u : CalledUse same_here commented rs marks x) (q : Place At) → IsInside commented rs marks x u q → (z : At)
+    (n : List ℕ) → (called_mark rs marks x.at q (ident z n) ≡ None)
+    ⊎ (called_mark rs marks x.at q (ident z n) ≡ called_mark rs marks x.at x.place (ident z n))
+
+-- An expression that calls by names alone calls inside at most what it does at the use.
+abbrev pub ExpressionsInside : Type 0
+ExpressionsInside =
+    (commented : ℕ → ℕ → At → Bool) (rs : List (Package At)) (marks : List MarkRef) (x : Site At)
+    (u : CalledUse same_here commented rs marks x) (q : Place At) → IsInside commented rs marks x u q → (e : Expr At)
+    → CallsNames e → (at : ℕ) (b : MarkRef)
+    → is_among_marks (called_among rs marks x.at at (expr_seen q other e)) b ≡ true
+    → is_among_marks (called_among rs marks x.at at (expr_seen x.place other e)) b ≡ true
+
+-- So arguments that call by names alone call inside, as they are written in each form, at most what the call does.
+abbrev pub ArgumentsByNames : Type 0
+ArgumentsByNames =
+    (commented : ℕ → ℕ → At → Bool) (rs : List (Package At)) (marks : List MarkRef) (x : Site At)
+    (u : CalledUse same_here commented rs marks x) (k : FormKind)
+    → AllByNames commented rs marks x u (given_params same_here rs (call_of same_here commented rs marks x u))
+    → AllArgumentsLed commented rs marks x u k
+    (given_params same_here rs (call_of same_here commented rs marks x u))
