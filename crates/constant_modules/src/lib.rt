@@ -5,6 +5,7 @@
 
 pub mod constant_names;
 pub mod few_names;
+pub mod kept_uses;
 pub mod look_ups;
 pub mod named_anywhere;
 pub mod typed_uses;

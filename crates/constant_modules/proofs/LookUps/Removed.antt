@@ -236,7 +236,7 @@ module _ (marks : List MarkRef) (st : Standing) (l : Logged) (after : Standing) 
   name_added : (s : ImportSpec At) → import_name mid s ≡ import_name st.packages s
   name_added s = λ z. name_or s.name (name-stays (with_tree (file_added n.found)) (λ p. refl) (λ p. refl) w.number st.packages s.path z)
 
-  name_between : (s : ImportSpec At) → import_name qs s ≡ import_name st.packages s
+  pub name_between : (s : ImportSpec At) → import_name qs s ≡ import_name st.packages s
   name_between s = λ z. name_or s.name (name-stays (with_tree (file_between same_here (is_commented st) st.packages marks n.found)) (λ p. refl) (λ p. refl) w.number st.packages s.path z)
 
   abbrev added_names : List (List ℕ)
@@ -246,7 +246,7 @@ module _ (marks : List MarkRef) (st : Standing) (l : Logged) (after : Standing) 
   names_are [] = refl
   names_are (s ∷ ss) = λ z. name_between s z ∷ names_are ss z
 
-  names_there : map (import_name qs) (import_specs v.source.tree) ≡ map (import_name st.packages) (import_specs w.source.tree) ++ added_names
+  pub names_there : map (import_name qs) (import_specs v.source.tree) ≡ map (import_name st.packages) (import_specs w.source.tree) ++ added_names
   names_there =
       (λ z. map (import_name qs) (specs-of-both w.source.tree.imports (added_decls n.found.range (imports_added n.found.named)) z))
       ∙ map_append (import_name qs) (import_specs w.source.tree) (specs_in (added_decls n.found.range (imports_added n.found.named)))

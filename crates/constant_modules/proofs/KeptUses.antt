@@ -1,0 +1,4 @@
+-- Imports that are used after a step over a constant.
+pub mod Added
+pub mod InPlace
+pub mod Settled
