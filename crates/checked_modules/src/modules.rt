@@ -10,12 +10,14 @@ ghost use Rattle.operand_modes.specs.CheckerTables.Ready.{AreReady};
 ghost use Rattle.collected.specs.Declarations.{refusal_of, refused_declaration};
 ghost use Rattle.collected.specs.ValueHeaders.SpelledDecls.{PackagesAreSpelled};
 ghost use Rattle.checked_modules.specs.RefusedBodies.PrintedPackages.Packages.{print_only};
+ghost use Rattle.checked_modules.specs.FunctionBodies.Walked.{PackagesAreWalked};
 ghost use Rattle.checked_modules.specs.Modules.{AreKnown};
 
 use crate::bodies::refused_functions;
 use crate::file_places::{FilePlace, file_places};
 use crate::firsts::first_of_packages;
-use crate::refused_bodies::{first_bodies_by_files, tables_tell_of_printers};
+use crate::function_bodies::tables_find_the_same;
+use crate::refused_bodies::first_bodies_by_files;
 use crate::uses::names_used;
 use collected::{
     Collected, RefusedHeaders, RefusedPlace, blocks_have_names, bodies_come_after, collect,
@@ -28,8 +30,10 @@ use pkg_graph::{Package, one_order_at_most};
 use std::alloc::Global;
 use typed_names::{Blocks, Scope};
 
-/// The first import or header that is refused, once all that the packages declare is known.
-fn refused_declaration(
+/// The first import or declaration that is refused, once all that the packages declare is known; bodies aside. The error
+/// is want of memory; linear in the files but for look-ups (Go specification, Declarations and scope; Import
+/// declarations).
+pub fn refused_declaration(
     alloc: Global,
     packages: &[Package],
     order: &[u32],
@@ -55,14 +59,14 @@ fn refused_declaration(
     Ok(place)
 }
 
-/// The place that is named of the packages of a module in their order, whose files hold besides imports only constants
-/// and functions that print them: the package, the file and where in it the import, the declaration or the function
-/// stands whose body isn't typed, or the name of a package `main` without a function `main`; in each package imports
-/// and declarations before bodies, file by file. None exactly where the packages are well typed. The literals of
-/// constants have to be well spelled, as they are in files that read (value_headers' `read_values_are_spelled`). The
-/// error is want of memory; linear in the files but for look-ups (Go specification, Declarations and scope; Import
-/// declarations; Function declarations; Program execution).
-pub fn first_refused(
+/// The place that is named of the packages of a module in their order: the package, the file and where in it the import,
+/// the declaration, or the function or method stands whose body isn't typed, or the name of a package `main` without a
+/// function `main`; in each package imports and declarations before bodies, file by file. None exactly where the packages
+/// are well typed. The literals of values have to be well spelled and bodies to be formed, as they are in files that read
+/// (`read_values_are_spelled`, `read_bodies_are_walked`). The error is want of memory; linear in the files but for
+/// look-ups (Go specification, Declarations and scope; Import declarations; Function declarations; Method declarations;
+/// Program execution).
+pub fn refused_place(
     alloc: Global,
     packages: &[Package],
     order: &[u32],
@@ -70,7 +74,7 @@ pub fn first_refused(
     requires few { length packages.now < 2 ^ 32 }
     requires order { AreOrdered packages.now order.now }
     requires spelled { PackagesAreSpelled (views packages.now) }
-    requires prints { print_only (views packages.now) ≡ true }
+    requires walked { PackagesAreWalked (views packages.now) }
     ensures { IfOk result (λ o. refusal_of o ≡ refused_place (program_of packages.now)) }
 {
     one_order_at_most();
@@ -78,7 +82,7 @@ pub fn first_refused(
     blocks_have_names();
     bodies_come_after();
     first_bodies_by_files();
-    tables_tell_of_printers();
+    tables_find_the_same();
     let Collected {
         mut tables,
         blocks,
@@ -102,4 +106,20 @@ pub fn first_refused(
         alloc, packages, order, tables, &blocks, &places, &files, &headers, &refused,
     )?;
     Ok(first_of_packages(packages, order, &blocks, &bodies, declaration))
+}
+
+/// That place, of packages whose files hold besides imports only constants and functions that print them: their bodies
+/// are walked.
+pub fn first_refused(
+    alloc: Global,
+    packages: &[Package],
+    order: &[u32],
+) -> Result<Option<RefusedPlace>, NoMemory>
+    requires few { length packages.now < 2 ^ 32 }
+    requires order { AreOrdered packages.now order.now }
+    requires spelled { PackagesAreSpelled (views packages.now) }
+    requires prints { print_only (views packages.now) ≡ true }
+    ensures { IfOk result (λ o. refusal_of o ≡ refused_place (program_of packages.now)) }
+{
+    refused_place(alloc, packages, order)
 }
