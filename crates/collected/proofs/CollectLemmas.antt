@@ -1,14 +1,15 @@
 -- What is found of types, functions, constants, variables and methods is what the packages declare.
-use Rattle.std.proofs.Common.{◌≡◌, ◌∙◌, ℕ, List, [], Option, Some, None, refl, sym, ap, ap₂}
+use Rattle.std.proofs.Common.{◌≡◌, ◌∙◌, ◌&&◌, ℕ, Bool, true, false, List, [], ◌∷◌, Option, Some, None, refl, sym, ap, ap₂, is_some, nat_eq, bytes_eq}
+use Rattle.std.specs.Prelude.{if◌then◌else◌}
 use Rattle.go_tree.specs.declared.spans.Span.{Span}
 use Rattle.go_tree.specs.declared.const_eval.consts.Const.{Const}
 use Rattle.go_tree.specs.ScopeNames.Means.{means}
 use Rattle.go_tree.specs.GoTypes.Types.{named_type}
-use Rattle.go_tree.specs.GoTypes.Defined.{has_keys, methods, under}
+use Rattle.go_tree.specs.GoTypes.Defined.{Defined, find_defined, has_keys, methods, under}
 use Rattle.go_tree.specs.GoTypes.Entities.{World}
 use Rattle.go_tree.specs.GoTypes.Primary.{find_method}
 use Rattle.go_tree.specs.GoTypes.Programs.{Program, headed}
-use Rattle.go_tree.specs.GoTypes.MethodDeclarations.{with_methods}
+use Rattle.go_tree.specs.GoTypes.MethodDeclarations.{DeclaredMethod, methods_from, methods_on, with_methods}
 use Rattle.go_tree.specs.GoTypes.Collect.{collected, typed_world, valued_world, world_of}
 use Rattle.type_table.specs.TypeRelations.Environment.{Environment, defined_types}
 use Rattle.typed_names.specs.declared.entities.Entity.{Entity}
@@ -24,7 +25,7 @@ use Rattle.method_headers.proofs.MethodLaws.{methods_by_types}
 use Rattle.method_types.specs.Methods.{refused_methods}
 use Rattle.method_types.proofs.RefusedLaws.{refused_by_types}
 use Rattle.value_rounds.specs.Values.{OthersAreDeclared, ValuesAreDeclared}
-use Rattle.collected.specs.Methods.{HaveMethods, MethodsAreAdded}
+use Rattle.collected.specs.Methods.{DefineTheSame, HaveMethods, MethodsAreAdded}
 
 -- ---- constants aside
 
@@ -61,6 +62,20 @@ pub others_declared :
     OthersAreDeclared ps (world_at e cs bs)
 others_declared ps e cs bs functions known defined = record { members = known.members; defined = defined }
 
+-- ---- which types are defined
+
+-- with their methods the same are
+defined_with : (ms : List DeclaredMethod) (ds : List Defined) → DefineTheSame (with_methods ms ds) ds
+defined_with ms [] p n = refl
+defined_with ms (d ∷ ds) p n = go (nat_eq d.home p && bytes_eq d.name n) (defined_with ms ds p n)
+  where
+    go :
+        (b : Bool) → is_some (find_defined (with_methods ms ds) p n) ≡ is_some (find_defined ds p n) →
+        is_some (if b then Some (record d { methods = methods_on d ms }) else find_defined (with_methods ms ds) p n)
+        ≡ is_some (if b then Some d else find_defined ds p n)
+    go true r = refl
+    go false r = r
+
 -- ---- once all is declared
 
 module _ (ps : Program Span) (e f : Environment) (cs : List Const) (bs : List Names) (refused values : List ℕ)
@@ -96,6 +111,11 @@ module _ (ps : Program Span) (e f : Environment) (cs : List Const) (bs : List Na
       (world_of (headed ps) (world_at e cs bs)).defined ≡ (collected ps).defined
   types_with_methods =
       ap₂ with_methods (methods_by_types (world_at e cs bs) v types_valued [] (headed ps)) known.defined
+
+  pub defined_declared : DefineTheSame (defined_types f) (collected ps).defined
+  defined_declared p n =
+      added.defined p n ∙ ap (λ ds. is_some (find_defined ds p n)) known.defined
+      ∙ sym (defined_with (methods_from v [] (headed ps)) v.defined p n)
 
   pub methods_declared : HaveMethods f (collected ps)
   methods_declared =

@@ -1,6 +1,6 @@
 -- The methods of a program are added to what is known.
-use Rattle.std.proofs.Common.{◌≡◌, ◌∙◌, ◌<◌, ℕ, true, false, List, [], Option, Some, None, refl, sym, subst, ap, ap₂, length, is_some}
-use Rattle.std.specs.Prelude.{slice_get}
+use Rattle.std.proofs.Common.{◌≡◌, ◌∙◌, ◌<◌, ◌&&◌, ℕ, Bool, true, false, List, [], ◌∷◌, Option, Some, None, refl, sym, subst, ap, ap₂, length, map, is_some, nat_eq, bytes_eq}
+use Rattle.std.specs.Prelude.{slice_get, if◌then◌else◌}
 use Rattle.go_tree.specs.declared.spans.Span.{Span}
 use Rattle.go_tree.specs.declared.const_eval.consts.Const.{Const}
 use Rattle.go_tree.specs.GoTypes.Types.{named_type}
@@ -9,7 +9,7 @@ use Rattle.go_tree.specs.GoTypes.Programs.{Headed}
 use Rattle.go_tree.specs.GoTypes.Table.{TypeNode, basic_node, named_node, pointer_node, slice_node, map_node, struct_node, tuple_node, untyped_node, nil_node}
 use Rattle.type_table.specs.TypesAt.{type_at, type_by}
 use Rattle.type_table.proofs.TypesAtLaws.{get_within, type_at_row}
-use Rattle.type_table.specs.TypeRelations.Environment.{Definition, Environment, IsEnvironment, defined_at, defined_types, definition_in, env_type, has_methods, is_defined}
+use Rattle.type_table.specs.TypeRelations.Environment.{Definition, Environment, IsEnvironment, MethodRow, defined_at, defined_types, definition_in, env_type, has_methods, is_defined}
 use Rattle.type_table.proofs.TypeRelations.UnderLaws.{defined_option, found_by_number}
 use Rattle.type_table.specs.declared.comparable_types.grown.TypeFlags.{TypeFlags}
 use Rattle.type_table.specs.ComparableTypes.Grown.{AreFlagsSoFar, DefinedBelow}
@@ -28,7 +28,7 @@ use Rattle.method_types.specs.MethodSets.Methods.{HasDeclared, OnlyMethods}
 use Rattle.method_types.proofs.MethodSets.Kept.{flags_kept, keys_kept, under_kept}
 use Rattle.operand_modes.specs.CheckerTables.Ready.{IsReady}
 use Rattle.operand_modes.proofs.CheckerTables.ReadyLemmas.{ready_stays}
-use Rattle.collected.specs.Methods.{MethodsAreAdded}
+use Rattle.collected.specs.Methods.{DefineTheSame, MethodsAreAdded}
 use Rattle.collected.proofs.RowsSame.{members_same, rule_same, values_same}
 
 -- tables stay ready while methods are declared
@@ -56,6 +56,33 @@ types_with_methods e f only cs bs =
       under = under_kept e f only;
       keys = keys_kept e f only;
     }
+
+-- ---- which types are defined
+
+-- that doesn't ask for their methods
+module _ (rows : List TypeNode) (old new : List (ℕ × List MethodRow)) (p : ℕ) (n : List ℕ) where
+  defined_alike :
+      (ds : List Definition) →
+      is_some (find_defined (map (defined_at rows new) ds) p n)
+      ≡ is_some (find_defined (map (defined_at rows old) ds) p n)
+  defined_alike [] = refl
+  defined_alike (d ∷ ds) =
+      let it : Defined = defined_at rows old d in
+      go (nat_eq it.home p && bytes_eq it.name n) (defined_alike ds)
+    where
+      go :
+          (b : Bool) →
+          is_some (find_defined (map (defined_at rows new) ds) p n)
+          ≡ is_some (find_defined (map (defined_at rows old) ds) p n) →
+          is_some (if b then Some (defined_at rows new d) else find_defined (map (defined_at rows new) ds) p n)
+          ≡ is_some (if b then Some (defined_at rows old d) else find_defined (map (defined_at rows old) ds) p n)
+      go true r = refl
+      go false r = r
+
+same_defined : (e f : Environment) → OnlyMethods e f → DefineTheSame (defined_types f) (defined_types e)
+same_defined e f only p n =
+    ap₂ (λ rows ds. is_some (find_defined (map (defined_at rows f.methods) ds) p n)) only.rows only.defined
+    ∙ defined_alike e.rows e.methods f.methods p n e.defined
 
 -- ---- defined types by their numbers
 
@@ -108,6 +135,7 @@ module _ (e f g : Environment) (grown : TypesGrown e f) (only : OnlyMethods f g)
       record {
         members = subst (SameMembers (world_at g cs bs)) same (members_same f g only.rows cs bs);
         types = subst (SameTypes (world_at g cs bs)) same (types_with_methods f g only cs bs);
+        defined = λ p n. same_defined f g only p n ∙ ap (λ ds. is_some (find_defined ds p n)) grown.defined;
         methods = λ t p n m l q d.
             let there : t < length f.rows = subst (λ rows. t < length rows) only.rows l in
             let named : env_type f t ≡ named_type p n = sym (ap (λ rows. type_at rows t) only.rows) ∙ q in

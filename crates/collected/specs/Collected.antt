@@ -16,12 +16,14 @@ use Rattle.operand_modes.specs.CheckerTables.Ready.{AreReady}
 use Rattle.value_rounds.specs.Values.{refused_values}
 use Rattle.initial_values.specs.ValueBlocks.Values.{AreThere}
 use Rattle.header_order.specs.Types.{refused_types}
+use Rattle.type_table.specs.TypeRelations.Environment.{defined_types}
 use Rattle.collected.specs.declared.declarations.Collected.{Collected}
-use Rattle.collected.specs.Methods.{HaveMethods}
+use Rattle.collected.specs.Methods.{DefineTheSame, HaveMethods}
 
 -- What the packages of a program declare: the tables are ready, and have the types and constants of all names; the
 -- files and headers are those of the program. Each name means what the packages declare, constants with their values,
--- and types mean the same, whichever constants are read. Methods and refused headers are as they are declared.
+-- and types mean the same, whichever constants are read. The same types are defined; methods and refused headers are as
+-- they are declared.
 pub record AreDeclarations (ps : Program Span) (c : Collected) : Type 0 where
   pub ready : AreReady c.tables
   pub there : AreThere c.tables.env c.tables.consts c.blocks
@@ -29,6 +31,7 @@ pub record AreDeclarations (ps : Program Span) (c : Collected) : Type 0 where
   pub headers : AreHeaders c.files.items (map listed_of c.headers.items) (headed ps)
   pub names : SameMembers (world_at c.tables.env c.tables.consts c.blocks) (collected ps)
   pub types : (cs : List Const) → SameTypes (world_at c.tables.env cs c.blocks) (collected ps)
+  pub defined : DefineTheSame (defined_types c.tables.env) (collected ps).defined
   pub methods : HaveMethods c.tables.env (collected ps)
   pub types_refused : c.refused_types.items ≡ refused_types ps
   pub values_refused : c.refused_values.items ≡ refused_values ps

@@ -9,7 +9,7 @@ use Rattle.package_blocks.specs.Headers.{AreHeaders, listed_of}
 use Rattle.package_blocks.specs.Imports.{views}
 use Rattle.package_blocks.specs.FuncHeaders.Functions.{program_of}
 use Rattle.collected.proofs.ValueHeaders.SpelledHeaders.{headers_spelled}
-use Rattle.collected.proofs.CollectLemmas.{methods_declared, methods_refused_are, names_declared, others_declared, types_declared}
+use Rattle.collected.proofs.CollectLemmas.{defined_declared, methods_declared, methods_refused_are, names_declared, others_declared, types_declared}
 use Rattle.collected.proofs.declarations.collect.Goals as goal
 
 pub known_types-requires : goal.known_types-requires
@@ -67,6 +67,7 @@ returns c =
           subst (λ cs. SameMembers (world_at f cs ds) (collected ps)) (sym c.in_ok-refused_methods.ensures.consts)
           (names_declared ps k.env f k.consts ds refused values valued added);
       types = types_declared ps k.env f k.consts ds refused values valued added;
+      defined = defined_declared ps k.env f k.consts ds refused values valued added;
       methods = methods_declared ps k.env f k.consts ds refused values valued added;
       types_refused = (types []).refused_are;
       values_refused = valued.refused_are;
