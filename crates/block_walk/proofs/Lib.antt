@@ -12,3 +12,4 @@ pub mod LiteralLemmas
 pub mod FineLiterals
 pub mod WalkedLiterals
 pub mod LiteralBlocks
+pub mod ConstantLiterals

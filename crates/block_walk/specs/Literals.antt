@@ -1,10 +1,11 @@
 -- Function literals that are walked before the expressions in which they stand (Go specification, Function literals;
 -- Declarations and scope).
-use Rattle.std.specs.Prelude.{◌≡◌, ℕ, ◌+◌, true, false, List, [], ◌∷◌, ◌++◌, Result, Ok, Err}
+use Rattle.std.specs.Prelude.{◌≡◌, ℕ, ◌+◌, Bool, true, false, ◌&&◌, List, [], ◌∷◌, ◌++◌, Result, Ok, Err}
 use Rattle.std.specs.Prelude.{OnOk}
 use Rattle.go_tree.specs.declared.spans.Span.{Span}
 use Rattle.go_tree.specs.Tree.{Expr, func_lit, Stmt, eval, step, assign, define, return_, defer, RangeLeft, nothing}
-use Rattle.go_tree.specs.Tree.{assigns, defines}
+use Rattle.go_tree.specs.Tree.{assigns, defines, ValueSpecs, no_specs, spec}
+use Rattle.go_tree.specs.GoTypes.Answers.{is_empty}
 use Rattle.go_tree.specs.GoTypes.Entities.{Env}
 use Rattle.typed_names.specs.declared.scopes.Scope.{Scope}
 use Rattle.typed_names.specs.Meanings.{Names}
@@ -55,6 +56,11 @@ abbrev pub literals_left : RangeLeft Span → List (Expr Span)
 literals_left nothing = []
 literals_left (assigns es) = literals_in_all es
 literals_left (defines ns) = []
+
+-- none stands in the values of specs
+abbrev pub specs_have_none : ValueSpecs Span → Bool
+specs_have_none no_specs = true
+specs_have_none (spec _ ns t es ss) = is_empty (literals_in_all es) && specs_have_none ss
 
 -- function literals are typed, and the names that they use are used, or one isn't typed
 abbrev pub GivesLiterals : {T : Type 0} → Env → List (Expr Span) → Used → Used → Result T Refusal → Type 0

@@ -16,7 +16,6 @@ use Rattle.go_tree.specs.Tree.{stmt_and, StmtOption, no_stmt, some_stmt, BlockOp
 use Rattle.go_tree.specs.Tree.{no_arms, arm, RangeLeft, nothing, assigns, defines, Cases, no_cases, case, ValueSpecs}
 use Rattle.go_tree.specs.Tree.{no_specs, spec}
 use Rattle.statement_walk.specs.Walked.{IsLiteralOf}
-use Rattle.statement_walk.specs.SimpleWalk.ConstantGroups.Groups as constant
 
 -- an expression that is a name
 abbrev pub is_name : Expr Span → Bool
@@ -83,10 +82,9 @@ abbrev mutual
   IsWalkedKey no_value = Unit {0}
   IsWalkedKey (some_value k) = IsWalkedValue k
 
-  -- so of the expressions of a statement, and of those that stand in it; in the values of constants no function literal
-  -- stands
+  -- so of the expressions of a statement, and of those that stand in it
   pub IsWalkedStmt : Stmt Span → Type 0
-  IsWalkedStmt (const_decl _ _ ss) = constant.AreWalkedSpecs ss
+  IsWalkedStmt (const_decl _ _ ss) = AreWalkedSpecs ss
   IsWalkedStmt (var_decl _ _ ss) = AreWalkedSpecs ss
   IsWalkedStmt (empty _) = Unit {0}
   IsWalkedStmt (eval _ e) = IsWalkedExpr e

@@ -1,11 +1,12 @@
 //! The function literals in the expressions of a statement (Go specification, Function literals).
 
 ghost use Rattle.std.specs.Prelude.{◌≡◌, ◌++◌, IfOk};
-ghost use Rattle.go_tree.specs.View.{expr_of, exprs_of, plain_expr_option_of, range_left_of, stmt_of};
+ghost use Rattle.go_tree.specs.View.{const_specs_of, expr_of, exprs_of, plain_expr_option_of, range_left_of, stmt_of};
+ghost use Rattle.go_tree.specs.GoTypes.Answers.{is_empty};
 ghost use Rattle.statement_walk.specs.FunctionLiterals.Found.{literals_in, literals_in_all, literals_in_option, seen};
-ghost use Rattle.block_walk.specs.Literals.{literals_left, literals_of};
+ghost use Rattle.block_walk.specs.Literals.{literals_left, literals_of, specs_have_none};
 
-use go_tree::{Expr, ExprList, NoMemory, RangeLeft, Stmt};
+use go_tree::{ConstSpecList, Expr, ExprList, NoMemory, RangeLeft, Stmt};
 use statement_walk::{find_in_all, find_literals};
 use std::alloc::Global;
 
@@ -97,4 +98,25 @@ pub(crate) fn found_in_clause<'a>(
     }
     find_literals(&mut found, over)?;
     Ok(found)
+}
+
+/// Whether none stands in expressions.
+fn has_none(alloc: Global, es: &ExprList) -> Result<bool, NoMemory>
+    ensures { IfOk result (λ b. b ≡ is_empty (literals_in_all (exprs_of es.now))) }
+{
+    let found = found_in_all(alloc, es)?;
+    Ok(found.len() == 0)
+}
+
+/// Whether none stands in the values of specs of constants.
+pub(crate) fn specs_have_none(alloc: Global, specs: &ConstSpecList) -> Result<bool, NoMemory>
+    ensures { IfOk result (λ b. b ≡ specs_have_none (const_specs_of specs.now)) }
+{
+    for spec in specs.items() {
+        let none = has_none(alloc, &spec.values)?;
+        if !none {
+            return Ok(false);
+        }
+    }
+    Ok(true)
 }

@@ -1,11 +1,12 @@
-//! Declarations of variables in a block, with the function literals in their values (Go
-//! specification, Variable declarations; Short variable declarations).
+//! Declarations of constants and variables in a block, with the function literals in their values (Go
+//! specification, Constant declarations; Variable declarations; Short variable declarations).
 
 ghost use Rattle.std.specs.Prelude.{◌≡◌, ◌++◌, [], ℕ, List, map};
 ghost use Rattle.std.specs.Option.{option_map};
 ghost use Rattle.go_tree.specs.declared.spans.Span.{Span};
 ghost use Rattle.go_tree.specs.Tree as tree;
-ghost use Rattle.go_tree.specs.View.{exprs_of, name_at_of, type_of, var_spec_of, var_specs_of};
+ghost use Rattle.go_tree.specs.View.{const_specs_of, exprs_of, name_at_of, type_of, var_spec_of, var_specs_of};
+ghost use Rattle.go_tree.specs.GoTypes.Declarations.{nothing_to_repeat};
 ghost use Rattle.go_tree.specs.GoTypes.Entities.{Env};
 ghost use Rattle.go_tree.specs.GoTypes.Typing as go;
 ghost use Rattle.go_tree.specs.ScopeNames.FreeNames.{free_type_option};
@@ -17,16 +18,49 @@ ghost use Rattle.statement_walk.specs.DeclaredVariables.{spec_variables};
 ghost use Rattle.statement_walk.specs.Parts.{AreHere, GivesRead};
 ghost use Rattle.block_walk.specs.Walked.{AreWalkedExprs, AreWalkedSpecs};
 
-use crate::found::found_in_all;
+use crate::found::{found_in_all, specs_have_none};
 use crate::literals::walk_literals;
 use control_steps::LocalBlock;
-use go_tree::{ExprList, NameAtList, VarSpec, VarSpecList};
+use go_tree::{ConstSpecList, ExprList, NameAtList, VarSpec, VarSpecList};
 use jump_rules::{PendingNames, UsedNames};
 use operand_modes::checker_tables::Tables;
-use statement_walk::{short_part, spec_part};
+use statement_walk::{constant_group, short_part, spec_part};
 use std::alloc::Global;
 use type_table::operand_rules::Refusal;
 use typed_names::{Blocks, Scope};
+
+/// A group of constants in a block, spec by spec. No function literal stands in a constant expression, so the group
+/// isn't typed where one does.
+pub(crate) fn constants(
+    alloc: Global,
+    tables: &mut Tables,
+    scope: &mut Scope,
+    blocks: &Blocks,
+    block: &mut LocalBlock,
+    used: &mut UsedNames,
+    pending: &mut PendingNames,
+    specs: &ConstSpecList,
+) -> Result<(), Refusal>
+    requires stands { Stands tables.old blocks.now scope.old }
+    requires walked { AreWalkedSpecs (const_specs_of specs.now) }
+    ensures stands { Stands tables.new blocks.now scope.new }
+    ensures keeps { Keeps tables.old tables.new }
+    ensures within { IsWithin scope.old scope.new }
+    ensures start { block.new.start ≡ block.old.start }
+    ensures gives { (env : Env)
+        → IsPlace tables.old.env tables.old.consts blocks.now scope.old block.old.names env
+        → AreHere env pending.old → GivesRead tables.new blocks.now scope.new block.new.names env
+        (go.declares_constants env nothing_to_repeat 0 (const_specs_of specs.now))
+        (go.used_constants env (const_specs_of specs.now))
+        (used_of used.old) (used_of used.new) pending.old pending.new result }
+{
+    let none = specs_have_none(alloc, specs)?;
+    if none {
+        constant_group(alloc, tables, scope, blocks, block, used, pending, specs)
+    } else {
+        Err(Refusal::NotTyped)
+    }
+}
 
 /// A short declaration in a block: its values use names, and then its new names are declared, each of
 /// which must be used.

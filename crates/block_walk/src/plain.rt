@@ -18,14 +18,14 @@ ghost use Rattle.block_walk.specs.Walked.{IsPlain, IsSimple};
 
 use crate::ends::{declaration_answer, is_declaration};
 use crate::found::found_in_statement;
-use crate::groups::{short, variable_group};
+use crate::groups::{constants, short, variable_group};
 use crate::literals::walk_literals;
 use crate::simple_uses::use_simple;
 use control_steps::{Body, LocalBlock};
 use go_tree::Stmt;
 use jump_rules::{Around, PendingNames, UsedNames};
 use operand_modes::checker_tables::Tables;
-use statement_walk::{constant_group, simple_statement};
+use statement_walk::simple_statement;
 use std::alloc::Global;
 use type_table::operand_rules::Refusal;
 use typed_names::{Blocks, Scope};
@@ -115,7 +115,7 @@ fn declaration(
     match s {
         Stmt::Const(declared) => {
             let specs = &declared.specs;
-            let group = constant_group(alloc, tables, scope, blocks, block, used, pending, specs);
+            let group = constants(alloc, tables, scope, blocks, block, used, pending, specs);
             declaration_answer(group)
         }
         Stmt::Var(declared) => {

@@ -1193,22 +1193,22 @@ headers::post_statement-returns-else-is_declaration-clause-gives t c =
 pub plain::declaration-returns-in-Const-clause-gives : goal.plain::declaration-returns-in-Const-clause-gives
 plain::declaration-returns-in-Const-clause-gives t c =
     λ ctx env p h.
-    let n = c.constant_group-group.new.tables in
+    let n = c.constants-group.new.tables in
     let bs = c.args.blocks.now in
-    let u = c.constant_group-group.new.scope in
-    let now = c.constant_group-group.new.block.names in
+    let u = c.constants-group.new.scope in
+    let now = c.constants-group.new.block.names in
     let x = used_of c.args.used.now in
-    let y = used_of c.constant_group-group.new.used in
+    let y = used_of c.constants-group.new.used in
     let xs = c.args.pending.now in
-    let ys = c.constant_group-group.new.pending in
+    let ys = c.constants-group.new.pending in
     let w = c.in-Const.declared in
     let d = out-ConstDecl w in
     subst (λ t. GivesStatement n bs u now ctx env t x y xs ys c.declaration_answer.result)
     (sym (ap stmt_of c.in-Const.is ∙ const_is w))
     (subst (GivesStatement n bs u now ctx env (tree.const_decl d.span d.grouped (const_specs_of d.specs)) x y xs ys)
     (sym c.declaration_answer.ensures)
-    (const_declared n bs u now ctx env x y xs ys d.span d.grouped (const_specs_of d.specs) c.constant_group-group.result
-    (c.constant_group-group.ensures.gives env p h)))
+    (const_declared n bs u now ctx env x y xs ys d.span d.grouped (const_specs_of d.specs) c.constants-group.result
+    (c.constants-group.ensures.gives env p h)))
 
 pub plain::declaration-returns-in-Var-clause-gives : goal.plain::declaration-returns-in-Var-clause-gives
 plain::declaration-returns-in-Var-clause-gives t c =
@@ -1326,8 +1326,8 @@ plain::plain_statement-simple_part-requires t c =
       (c.requires.stands, (c.requires.results, w)),
     )
 
-pub plain::declaration-constant_group-group-requires-clause-walked : goal.plain::declaration-constant_group-group-requires-clause-walked
-plain::declaration-constant_group-group-requires-clause-walked t c =
+pub plain::declaration-constants-group-requires-clause-walked : goal.plain::declaration-constants-group-requires-clause-walked
+plain::declaration-constants-group-requires-clause-walked t c =
     subst IsWalkedStmt (const_is c.in-Const.declared) (subst (λ x. IsWalkedStmt (stmt_of x)) c.in-Const.is c.requires.plain.0)
 
 pub plain::declaration-variable_group-group-requires : goal.plain::declaration-variable_group-group-requires
