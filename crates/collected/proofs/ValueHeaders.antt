@@ -4,4 +4,5 @@ pub mod HeaderLemmas
 pub mod SpelledLiterals
 pub mod SpelledExprs
 pub mod SpelledFiles
+pub mod FormedBodies
 pub mod SpelledHeaders

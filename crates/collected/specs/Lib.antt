@@ -1,3 +1,4 @@
+pub use Rattle.go_layout.specs.LayoutLaws.Formed
 pub use Rattle.header_order.specs.declared.kinds.RefusedHeaders
 pub use Rattle.header_order.specs.declared.first_refusals.first.RefusedPlace
 pub use Rattle.header_order.specs.RefusedImports.Laws as RefusedImportsLaws

@@ -9,4 +9,4 @@ mod names;
 mod values;
 
 pub use headers::{declare_header, is_value};
-pub use laws::read_values_are_spelled;
+pub use laws::{read_bodies_are_formed, read_values_are_spelled};

@@ -31,21 +31,21 @@ module _ (mark : Lexemes → Lexemes → Span) where
   import_specs_real (last_import_spec_rule d) a = import_spec_real d a
   import_specs_real (more_import_specs_rule d ds) a = import_specs_real ds (import_spec_real d a).1
 
-  imports_real : {ds : List (ImportDecl Span)} {ts r : Lexemes} → SpellsImports mark ds ts r → AreReal ts → AreReal r
+  pub imports_real : {ds : List (ImportDecl Span)} {ts r : Lexemes} → SpellsImports mark ds ts r → AreReal ts → AreReal r
   imports_real no_imports_rule a = a
   imports_real (more_imports_rule (import_rule d) ds) a = imports_real ds (import_spec_real d a.1).1
   imports_real (more_imports_rule (import_group_rule d) ds) a = imports_real ds (import_specs_real d a.1.1).1.1
 
-  type_spec_real : {x : TypeSpec Span} {ts r : Lexemes} → SpellsTypeSpec mark x ts r → AreReal ts → AreReal r
+  pub type_spec_real : {x : TypeSpec Span} {ts r : Lexemes} → SpellsTypeSpec mark x ts r → AreReal ts → AreReal r
   type_spec_real (type_spec_rule d) a = (type_formed mark d a.1).1
   type_spec_real (alias_spec_rule d) a = (type_formed mark d a.1.1).1
 
-  type_specs_real : {xs : List (TypeSpec Span)} {ts r : Lexemes} → SpellsTypeSpecs mark xs ts r → AreReal ts → AreReal r
+  pub type_specs_real : {xs : List (TypeSpec Span)} {ts r : Lexemes} → SpellsTypeSpecs mark xs ts r → AreReal ts → AreReal r
   type_specs_real no_type_specs_rule a = a
   type_specs_real (last_type_spec_rule d) a = type_spec_real d a
   type_specs_real (more_type_specs_rule d ds) a = type_specs_real ds (type_spec_real d a).1
 
-  receiver_real : {x : Receiver Span} {ts r : Lexemes} → SpellsReceiver mark x ts r → AreReal ts → AreReal r
+  pub receiver_real : {x : Receiver Span} {ts r : Lexemes} → SpellsReceiver mark x ts r → AreReal ts → AreReal r
   receiver_real receiver_rule a = a.1
   receiver_real pointer_receiver_rule a = a.1.1
   receiver_real named_receiver_rule a = a.1.1

@@ -21,7 +21,7 @@ use Rattle.package_blocks.proofs.CollectedLemmas.{order_follows}
 use Rattle.package_blocks.proofs.FirstLemmas.{headed_cons, headed_one, in_main}
 use Rattle.initial_values.specs.Spelled.{AllHaveGoodLiterals}
 use Rattle.initial_values.specs.ValueEntities.Headers.{HasSpelledValues}
-use Rattle.collected.specs.ValueHeaders.SpelledDecls.{AreSpelled, DeclsAreSpelled, FilesAreSpelled, PackagesAreSpelled, HeadersAreSpelled, PackagesReadAreSpelled, SpecsAreSpelled, ValuesAreSpelled}
+use Rattle.collected.specs.ValueHeaders.SpelledDecls.{AreSpelled, DeclsAreSpelled, FilesAreSpelled, FilesHave, PackagesAreSpelled, PackagesHave, HeadersAreSpelled, PackagesReadAreSpelled, SpecsAreSpelled, ValuesAreSpelled}
 use Rattle.collected.proofs.ValueHeaders.SpelledFiles.{read_values_are_spelled}
 
 -- ---- the headers of declarations
@@ -159,26 +159,33 @@ headers_spelled ps f files cs are =
 
 -- ---- packages that are read
 
-trees_spelled : {files : List Source} {trees : List (SourceTree Span)} → AreTrees IsSourceFile files trees → FilesAreSpelled trees
-trees_spelled none = tt
-trees_spelled (file f tree fs trees s r) = (read_values_are_spelled _ tree s.reads, trees_spelled r)
+module _ (P : List (Decl Span) → Type 0) where
+  filter_have : (test : SourceTree Span → Bool) (fs : List (SourceTree Span)) → FilesHave P fs → FilesHave P (filter test fs)
+  filter_have test [] f = tt
+  filter_have test (x ∷ xs) f = go (test x) (filter_have test xs f.1)
+    where
+      go : (b : Bool) → FilesHave P (filter test xs) → FilesHave P (if b then x ∷ filter test xs else filter test xs)
+      go true r = (f.0, r)
+      go false r = r
 
-filter_spelled : (test : SourceTree Span → Bool) (fs : List (SourceTree Span)) → FilesAreSpelled fs → FilesAreSpelled (filter test fs)
-filter_spelled test [] f = tt
-filter_spelled test (x ∷ xs) f = go (test x) (filter_spelled test xs f.1)
-  where
-    go : (b : Bool) → FilesAreSpelled (filter test xs) → FilesAreSpelled (if b then x ∷ filter test xs else filter test xs)
-    go true r = (f.0, r)
-    go false r = r
+  homes_have :
+      (home : List ℕ) (trees : List (SourceTree Span)) → FilesHave P trees → (paths : List (List ℕ)) →
+      PackagesHave P (map (package_of home trees) paths)
+  homes_have home trees f [] = tt
+  homes_have home trees f (p ∷ ps) =
+      (filter_have (λ t. bytes_eq p (home_of home t)) trees f, homes_have home trees f ps)
 
-homes_spelled :
-    (home : List ℕ) (trees : List (SourceTree Span)) → FilesAreSpelled trees → (paths : List (List ℕ)) →
-    PackagesAreSpelled (map (package_of home trees) paths)
-homes_spelled home trees f [] = tt
-homes_spelled home trees f (p ∷ ps) =
-    (filter_spelled (λ t. bytes_eq p (home_of home t)) trees f, homes_spelled home trees f ps)
+-- what holds of each file that reads from a text
+module _ (P : List (Decl Span) → Type 0) (reads : (t : FileText) (tree : File Span) → ReadsAs t tree → P tree.decls) where
+  trees_have : {files : List Source} {trees : List (SourceTree Span)} → AreTrees IsSourceFile files trees → FilesHave P trees
+  trees_have none = tt
+  trees_have (file f tree fs trees s r) = (reads _ tree s.reads, trees_have r)
 
--- so those of packages whose files are read from texts
+  pub packages_have :
+      (home : List ℕ) (files : List Source) (trees : List (SourceTree Span)) → AreTrees IsSourceFile files trees →
+      PackagesHave P (packages_of home trees)
+  packages_have home files trees r = homes_have P home trees (trees_have r) (first_seen (map (home_of home) trees))
+
+-- so literals are well spelled in packages whose files are read from texts
 pub read_packages_spelled : PackagesReadAreSpelled
-read_packages_spelled home files trees r =
-    homes_spelled home trees (trees_spelled r) (first_seen (map (home_of home) trees))
+read_packages_spelled = packages_have DeclsAreSpelled read_values_are_spelled

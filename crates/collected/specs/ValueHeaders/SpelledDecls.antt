@@ -1,10 +1,11 @@
--- Declarations of constants and variables whose literals are well spelled (Go specification, Constant declarations;
--- Variable declarations).
+-- Declarations of constants and variables whose literals are well spelled, and bodies of functions that are formed as the
+-- grammar has them (Go specification, Constant declarations; Variable declarations; Function declarations).
 use Rattle.std.specs.Prelude.{ℕ, List, [], ◌∷◌, map}
 use Rattle.go_tree.specs.declared.spans.Span.{Span}
 use Rattle.go_tree.specs.Tree.{Stmt, const_decl, var_decl, ValueSpecs, no_specs, spec}
 use Rattle.go_tree.specs.File.{Decl, values, types, func, File}
 use Rattle.go_tree.specs.GoTypes.Programs.{headed}
+use Rattle.go_layout.specs.LayoutLaws.Formed.{FormedStmts}
 use Rattle.pkg_graph.specs.Package.{Package, SourceTree, packages_of}
 use Rattle.pkg_graph.specs.Reads.{AreTrees, Source}
 use Rattle.run_rules.specs.Texts.{FileText}
@@ -34,15 +35,30 @@ DeclsAreSpelled (values x ∷ ds) = ValuesAreSpelled x × DeclsAreSpelled ds
 DeclsAreSpelled (types s grouped ts ∷ ds) = DeclsAreSpelled ds
 DeclsAreSpelled (func f ∷ ds) = DeclsAreSpelled ds
 
--- so of files
-abbrev pub FilesAreSpelled : List (SourceTree Span) → Type 0
-FilesAreSpelled [] = Unit {0}
-FilesAreSpelled (f ∷ fs) = DeclsAreSpelled f.tree.decls × FilesAreSpelled fs
+-- the bodies of functions and methods are formed
+abbrev pub BodiesAreFormed : List (Decl Span) → Type 0
+BodiesAreFormed [] = Unit {0}
+BodiesAreFormed (values x ∷ ds) = BodiesAreFormed ds
+BodiesAreFormed (types s grouped ts ∷ ds) = BodiesAreFormed ds
+BodiesAreFormed (func f ∷ ds) = FormedStmts f.body × BodiesAreFormed ds
 
--- so of packages
+-- what holds of the declarations of each file of a package, and of each file of packages
+module _ (P : List (Decl Span) → Type 0) where
+  abbrev pub FilesHave : List (SourceTree Span) → Type 0
+  FilesHave [] = Unit {0}
+  FilesHave (f ∷ fs) = P f.tree.decls × FilesHave fs
+
+  abbrev pub PackagesHave : List (Package Span) → Type 0
+  PackagesHave [] = Unit {0}
+  PackagesHave (p ∷ ps) = FilesHave p.files × PackagesHave ps
+
+-- the literals of values are well spelled in files
+abbrev pub FilesAreSpelled : List (SourceTree Span) → Type 0
+FilesAreSpelled fs = FilesHave DeclsAreSpelled fs
+
+-- so in packages
 abbrev pub PackagesAreSpelled : List (Package Span) → Type 0
-PackagesAreSpelled [] = Unit {0}
-PackagesAreSpelled (p ∷ ps) = FilesAreSpelled p.files × PackagesAreSpelled ps
+PackagesAreSpelled ps = PackagesHave DeclsAreSpelled ps
 
 -- so of headers of the code
 abbrev pub AreSpelled : List PackageHeader → Type 0
@@ -53,7 +69,11 @@ AreSpelled (c ∷ cs) = HasSpelledValues (header_of c.kind) × AreSpelled cs
 abbrev pub ReadValuesAreSpelled : Type 0
 ReadValuesAreSpelled = (t : FileText) (tree : File Span) → ReadsAs t tree → DeclsAreSpelled tree.decls
 
--- so are those of packages of such files
+-- the bodies of functions are formed in each file that reads from a text
+abbrev pub ReadBodiesAreFormed : Type 0
+ReadBodiesAreFormed = (t : FileText) (tree : File Span) → ReadsAs t tree → BodiesAreFormed tree.decls
+
+-- literals are well spelled in packages of such files
 abbrev pub PackagesReadAreSpelled : Type 0
 PackagesReadAreSpelled =
     (home : List ℕ) (files : List Source) (trees : List (SourceTree Span)) → AreTrees IsSourceFile files trees →
