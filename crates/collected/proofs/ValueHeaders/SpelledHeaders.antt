@@ -3,6 +3,7 @@ use Rattle.std.specs.Prelude.{◌≡◌, refl, ℕ, zero, suc, Bool, true, false
 use mathlib.Core.Path.{ap, sym, ◌∙◌, subst}
 use Rattle.go_tree.specs.declared.spans.Span.{Span}
 use Rattle.go_tree.specs.Tree.{TypeExpr, Exprs, Stmt, const_decl, var_decl, empty, eval, step, assign, define, return_, break_, continue_, inner, if_, for_, range_, switch, defer, label, ValueSpecs, no_specs, spec}
+use Rattle.go_tree.specs.File as source
 use Rattle.go_tree.specs.File.{TypeSpec, Decl, values, types, func}
 use Rattle.go_tree.specs.ScopeNames.Means.{Environment}
 use Rattle.go_tree.specs.GoTypes.Entities as go
@@ -11,7 +12,8 @@ use Rattle.go_tree.specs.GoTypes.Programs.{Header, constants, a_type_spec, Heade
 use Rattle.pkg_graph.specs.Package as pure
 use Rattle.pkg_graph.specs.Package.{SourceTree, files_of, first_seen, home_of, package_of, packages_of}
 use Rattle.pkg_graph.specs.Reads.{AreTrees, Source, none, file}
-use Rattle.run_rules.specs.Inlining.{IsSourceFile}
+use Rattle.run_rules.specs.Texts.{FileText}
+use Rattle.run_rules.specs.Inlining.{IsSourceFile, ReadsAs}
 use Rattle.run_rules.specs.Programs.{in_dependency_order, linked, linked_file, linked_packages}
 use Rattle.typed_names.specs.declared.scopes.Scope.{Scope}
 use Rattle.package_blocks.specs.declared.headers.PackageHeader.{PackageHeader}
@@ -176,7 +178,8 @@ module _ (P : List (Decl Span) → Type 0) where
       (filter_have (λ t. bytes_eq p (home_of home t)) trees f, homes_have home trees f ps)
 
 -- what holds of each file that reads from a text
-module _ (P : List (Decl Span) → Type 0) (reads : (t : FileText) (tree : File Span) → ReadsAs t tree → P tree.decls) where
+module _ (P : List (Decl Span) → Type 0)
+    (reads : (t : FileText) (tree : source.File Span) → ReadsAs t tree → P tree.decls) where
   trees_have : {files : List Source} {trees : List (SourceTree Span)} → AreTrees IsSourceFile files trees → FilesHave P trees
   trees_have none = tt
   trees_have (file f tree fs trees s r) = (reads _ tree s.reads, trees_have r)
