@@ -1,71 +1,68 @@
--- The functions whose bodies are refused are found declaration by declaration.
+-- The functions and methods whose bodies are refused are found declaration by declaration.
 use Rattle.std.proofs.Common.{◌≡◌, ◌∙◌, ◌<◌, ◌≤◌, ◌+◌, ◌++◌, ℕ, zero, suc, Bool, true, false, List, [], ◌∷◌, Option, Some, None, refl, sym, subst, ap, drop, get_or, length, map, arith}
 use Rattle.std.specs.Prelude.{if◌then◌else◌}
-use Rattle.std.specs.List.{list_all}
 use Rattle.go_tree.specs.declared.spans.Span.{Span}
 use Rattle.go_tree.specs.declared.const_eval.consts.Const.{Const}
 use Rattle.go_tree.specs.declared.files.Decl as code
-use Rattle.go_tree.specs.File.{Decl, values, types, func}
+use Rattle.go_tree.specs.File.{Decl, Func, values, types, func}
 use Rattle.go_tree.specs.FileView.{decl_of}
 use Rattle.go_tree.specs.GoTypes.Answers.{one_of}
-use Rattle.go_tree.specs.GoTypes.Entities.{Env, World}
+use Rattle.go_tree.specs.GoTypes.Entities.{World}
 use Rattle.go_tree.specs.GoTypes.WellTyped.{function_ok}
-use Rattle.go_tree.specs.GoTypes.Programs.{all_headers, headers}
+use Rattle.go_tree.specs.GoTypes.Programs.{Headed, all_headers, headers}
 use Rattle.pkg_graph.specs.declared.packages.Package.{Package}
 use Rattle.type_table.specs.TypeRelations.Environment.{Environment}
 use Rattle.typed_names.specs.declared.scopes.Scope.{Scope}
 use Rattle.typed_names.specs.Meanings.{Names, world_at}
-use Rattle.typed_names.specs.Scopes.{env_at}
 use Rattle.typed_names.proofs.TypeExprs.NewNames.{drop_all, drop_item}
+use Rattle.declared_types.specs.Headers.{IsFileOf}
 use Rattle.declared_types.proofs.Found.{nowhere}
 use Rattle.operand_modes.specs.declared.checker_tables.tables.Tables.{Tables}
 use Rattle.operand_modes.specs.CheckerTables.Ready.{AreReady, Keeps}
 use Rattle.operand_modes.specs.OperandAnswers.Known.{Stands}
 use Rattle.operand_modes.proofs.OperandAnswers.KeptLemmas.{env_kept, keeps_on, keeps_self}
 use Rattle.collected.specs.Values.{AreThere}
-use Rattle.printing_files.specs.Decls.{is_plain, is_printer}
 use Rattle.checked_modules.specs.RefusedBodies.Functions.{first_function, function_in}
 use Rattle.checked_modules.specs.RefusedBodies.Worlds.{FindsTheSame}
-use Rattle.checked_modules.proofs.RefusedBodies.AlikeLemmas.{tables_tell}
-use Rattle.checked_modules.proofs.RefusedBodies.PrintLemmas.{and_both}
 use Rattle.checked_modules.specs.declared.file_places.files.FilePlace.{FilePlace}
 use Rattle.checked_modules.specs.FilePlaces.Around.{FileAround, IsPlaceOf}
 use Rattle.checked_modules.specs.FilePlaces.Places.{AreFiles, IsFile}
-use Rattle.checked_modules.specs.Bodies.{ArePlain, FindsAll, FindsIn, first_decl, is_typed_at, refused_decl, refused_function}
+use Rattle.checked_modules.specs.FunctionBodies.Walked.{AreWalkedDecls, IsWalkedDecl}
+use Rattle.checked_modules.specs.Bodies.{AreWalked, FindsAll, FindsDecl, FindsDecls, FindsIn, refused_decl, refused_function}
 use Rattle.checked_modules.proofs.OneLemmas.{Making, item_at, making_all, making_one, none_left}
 
--- ---- the tables tell what the world tells
+-- ---- a declaration before others
 
-module _ (e : Environment) (cs : List Const) (bs : List Names) (s : Scope) (w : World) (x : FileAround)
-    (same : FindsTheSame (world_at e cs bs) w) (file : IsPlaceOf x s) where
-  abbrev here : Env
-  here = env_at e cs bs s
+module _ (w : World) (x : FileAround) where
+  -- where the first of these stands whose body is refused
+  abbrev pub first_in : List (Decl Span) → Option Span
+  first_in ds = first_function w x.home x.imports ds
 
-  found_alike :
-      (ds : List (Decl Span)) → list_all is_plain ds ≡ true →
-      first_decl here ds ≡ first_function w x.home x.imports ds
-  found_alike [] p = refl
-  found_alike (values v ∷ ds) p = found_alike ds (and_both (is_plain (values v)) (list_all is_plain ds) p).1
-  found_alike (types t grouped ts ∷ ds) p =
-      found_alike ds (and_both (is_plain (types t grouped ts)) (list_all is_plain ds) p).1
-  found_alike (func f ∷ ds) p =
-      let k = and_both (is_printer f) (list_all is_plain ds) p in
-      by (is_typed_at here f) (function_ok w (function_in x.home x.imports f) f)
-      (tables_tell e cs bs s w (function_in x.home x.imports f) f same
-      (file (function_in x.home x.imports f) (record { home = refl; imports = refl })) k.0)
-      (found_alike ds k.1)
+  first_split : (d : Decl Span) (ds : List (Decl Span)) → first_in (d ∷ ds) ≡ one_of (refused_decl w x d) (first_in ds)
+  first_split (values v) ds = refl
+  first_split (types s grouped ts) ds = refl
+  first_split (func f) ds = by (function_ok w (function_in x.home x.imports f) f)
     where
       by :
-          (b c : Bool) → c ≡ b → first_decl here ds ≡ first_function w x.home x.imports ds →
-          one_of (if b then None else Some f.span) (first_decl here ds)
-          ≡ (if c then first_function w x.home x.imports ds else Some f.span)
-      by true c q r = r ∙ sym (ap (λ c. if c then first_function w x.home x.imports ds else Some f.span) q)
-      by false c q r = sym (ap (λ c. if c then first_function w x.home x.imports ds else Some f.span) q)
+          (b : Bool) →
+          (if b then first_in ds else Some f.span) ≡ one_of (if b then None else Some f.span) (first_in ds)
+      by true = refl
+      by false = refl
 
-  pub tree_alike :
-      (ds : List code.Decl) → list_all is_plain (map decl_of ds) ≡ true → map decl_of ds ≡ x.decls →
-      first_decl here (map decl_of ds) ≡ refused_function w x
-  tree_alike ds p d = found_alike (map decl_of ds) p ∙ ap (first_function w x.home x.imports) d
+-- what is told of the body of a function is told of its declaration
+module _ (w : World) (x : FileAround) (s : Scope) (d : code.Decl) (f : Func Span) (is : decl_of d ≡ func f) (b : Bool)
+    (told : (h : Headed Span) → IsFileOf s h → b ≡ function_ok w h f) (place : IsPlaceOf x s) where
+  answer : (c : Bool) → b ≡ c → (if c then None else Some f.span) ≡ refused_decl w x (decl_of d)
+  answer c e =
+      ap (λ b. if b then None else Some f.span)
+      (sym e ∙ told (function_in x.home x.imports f) (place (function_in x.home x.imports f) (record { home = refl; imports = refl })))
+      ∙ sym (ap (refused_decl w x) is)
+
+  pub body_typed : b ≡ true → None ≡ refused_decl w x (decl_of d)
+  body_typed e = answer true e
+
+  pub body_refused : b ≡ false → Some f.span ≡ refused_decl w x (decl_of d)
+  body_refused e = answer false e
 
 -- ---- a file that declares nothing
 
@@ -85,69 +82,75 @@ none_found w x (func f ∷ ds) e = absurd cc
 pub nothing_refused : (w : World) (x : FileAround) → all_headers x.decls ≡ [] → None ≡ refused_function w x
 nothing_refused w x e = sym (none_found w x x.decls e)
 
--- ---- plain declarations
+-- ---- declarations whose bodies are walked
 
-pub plain_at :
+pub walked_at :
     (ds : List code.Decl) (i : ℕ) (d : code.Decl) → i < length ds → d ≡ get_or ds i d →
-    list_all is_plain (map decl_of ds) ≡ true → is_plain (decl_of d) ≡ true
-plain_at [] i d l e p = absurd (omega (arith, l))
-plain_at (x ∷ ds) zero d l e p =
-    ap (λ y. is_plain (decl_of y)) e ∙ (and_both (is_plain (decl_of x)) (list_all is_plain (map decl_of ds)) p).0
-plain_at (x ∷ ds) (suc i) d l e p =
-    plain_at ds i d (omega (arith, l)) e (and_both (is_plain (decl_of x)) (list_all is_plain (map decl_of ds)) p).1
+    AreWalkedDecls (map decl_of ds) → IsWalkedDecl (decl_of d)
+walked_at [] i d l e h = absurd (omega (arith, l))
+walked_at (x ∷ ds) zero d l e h = subst (λ y. IsWalkedDecl (decl_of y)) (sym e) h.0
+walked_at (x ∷ ds) (suc i) d l e h = walked_at ds i d (omega (arith, l)) e h.1
 
-pub file_plain :
-    (fs : List FilePlace) (i : ℕ) (f : FilePlace) → i < length fs → f ≡ get_or fs i f → ArePlain fs →
-    list_all is_plain (map decl_of f.tree.now.decls) ≡ true
-file_plain [] i f l e p = absurd (omega (arith, l))
-file_plain (x ∷ fs) zero f l e p = ap (λ y. list_all is_plain (map decl_of y.tree.now.decls)) e ∙ p.0
-file_plain (x ∷ fs) (suc i) f l e p = file_plain fs i f (omega (arith, l)) e p.1
+pub file_walked :
+    (fs : List FilePlace) (i : ℕ) (f : FilePlace) → i < length fs → f ≡ get_or fs i f → AreWalked fs →
+    AreWalkedDecls (map decl_of f.tree.now.decls)
+file_walked [] i f l e h = absurd (omega (arith, l))
+file_walked (x ∷ fs) zero f l e h = subst (λ y. AreWalkedDecls (map decl_of y.tree.now.decls)) (sym e) h.0
+file_walked (x ∷ fs) (suc i) f l e h = file_walked fs i f (omega (arith, l)) e h.1
 
 -- ---- one declaration after the other, in tables that grow
 
-pub record Passing (k m : Tables) (bs : List Names) (s u : Scope) (all left : Option Span) : Type 0 where
+-- of all these declarations those are left
+pub record Passing (k m : Tables) (bs : List Names) (s u : Scope) (all left : List (Decl Span)) : Type 0 where
   pub stands : Stands m bs u
   pub keeps : Keeps k m
   pub same : u ≡ s
-  pub is : all ≡ left
+  pub is :
+      (w : World) (x : FileAround) → FindsTheSame (world_at k.env k.consts bs) w → IsPlaceOf x s →
+      first_in w x all ≡ first_in w x left
 
 pub passing_none :
-    (k : Tables) (bs : List Names) (s : Scope) (all : Option Span) → Stands k bs s → Passing k k bs s s all all
-passing_none k bs s all h = record { stands = h; keeps = keeps_self k; same = refl; is = refl }
-
--- the first declaration that is refused at a place
-abbrev pub decls_at : Tables → List Names → Scope → List code.Decl → Option Span
-decls_at k bs s ds = first_decl (env_at k.env k.consts bs s) (map decl_of ds)
+    (k : Tables) (bs : List Names) (s : Scope) (all : List (Decl Span)) → Stands k bs s → Passing k k bs s s all all
+passing_none k bs s all h = record { stands = h; keeps = keeps_self k; same = refl; is = λ w x found place. refl }
 
 module _ (k m : Tables) (bs : List Names) (s u : Scope) (known : Stands k bs s) (ds : List code.Decl) (i : ℕ)
-    (p : Passing k m bs s u (decls_at k bs s ds) (decls_at k bs s (drop i ds))) where
+    (p : Passing k m bs s u (map decl_of ds) (map decl_of (drop i ds))) where
   module _ (d : code.Decl) (l : i < length ds) (e : d ≡ get_or ds i d) (o : Option Span)
-      (f : o ≡ refused_decl (env_at m.env m.consts bs u) (decl_of d)) where
-    split : decls_at k bs s ds ≡ one_of o (decls_at k bs s (drop (i + 1) ds))
-    split =
-        p.is ∙ ap (decls_at k bs s) (drop_item ds i d l e)
-        ∙ ap (λ o. one_of o (decls_at k bs s (drop (i + 1) ds)))
-        (sym
-        (f
-        ∙ ap (λ a. refused_decl a (decl_of d))
-        (ap (env_at m.env m.consts bs) p.same ∙ env_kept k m p.keeps bs s known)))
+      (f : FindsDecl m bs u (decl_of d) o) where
+    -- the first of those behind it
+    abbrev behind : World → FileAround → Option Span
+    behind w x = first_in w x (map decl_of (drop (i + 1) ds))
 
-    pub passing_found : (at : Span) → o ≡ Some at → Some at ≡ decls_at k bs s ds
-    passing_found at q = sym (split ∙ ap (λ o. one_of o (decls_at k bs s (drop (i + 1) ds))) q)
+    split :
+        (w : World) (x : FileAround) → FindsTheSame (world_at k.env k.consts bs) w → IsPlaceOf x s →
+        first_in w x (map decl_of ds) ≡ one_of o (behind w x)
+    split w x found place =
+        let kept : world_at m.env m.consts bs ≡ world_at k.env k.consts bs = ap (λ a. a.world) (env_kept k m p.keeps bs s known) in
+        p.is w x found place
+        ∙ ap (λ ds. first_in w x (map decl_of ds)) (drop_item ds i d l e)
+        ∙ first_split w x (decl_of d) (map decl_of (drop (i + 1) ds))
+        ∙ ap (λ o. one_of o (behind w x))
+        (sym (f w x (subst (λ v. FindsTheSame v w) (sym kept) found) (subst (IsPlaceOf x) (sym p.same) place)))
+
+    pub passing_found : (at : Span) → o ≡ Some at → FindsDecls k bs s (map decl_of ds) (Some at)
+    passing_found at q =
+        λ w x found place. sym (split w x found place ∙ ap (λ o. one_of o (behind w x)) q)
 
     pub passing_more :
         o ≡ None → (n : Tables) (v : Scope) → Keeps m n → Stands n bs v → v ≡ u →
-        Passing k n bs s v (decls_at k bs s ds) (decls_at k bs s (drop (i + 1) ds))
-    passing_more q n v g h w =
+        Passing k n bs s v (map decl_of ds) (map decl_of (drop (i + 1) ds))
+    passing_more q n v g h same =
         record {
           stands = h;
           keeps = keeps_on k m n p.keeps g;
-          same = w ∙ p.same;
-          is = split ∙ ap (λ o. one_of o (decls_at k bs s (drop (i + 1) ds))) q;
+          same = same ∙ p.same;
+          is = λ w x found place. split w x found place ∙ ap (λ o. one_of o (behind w x)) q;
         }
 
-  pub passing_end : length ds ≤ i → None ≡ decls_at k bs s ds
-  passing_end l = sym (p.is ∙ ap (decls_at k bs s) (drop_all ds i l))
+  pub passing_end : length ds ≤ i → FindsDecls k bs s (map decl_of ds) None
+  passing_end l =
+      λ w x found place.
+      sym (p.is w x found place ∙ ap (λ ds. first_in w x (map decl_of ds)) (drop_all ds i l))
 
 -- ---- worlds in tables that grow
 

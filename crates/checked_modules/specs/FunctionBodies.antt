@@ -1,4 +1,5 @@
 pub mod Headers
+pub mod Walked
 pub mod Receivers
 pub mod Starts
 pub mod Laws

@@ -1,57 +1,24 @@
-//! The first function of each file whose body is refused, where functions only print.
+//! The first function or method of each file whose body is refused.
 
-ghost use Rattle.std.specs.Prelude.{◌≡◌, map, true, IfOk};
-ghost use Rattle.std.specs.List.{list_all};
-ghost use Rattle.go_tree.specs.FileView.{decl_of, func_of};
-ghost use Rattle.typed_names.specs.Scopes.{env_at};
+ghost use Rattle.std.specs.Prelude.{◌≡◌, map, IfOk};
+ghost use Rattle.go_tree.specs.FileView.{decl_of};
 ghost use Rattle.operand_modes.specs.CheckerTables.Ready.{AreReady, Keeps};
 ghost use Rattle.operand_modes.specs.OperandAnswers.Known.{Stands};
 ghost use Rattle.collected.specs.Values.{AreThere};
-ghost use Rattle.printing_files.specs.Decls.{is_plain, is_printer};
 ghost use Rattle.file_names.specs.Imports.{FindsPackages};
-ghost use Rattle.checked_modules.specs.Bodies.{ArePlain, FindsAll, FindsIn, FindsThere, first_decl, is_typed_at};
-ghost use Rattle.checked_modules.specs.Bodies.{refused_decl};
+ghost use Rattle.checked_modules.specs.Bodies.{AreWalked, FindsAll, FindsDecl, FindsDecls, FindsIn, FindsThere};
+ghost use Rattle.checked_modules.specs.FunctionBodies.Walked.{AreWalkedDecls, IsWalkedDecl};
 
 use crate::file_places::{FilePlace, own_place, place_of};
-use block_walk::function_body;
-use control_steps::{Body, LocalBlock};
+use crate::function_bodies::body_is_typed;
 use file_names::{Places, find_packages};
-use go_tree::{Decl, FileTree, FuncDecl, NoMemory, Span};
+use go_tree::{Decl, FileTree, NoMemory, Span};
 use operand_modes::checker_tables::Tables;
 use pkg_graph::Package;
 use std::alloc::Global;
 use typed_names::{Blocks, Scope};
 
-/// Whether the body of a function that prints is typed at a place outside all functions (Go specification, Function
-/// declarations; Expression statements).
-fn is_typed(
-    alloc: Global,
-    tables: &mut Tables,
-    blocks: &Blocks,
-    scope: &mut Scope,
-    function: &FuncDecl,
-) -> Result<bool, NoMemory>
-    requires stands { Stands tables.old blocks.now scope.old }
-    requires prints { is_printer (func_of function.now) ≡ true }
-    ensures stands { IfOk result (λ b. Stands tables.new blocks.now scope.new) }
-    ensures keeps { IfOk result (λ b. Keeps tables.old tables.new) }
-    ensures same { IfOk result (λ b. scope.new ≡ scope.old) }
-    ensures is { IfOk result (λ b. b
-        ≡ is_typed_at (env_at tables.old.env tables.old.consts blocks.now scope.old) (func_of function.now)) }
-{
-    let mut block = LocalBlock::begin(alloc, scope);
-    let results = Vec::new(alloc);
-    let body = Body {
-        results,
-        named: false,
-    };
-    let stmts = &function.body.stmts;
-    let typed = function_body(alloc, tables, scope, blocks, &mut block, &body, stmts)?;
-    block.end(scope);
-    Ok(typed)
-}
-
-/// Where a declaration stands, if it is that of a function whose body is refused.
+/// Where a declaration stands, if it is that of a function or method whose body is refused.
 fn refused_decl(
     alloc: Global,
     tables: &mut Tables,
@@ -60,16 +27,15 @@ fn refused_decl(
     decl: &Decl,
 ) -> Result<Option<Span>, NoMemory>
     requires stands { Stands tables.old blocks.now scope.old }
-    requires plain { is_plain (decl_of decl.now) ≡ true }
+    requires walked { IsWalkedDecl (decl_of decl.now) }
     ensures stands { IfOk result (λ o. Stands tables.new blocks.now scope.new) }
     ensures keeps { IfOk result (λ o. Keeps tables.old tables.new) }
     ensures same { IfOk result (λ o. scope.new ≡ scope.old) }
-    ensures is { IfOk result (λ o. o
-        ≡ refused_decl (env_at tables.old.env tables.old.consts blocks.now scope.old) (decl_of decl.now)) }
+    ensures found { IfOk result (FindsDecl tables.old blocks.now scope.old (decl_of decl.now)) }
 {
     match decl {
         Decl::Func(function) => {
-            let typed = is_typed(alloc, tables, blocks, scope, function)?;
+            let typed = body_is_typed(alloc, tables, scope, blocks, function)?;
             if typed {
                 Ok(None)
             } else {
@@ -91,11 +57,10 @@ fn first_decl(
     decls: &[Decl],
 ) -> Result<Option<Span>, NoMemory>
     requires stands { Stands tables.old blocks.now scope.old }
-    requires plain { list_all is_plain (map decl_of decls.now) ≡ true }
+    requires walked { AreWalkedDecls (map decl_of decls.now) }
     ensures stands { IfOk result (λ o. Stands tables.new blocks.now scope.new) }
     ensures keeps { IfOk result (λ o. Keeps tables.old tables.new) }
-    ensures is { IfOk result (λ o. o
-        ≡ first_decl (env_at tables.old.env tables.old.consts blocks.now scope.old) (map decl_of decls.now)) }
+    ensures found { IfOk result (FindsDecls tables.old blocks.now scope.old (map decl_of decls.now)) }
 {
     for decl in decls {
         let found = refused_decl(alloc, tables, blocks, scope, decl)?;
@@ -120,7 +85,7 @@ fn first_there(
     requires paths { FindsPackages paths.now packages.now }
     requires ready { AreReady tables.old }
     requires there { AreThere tables.old.env tables.old.consts blocks.now }
-    requires plain { list_all is_plain (map decl_of tree.now.decls) ≡ true }
+    requires walked { AreWalkedDecls (map decl_of tree.now.decls) }
     ensures ready { IfOk result (λ o. AreReady tables.new) }
     ensures there { IfOk result (λ o. AreThere tables.new.env tables.new.consts blocks.now) }
     ensures keeps { IfOk result (λ o. Keeps tables.old tables.new) }
@@ -144,7 +109,7 @@ fn first_in_file(
     requires paths { FindsPackages paths.now packages.now }
     requires ready { AreReady tables.old }
     requires there { AreThere tables.old.env tables.old.consts blocks.now }
-    requires plain { list_all is_plain (map decl_of file.now.tree.now.decls) ≡ true }
+    requires walked { AreWalkedDecls (map decl_of file.now.tree.now.decls) }
     ensures ready { IfOk result (λ o. AreReady tables.new) }
     ensures there { IfOk result (λ o. AreThere tables.new.env tables.new.consts blocks.now) }
     ensures keeps { IfOk result (λ o. Keeps tables.old tables.new) }
@@ -156,9 +121,8 @@ fn first_in_file(
     }
 }
 
-/// The place of the first function of each file whose body is refused, if there is one. The files hold only constants
-/// and functions that print; the tables have all names that the packages declare. The error is want of memory; linear
-/// in the files but for look-ups.
+/// The place of the first function or method of each file whose body is refused, if there is one. The tables have all
+/// names that the packages declare. The error is want of memory; linear in the files but for look-ups.
 pub(crate) fn refused_functions(
     alloc: Global,
     packages: &[Package],
@@ -169,7 +133,7 @@ pub(crate) fn refused_functions(
 ) -> Result<Vec<Option<Span>>, NoMemory>
     requires ready { AreReady tables.old }
     requires there { AreThere tables.old.env tables.old.consts blocks.now }
-    requires plain { ArePlain files.now }
+    requires walked { AreWalked files.now }
     ensures ready { IfOk result (λ bodies. AreReady tables.new) }
     ensures there { IfOk result (λ bodies. AreThere tables.new.env tables.new.consts blocks.now) }
     ensures keeps { IfOk result (λ bodies. Keeps tables.old tables.new) }

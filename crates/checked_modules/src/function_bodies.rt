@@ -7,4 +7,4 @@ mod receivers;
 mod starts;
 
 pub use bodies::body_is_typed;
-pub use laws::{tables_find_the_same, tables_tell_of_functions};
+pub use laws::{read_bodies_are_walked, tables_find_the_same, tables_tell_of_functions};

@@ -1,6 +1,5 @@
-//! The first place of a module that is refused, where each of its files holds besides imports only constants and
-//! functions that print them: its first import, declaration or body that isn't typed (Go specification, Packages;
-//! Declarations and scope; Import declarations; Function declarations; Program execution).
+//! The first place of a module that is refused: its first import, declaration or body that isn't typed (Go specification,
+//! Packages; Declarations and scope; Import declarations; Function declarations; Method declarations; Program execution).
 #![tactic(auto)]
 
 mod bodies;
@@ -12,4 +11,5 @@ pub mod refused_bodies;
 mod uses;
 
 pub use collected::{RefusedPlace, read_values_are_spelled};
+pub use function_bodies::read_bodies_are_walked;
 pub use modules::first_refused;

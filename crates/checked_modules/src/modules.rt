@@ -1,6 +1,6 @@
 //! The first place of a module that is refused.
 
-ghost use Rattle.std.specs.Prelude.{◌≡◌, ◌<◌, ◌^◌, length, true, IfOk};
+ghost use Rattle.std.specs.Prelude.{◌≡◌, ◌<◌, ◌^◌, length, IfOk};
 ghost use Rattle.go_tree.specs.GoTypes.WellTyped.{refused_place};
 ghost use Rattle.declared_types.specs.Steps.{KnowsPlaces};
 ghost use Rattle.package_blocks.specs.Collected.{AreOrdered};
@@ -9,13 +9,14 @@ ghost use Rattle.package_blocks.specs.FuncHeaders.Functions.{program_of};
 ghost use Rattle.operand_modes.specs.CheckerTables.Ready.{AreReady};
 ghost use Rattle.collected.specs.Declarations.{refusal_of, refused_declaration};
 ghost use Rattle.collected.specs.ValueHeaders.SpelledDecls.{PackagesAreSpelled};
-ghost use Rattle.checked_modules.specs.RefusedBodies.PrintedPackages.Packages.{print_only};
+ghost use Rattle.checked_modules.specs.FunctionBodies.Walked.{PackagesAreWalked};
 ghost use Rattle.checked_modules.specs.Modules.{AreKnown};
 
 use crate::bodies::refused_functions;
 use crate::file_places::{FilePlace, file_places};
 use crate::firsts::first_of_packages;
-use crate::refused_bodies::{first_bodies_by_files, tables_tell_of_printers};
+use crate::function_bodies::tables_find_the_same;
+use crate::refused_bodies::first_bodies_by_files;
 use crate::uses::names_used;
 use collected::{
     Collected, RefusedHeaders, RefusedPlace, blocks_have_names, bodies_come_after, collect,
@@ -55,13 +56,13 @@ fn refused_declaration(
     Ok(place)
 }
 
-/// The place that is named of the packages of a module in their order, whose files hold besides imports only constants
-/// and functions that print them: the package, the file and where in it the import, the declaration or the function
-/// stands whose body isn't typed, or the name of a package `main` without a function `main`; in each package imports
-/// and declarations before bodies, file by file. None exactly where the packages are well typed. The literals of
-/// constants have to be well spelled, as they are in files that read (value_headers' `read_values_are_spelled`). The
-/// error is want of memory; linear in the files but for look-ups (Go specification, Declarations and scope; Import
-/// declarations; Function declarations; Program execution).
+/// The place that is named of the packages of a module in their order: the package, the file and where in it the import,
+/// the declaration, or the function or method stands whose body isn't typed, or the name of a package `main` without a
+/// function `main`; in each package imports and declarations before bodies, file by file. None exactly where the packages
+/// are well typed. The literals of values have to be well spelled and bodies to be formed, as they are in files that read
+/// (`read_values_are_spelled`, `read_bodies_are_walked`). The error is want of memory; linear in the files but for
+/// look-ups (Go specification, Declarations and scope; Import declarations; Function declarations; Method declarations;
+/// Program execution).
 pub fn first_refused(
     alloc: Global,
     packages: &[Package],
@@ -70,7 +71,7 @@ pub fn first_refused(
     requires few { length packages.now < 2 ^ 32 }
     requires order { AreOrdered packages.now order.now }
     requires spelled { PackagesAreSpelled (views packages.now) }
-    requires prints { print_only (views packages.now) ≡ true }
+    requires walked { PackagesAreWalked (views packages.now) }
     ensures { IfOk result (λ o. refusal_of o ≡ refused_place (program_of packages.now)) }
 {
     one_order_at_most();
@@ -78,7 +79,7 @@ pub fn first_refused(
     blocks_have_names();
     bodies_come_after();
     first_bodies_by_files();
-    tables_tell_of_printers();
+    tables_find_the_same();
     let Collected {
         mut tables,
         blocks,

@@ -1,12 +1,9 @@
-use Rattle.std.proofs.Common.{◌∙◌, None, ap, map}
-use Rattle.std.specs.List.{list_all}
+use Rattle.std.proofs.Common.{◌∙◌, None, ap, map, subst, sym}
 use Rattle.go_tree.specs.FileView.{decl_of}
 use Rattle.collected.proofs.PlaceLemmas.{place_stands}
-use Rattle.printing_files.specs.Decls.{is_plain}
 use Rattle.checked_modules.specs.FilePlaces.Imports.{names_imported}
-use Rattle.typed_names.specs.Scopes.{env_at}
-use Rattle.checked_modules.specs.Bodies.{first_decl}
-use Rattle.checked_modules.proofs.BodyLemmas.{there_of, tree_alike}
+use Rattle.checked_modules.specs.FunctionBodies.Walked.{AreWalkedDecls}
+use Rattle.checked_modules.proofs.BodyLemmas.{first_in, there_of}
 use Rattle.checked_modules.proofs.bodies.first_there.Goals as goal
 
 pub first_decl-requires-clause-stands : goal.first_decl-requires-clause-stands
@@ -15,9 +12,9 @@ first_decl-requires-clause-stands c =
     (names_imported c.args.packages.now c.args.tree.now) c.in_ok-scope.ensures.alone c.requires.ready c.requires.there.types
     c.requires.there.values
 
-pub first_decl-requires-clause-plain : goal.first_decl-requires-clause-plain
-first_decl-requires-clause-plain c =
-    ap (λ ds. list_all is_plain (map decl_of ds)) c.items.ensures ∙ c.requires.plain
+pub first_decl-requires-clause-walked : goal.first_decl-requires-clause-walked
+first_decl-requires-clause-walked c =
+    subst (λ ds. AreWalkedDecls (map decl_of ds)) (sym c.items.ensures) c.requires.walked
 
 pub returns-clause-ready : goal.returns-clause-ready
 returns-clause-ready c = c.in_ok-found.ensures.stands.ready
@@ -29,10 +26,6 @@ returns-clause-there c =
 pub returns-clause-found : goal.returns-clause-found
 returns-clause-found c =
     λ w x same tree is.
-    let e = c.args.tables.now.env in
-    let cs = c.args.tables.now.consts in
-    let bs = c.args.blocks.now in
-    let s = c.in_ok-scope.scope in
-    c.in_ok-found.ensures.is
-    ∙ ap (λ ds. first_decl (env_at e cs bs s) (map decl_of ds)) c.items.ensures
-    ∙ tree_alike e cs bs s w x same (c.in_ok-scope.ensures.is x tree is) c.args.tree.now.decls c.requires.plain tree.decls
+    c.in_ok-found.ensures.found w x same (c.in_ok-scope.ensures.is x tree is)
+    ∙ ap (λ ds. first_in w x (map decl_of ds)) c.items.ensures
+    ∙ ap (first_in w x) tree.decls

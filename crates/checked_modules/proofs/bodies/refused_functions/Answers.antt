@@ -1,4 +1,4 @@
-use Rattle.checked_modules.proofs.BodyLemmas.{file_plain, files_end, files_more, files_none}
+use Rattle.checked_modules.proofs.BodyLemmas.{file_walked, files_end, files_more, files_none}
 use Rattle.checked_modules.proofs.bodies.refused_functions.Goals as goal
 
 pub first_in_file-requires-clause-ready : goal.first_in_file-requires-clause-ready
@@ -7,10 +7,10 @@ first_in_file-requires-clause-ready c = c.loop-file.invariant.ready
 pub first_in_file-requires-clause-there : goal.first_in_file-requires-clause-there
 first_in_file-requires-clause-there c = c.loop-file.invariant.there
 
-pub first_in_file-requires-clause-plain : goal.first_in_file-requires-clause-plain
-first_in_file-requires-clause-plain c =
-    file_plain c.args.files.now c.loop-file.file-index c.file-item.result c.loop-file-test.true c.file-item.is
-    c.requires.plain
+pub first_in_file-requires-clause-walked : goal.first_in_file-requires-clause-walked
+first_in_file-requires-clause-walked c =
+    file_walked c.args.files.now c.loop-file.file-index c.file-item.result c.loop-file-test.true c.file-item.is
+    c.requires.walked
 
 pub loop-file-init : goal.loop-file-init
 loop-file-init c =

@@ -10,20 +10,20 @@ use Rattle.collected.specs.Declarations.{refusal_of}
 use Rattle.checked_modules.specs.FilePlaces.Around.{all_around}
 use Rattle.checked_modules.specs.FilePlaces.Places.{AreFiles}
 use Rattle.checked_modules.proofs.FilePlaces.TreeLemmas.{program_is}
-use Rattle.checked_modules.specs.Bodies.{ArePlain}
+use Rattle.checked_modules.specs.Bodies.{AreWalked}
 use Rattle.checked_modules.specs.Firsts.{bodies_of}
-use Rattle.checked_modules.proofs.ModuleLemmas.{module_plain, module_prints, place_named, types_final, worlds_found}
+use Rattle.checked_modules.proofs.FunctionBodies.WalkedFiles.{module_walked}
+use Rattle.checked_modules.proofs.ModuleLemmas.{place_named, types_final, worlds_found}
 use Rattle.checked_modules.proofs.modules.first_refused.Goals as goal
 
-pub refused_functions-requires-clause-plain : goal.refused_functions-requires-clause-plain
-refused_functions-requires-clause-plain c =
+pub refused_functions-requires-clause-walked : goal.refused_functions-requires-clause-walked
+refused_functions-requires-clause-walked c =
     let packages = c.args.packages.now in
     let ps : Program Span = program_of packages in
-    let d = c.in_ok-tables.field-0 in
-    let places = d.files.items in
-    subst ArePlain (sym c.deref-3.ensures.value)
-    (module_plain packages places c.in_ok-files.files.items ps
-    (module_prints c.one_order_at_most.ensures.unique packages c.args.order.now c.requires.order c.requires.prints)
+    let places = c.in_ok-tables.field-0.files.items in
+    subst AreWalked (sym c.deref-3.ensures.value)
+    (module_walked c.one_order_at_most.ensures.unique packages c.args.order.now c.requires.order c.requires.walked places
+    c.in_ok-files.files.items
     (c.in_ok-files.ensures places
     (subst (λ xs. AreHeaders places (map listed_of xs) (headed ps)) (sym c.deref.ensures.value) c.in_ok-tables.ensures.headers)))
 
@@ -58,8 +58,7 @@ returns c =
     let filed = c.in_ok-files.ensures places
     (subst (λ xs. AreHeaders places (map listed_of xs) (headed ps)) (sym c.deref.ensures.value) known.headers) in
     let bodies = c.in_ok-bodies.ensures.found (collected ps) (all_around ps)
-    (worlds_found ps d known c.tables_tell_of_printers.ensures.found
-    (module_prints unique packages order c.requires.order c.requires.prints) c.len-types.ensures.good)
+    (worlds_found ps d known c.tables_find_the_same.ensures c.len-types.ensures.good)
     (subst (λ ss. AreFiles packages ss c.deref-3.result.now (all_around ps)) (sym c.deref-2.ensures.value)
     (subst (λ fs. AreFiles packages places fs (all_around ps)) (sym c.deref-3.ensures.value) filed)) in
     let declaration = c.in_ok-declaration.ensures
