@@ -29,8 +29,10 @@ use pkg_graph::{Package, one_order_at_most};
 use std::alloc::Global;
 use typed_names::{Blocks, Scope};
 
-/// The first import or header that is refused, once all that the packages declare is known.
-fn refused_declaration(
+/// The first import or declaration that is refused, once all that the packages declare is known; bodies aside. The error
+/// is want of memory; linear in the files but for look-ups (Go specification, Declarations and scope; Import
+/// declarations).
+pub fn refused_declaration(
     alloc: Global,
     packages: &[Package],
     order: &[u32],

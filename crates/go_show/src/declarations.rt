@@ -357,7 +357,7 @@ fn write_package<W: Write>(
 }
 
 /// The path of the file of a place that is refused.
-fn path_of<'a>(packages: &'a [Package], refused: RefusedPlace) -> &'a [u8] {
+pub(crate) fn path_of<'a>(packages: &'a [Package], refused: RefusedPlace) -> &'a [u8] {
     let Some(package) = packages.get(refused.package as usize) else {
         return b"".as_slice();
     };

@@ -1,7 +1,7 @@
 use Rattle.std.proofs.Common.{◌∙◌, ◌<◌, ◌^◌, sym, ap, subst, List, length}
 use Rattle.checked_modules.specs.Declarations.{refusal_of}
 use Rattle.pkg_graph.specs.declared.packages.Package.{Package}
-use Rattle.fix_run.proofs.PlannedModules.TypingFaults.{are_ordered, are_spelled, prints_views, typed_none, typed_some}
+use Rattle.fix_run.proofs.PlannedModules.TypingFaults.{are_ordered, are_spelled, are_walked, typed_none, typed_some}
 use Rattle.fix_run.proofs.planned_modules.places.typing_fault.Goals as goal
 
 pub first_refused-requires-clause-few : goal.first_refused-requires-clause-few
@@ -17,9 +17,9 @@ pub first_refused-requires-clause-spelled : goal.first_refused-requires-clause-s
 first_refused-requires-clause-spelled c =
     are_spelled c.read_values_are_spelled.ensures.packages c.args.files.now c.args.read.now c.requires.read c.packages-packages.result.now c.packages-packages.ensures
 
-pub first_refused-requires-clause-prints : goal.first_refused-requires-clause-prints
-first_refused-requires-clause-prints c =
-    prints_views c.args.read.now c.packages-packages.result.now c.packages-packages.ensures c.requires.prints
+pub first_refused-requires-clause-walked : goal.first_refused-requires-clause-walked
+first_refused-requires-clause-walked c =
+    are_walked c.read_bodies_are_walked.ensures.packages c.args.files.now c.args.read.now c.requires.read c.packages-packages.result.now c.packages-packages.ensures
 
 pub returns-in_default : goal.returns-in_default
 returns-in_default c =
