@@ -27,7 +27,7 @@ use Rattle.declared_types.specs.Headers.{IsFileOf}
 use Rattle.checked_modules.specs.RefusedBodies.Worlds.{FindsTheSame}
 use Rattle.checked_modules.specs.FunctionBodies.Headers.{IsHeaderAt, header_there}
 use Rattle.checked_modules.specs.FunctionBodies.Laws.{TablesTellOfFunctions}
-use Rattle.checked_modules.proofs.RefusedBodies.AlikeLemmas.{places_alike}
+use Rattle.checked_modules.proofs.RefusedBodies.AlikeLemmas.{meanings_same}
 use Rattle.checked_modules.proofs.FunctionBodies.HeaderLemmas.{header_env}
 use Rattle.checked_modules.proofs.FunctionBodies.FoundSame.TypeNamesSame.{func_type-same}
 use Rattle.checked_modules.proofs.FunctionBodies.FoundSame.TypingSame.{stmts-same}
@@ -77,7 +77,7 @@ module _ (e : table.Environment) (cs : List Const) (bs : List Names) (s : Scope)
 
   names_same : (n : List ℕ) → means here.names n ≡ means beyond.names n
   names_same n =
-      ap (λ a. meaning a n) (header_env e cs bs s there is_there) ∙ sym ((places_alike e cs bs s w h found file).names n)
+      ap (λ a. meaning a n) (header_env e cs bs s there is_there) ∙ meanings_same e cs bs s w h found file n
 
   signature_same : (g : Sig Span) → func_type here g ≡ func_type beyond g
   signature_same g = func_alike here beyond.names names_same g ∙ func_type-same left w found beyond g

@@ -10,8 +10,7 @@ use Rattle.go_tree.specs.GoTypes.Types.{GoType, base_of}
 use Rattle.go_tree.specs.GoTypes.Entities as go
 use Rattle.go_tree.specs.GoTypes.Entities.{Place, World, block_of, exported, in_block, is_exported, meaning, universe}
 use Rattle.go_tree.specs.GoTypes.Operands.{Operand, Typed, a_function, plain_value}
-use Rattle.go_tree.specs.GoTypes.Primary.{call_of, home_of, is_addressable, method_of, method_value, sees, selected}
-use Rattle.go_tree.specs.GoTypes.Bodies.{is_body}
+use Rattle.go_tree.specs.GoTypes.Primary.{home_of, is_addressable, method_of, method_value, sees, selected}
 use Rattle.go_tree.specs.GoTypes.Programs.{Headed, env_of}
 use Rattle.type_table.specs.TypeRelations.Environment.{Environment}
 use Rattle.typed_names.specs.declared.scopes.Scope.{Scope}
@@ -19,12 +18,7 @@ use Rattle.typed_names.specs.Meanings.{Names, names_at, world_at}
 use Rattle.typed_names.specs.Scopes.{env_at}
 use Rattle.declared_types.specs.Headers.{IsFileOf}
 use Rattle.value_rounds.specs.HeadersStay.SameRules.{SameRules}
-use Rattle.value_rounds.proofs.HeadersStay.PrimarySame.{call_of-same, field_type-same}
-use Rattle.printing_files.specs.Decls.{are_printing, is_function, is_nothing}
-use Rattle.checked_modules.specs.RefusedBodies.Alike.{SeesAlike}
-use Rattle.checked_modules.specs.RefusedBodies.Functions.{no_values_ctx, no_values_type}
-use Rattle.checked_modules.specs.RefusedBodies.Laws.{TablesTellOfPrinters}
-use Rattle.checked_modules.proofs.RefusedBodies.PrintLemmas.{and_both, printers_typed, printing_alike}
+use Rattle.value_rounds.proofs.HeadersStay.PrimarySame.{field_type-same}
 use Rattle.checked_modules.specs.RefusedBodies.Worlds.{FindsTheSame}
 
 -- a world without its package blocks
@@ -64,10 +58,6 @@ module _ (left right : World) (same : FindsTheSame left right) where
         | None ↦ method_value_same home n v.0 p z
       ]
 
-  pub calls_same :
-      (o : Operand) (os : List Operand) → call_of left.defined o os ≡ call_of right.defined o os
-  calls_same o os = call_of-same (bare left) (bare right) rules o os
-
   pub exported_same : (p : ℕ) (n : List ℕ) → exported left p n ≡ exported right p n
   exported_same p n = λ z. if is_exported n then same.names p n z else None
 
@@ -86,7 +76,7 @@ module _ (e : Environment) (cs : List Const) (bs : List Names) (s : Scope) (w : 
       means (xs ++ ys ++ zs) n ≡ or_else (or_else (means xs n) (means ys n)) (means zs n)
   three xs ys zs n = first_of (xs ++ ys) zs n ∙ ap (λ o. or_else o (means zs n)) (first_of xs ys n)
 
-  meanings_same : (n : List ℕ) → meaning (in_block (env_at e cs bs s)) n ≡ meaning (in_block (env_of w h None)) n
+  pub meanings_same : (n : List ℕ) → meaning (in_block (env_at e cs bs s)) n ≡ meaning (in_block (env_of w h None)) n
   meanings_same n =
       locals_gone n
       ∙ three (names_at e cs s.imports) block universe n
@@ -94,24 +84,3 @@ module _ (e : Environment) (cs : List Const) (bs : List Names) (s : Scope) (w : 
       (ap₂ or_else (file.imports e cs n)
       (ap (λ p. means (block_of (world_at e cs bs).blocks p) n) file.home ∙ same.names h.home n))
       ∙ sym (three h.imports (block_of w.blocks h.home) universe n)
-
-  pub places_alike : SeesAlike (in_block (env_of w h None)) (in_block (env_at e cs bs s))
-  places_alike =
-      record {
-        home = sym file.home;
-        iota = sym file.no_constant;
-        names = λ n. sym (meanings_same n);
-        others = λ p n. sym (exported_same (world_at e cs bs) w same p n);
-        calls = λ o os. sym (calls_same (world_at e cs bs) w same o os);
-        selectors = λ home n p v. sym (selected_same (world_at e cs bs) w same home n p v);
-      }
-
-pub tables_tell : TablesTellOfPrinters
-tables_tell e cs bs s w h f same file p =
-    let k = and_both (is_function f) (is_nothing f.sig.params && (is_nothing f.sig.results && are_printing f.body)) p in
-    let l = and_both (is_nothing f.sig.params) (is_nothing f.sig.results && are_printing f.body) k.1 in
-    let prints = (and_both (is_nothing f.sig.results) (are_printing f.body) l.1).1 in
-    printers_typed w h f p
-    ∙ ap (is_body no_values_type f.body)
-    (printing_alike (in_block (env_of w h None)) (in_block (env_at e cs bs s)) (places_alike e cs bs s w h same file)
-    no_values_ctx false f.body prints)

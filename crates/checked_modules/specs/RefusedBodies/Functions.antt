@@ -2,12 +2,9 @@
 -- declarations; Method declarations).
 use Rattle.std.specs.Prelude.{ℕ, suc, true, false, List, [], ◌∷◌, Option, Some, None, if◌then◌else◌}
 use Rattle.go_tree.specs.declared.spans.Span.{Span}
-use Rattle.go_tree.specs.Tree.{Sig}
 use Rattle.go_tree.specs.File.{Func, Decl, func}
 use Rattle.go_tree.specs.ScopeNames.Means.{Environment}
 use Rattle.go_tree.specs.GoTypes.Answers.{one_of}
-use Rattle.go_tree.specs.GoTypes.Types.{FuncType}
-use Rattle.go_tree.specs.GoTypes.Bodies.{Ctx, body_ctx}
 use Rattle.go_tree.specs.GoTypes.Entities.{Entity, World}
 use Rattle.go_tree.specs.GoTypes.Programs.{SourceFile, Headed, a_func, file_block}
 use Rattle.go_tree.specs.GoTypes.WellTyped.{NotTyped, function_ok}
@@ -43,15 +40,3 @@ first_of_files w home members file [] = None
 first_of_files w home members file (f ∷ fs) =
     one_of (place_in home file (first_function w home (file_block members [] f.imports) f.decls))
     (first_of_files w home members (suc file) fs)
-
--- the type of a function without parameters and results
-abbrev pub no_values_type : FuncType
-no_values_type = record { params = []; results = [] }
-
--- the signature of such a function
-abbrev pub no_values_sig : Sig Span
-no_values_sig = record { params = []; results = [] }
-
--- what its body returns, and which jumps may stand in it
-abbrev pub no_values_ctx : Ctx
-no_values_ctx = body_ctx no_values_sig no_values_type
