@@ -1,4 +1,4 @@
--- The law of bodies. It is a clause of a function of this crate.
+-- The law of bodies. It is a clause of a function of this crate (Go specification, Function declarations; Packages).
 use Rattle.std.specs.Prelude.{◌≡◌, false, List, ◌∷◌, ◌++◌, nat_eq}
 use Rattle.std.specs.List.{list_any}
 use Rattle.go_tree.specs.declared.spans.Span.{Span}

@@ -42,12 +42,14 @@ BodiesAreFormed (values x ∷ ds) = BodiesAreFormed ds
 BodiesAreFormed (types s grouped ts ∷ ds) = BodiesAreFormed ds
 BodiesAreFormed (func f ∷ ds) = FormedStmts f.body × BodiesAreFormed ds
 
--- what holds of the declarations of each file of a package, and of each file of packages
+-- what may hold of the declarations of a file
 module _ (P : List (Decl Span) → Type 0) where
+  -- it holds of those of each of these files
   abbrev pub FilesHave : List (SourceTree Span) → Type 0
   FilesHave [] = Unit {0}
   FilesHave (f ∷ fs) = P f.tree.decls × FilesHave fs
 
+  -- so in all files of packages
   abbrev pub PackagesHave : List (Package Span) → Type 0
   PackagesHave [] = Unit {0}
   PackagesHave (p ∷ ps) = FilesHave p.files × PackagesHave ps
