@@ -5,3 +5,4 @@ pub mod WorldLemmas
 pub mod TableLemmas
 pub mod WalkedStatements
 pub mod WalkedFiles
+mod WalkedExample
