@@ -1,7 +1,8 @@
 -- No function literal stands in a constant expression, so that constants are typed without walking any.
-use Rattle.std.proofs.Common.{◌≡◌, ◌∙◌, ◌++◌, ◌+◌, ◌&&◌, ◌<◌, ◌≤◌, ℕ, suc, Bool, true, false, List, [], ◌∷◌, length, Option, Some, None, refl, sym, ap, drop, get_or, map, nat_eq}
+use Rattle.std.proofs.Common.{◌≡◌, ◌∙◌, ◌++◌, ◌+◌, ◌&&◌, ◌<◌, ◌≤◌, ℕ, suc, Bool, true, false, List, [], ◌∷◌, length, Option, Some, None, refl, sym, ap, drop, get_or, map, nat_eq, arith}
 use Rattle.std.specs.Borrow.{Bor}
 use Rattle.std.proofs.lemmas.Bool.{true≢false}
+use Rattle.std.proofs.lemmas.Bool.Decides.{nat_tests}
 use Rattle.go_tree.specs.declared.exprs.Expr as source
 use Rattle.go_tree.specs.declared.spans.Span.{Span}
 use Rattle.go_tree.specs.declared.stmts.ConstSpec.{ConstSpec}
@@ -214,7 +215,9 @@ specs_refused env r i (spec _ ns t (expr_and e es) ss) h =
 
 pub none_seen : (vs : List (Bor source.Expr)) → is_empty (seen vs) ≡ nat_eq (length vs) 0
 none_seen [] = refl
-none_seen (v ∷ vs) = refl
+none_seen (v ∷ vs) =
+    let e : nat_eq (suc (length vs)) 0 ≡ false = grind (arith, nat_tests) in
+    sym e
 
 -- none stands in these specs
 abbrev pub have_none : List ConstSpec → Bool
