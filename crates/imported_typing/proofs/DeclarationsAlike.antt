@@ -56,7 +56,7 @@ module _ (r : Reach) where
   means_within (b ∷ bs) m h i n = either b (means (bs ++ m) n) h.0 (means_within bs m h.1 i n) (bytes_eq b.0 n)
 
   pub after : (bs : Binds) (env : Env) → BindsWithin bs → PlaceWithin r env → PlaceWithin r (extend bs env)
-  after bs env h i = means_within bs env.names h i
+  after bs env h i = (i.0, means_within bs env.names h i.1)
 
   -- ---- parameters and results
 
@@ -141,7 +141,7 @@ module _ (w : Worlds) where
   defined_alike env i [] (v ∷ vs) k = neither
   defined_alike env i (n ∷ ns) [] k = neither
   defined_alike env i (n ∷ ns) (v ∷ vs) k =
-      if_alike refl (only_alike (assigns_to_same (meaning env n) v (i n) k.0) (defined_alike env i ns vs k.1))
+      if_alike refl (only_alike (assigns_to_same (meaning env n) v (i.1 n) k.0) (defined_alike env i ns vs k.1))
       (both_alike (variable_entity_alike None v tt k.0) (defined_alike env i ns vs k.1)
       (λ e bs h l. alike (binding_and w.reach n e bs h l)))
 

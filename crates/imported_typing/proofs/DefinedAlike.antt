@@ -130,7 +130,7 @@ module _ (w : Worlds) where
 
       within_fields_same : (fs : GoFields) → FieldsWithin w.reach fs → comparable_fields f fs ≡ comparable_fields g fs
       within_fields_same no_go_fields h = refl
-      within_fields_same (go_field n p t fs) h = ap₂ (λ a b. a && b) (within_by_same t h.0) (within_fields_same fs h.1)
+      within_fields_same (go_field n p t fs) h = ap₂ (λ a b. a && b) (within_by_same t h.1) (within_fields_same fs h.2)
 
   comparable_within_same : (k : ℕ) (t : GoType) → TypeWithin w.reach t →
       comparable_within k w.left.defined t ≡ comparable_within k w.right.defined t
@@ -166,4 +166,4 @@ module _ (w : Worlds) where
     fields_have_keys_same : (fs : GoFields) → FieldsWithin w.reach fs →
         fields_have_keys w.left.defined fs ≡ fields_have_keys w.right.defined fs
     fields_have_keys_same no_go_fields h = λ z. true
-    fields_have_keys_same (go_field n p t fs) h = λ z. has_keys_same t h.0 z && fields_have_keys_same fs h.1 z
+    fields_have_keys_same (go_field n p t fs) h = λ z. has_keys_same t h.1 z && fields_have_keys_same fs h.2 z

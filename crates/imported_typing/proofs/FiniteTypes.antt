@@ -27,7 +27,7 @@ module _ (f g : ℕ → List ℕ → Bool) where
     fields_finite_same s (go_field n p t fs) = ap₂ (λ a b. a && b) (finite_by_same s t) (fields_finite_same s fs)
 
   mutual
-    finite_by_rises : ((p : ℕ) (n : List ℕ) → f p n ≡ true → g p n ≡ true) → (t : GoType) → is_finite_by f t ≡ true →
+    pub finite_by_rises : ((p : ℕ) (n : List ℕ) → f p n ≡ true → g p n ≡ true) → (t : GoType) → is_finite_by f t ≡ true →
         is_finite_by g t ≡ true
     finite_by_rises r (basic k) e = refl
     finite_by_rises r (named_type p n) e = r p n e

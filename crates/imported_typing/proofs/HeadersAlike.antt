@@ -116,10 +116,13 @@ module _ (w : Worlds) {S : Type 0} where
 
   pub around_within : (h : Headed S) → HeaderWithin w.reach h → (i : Option ℕ) →
       PlaceWithin w.reach (around h i (block_of w.left.blocks h.home))
-  around_within h k i n =
-      means_both w.reach (h.imports ++ block_of w.left.blocks h.home) universe n
-      (means_both w.reach h.imports (block_of w.left.blocks h.home) n (k.imports n) (w.same.members h.home k.home n))
-      (means_of w.reach universe (universe_within w.reach) n)
+  around_within h k i = (
+    k.fields,
+    λ n.
+        means_both w.reach (h.imports ++ block_of w.left.blocks h.home) universe n
+        (means_both w.reach h.imports (block_of w.left.blocks h.home) n (k.imports n) (w.same.members h.home k.home n))
+        (means_of w.reach universe (universe_within w.reach) n),
+  )
 
   -- what holds at a place with the blocks of the left world holds with those of the right one
   pub at_header : {A : Type 0} {K : A → Type 0} (f : Env → Option A) (h : Headed S) → HeaderWithin w.reach h →

@@ -1,3 +1,4 @@
+pub mod AnyHome
 pub mod Alike
 pub mod Growing
 pub mod ComparableTypes

@@ -35,7 +35,7 @@ module _ (w : Worlds) where
       fills w.left.defined home fs es ≡ fills w.right.defined home fs es
   fills_same home no_go_fields [] h k = λ z. true
   fills_same home (go_field n p t fs) (unkeyed v ∷ es) h k = λ z. sees home p &&
-      (takes_same w t v h.0 k.0 z && fills_same home fs es h.1 k.1 z)
+      (takes_same w t v h.1 k.0 z && fills_same home fs es h.2 k.1 z)
   fills_same home fs es h k = λ z. false
 
   sets_field_same : (home : ℕ) (fs : GoFields) (e : Element) → FieldsWithin w.reach fs → ElementWithin e →

@@ -30,7 +30,7 @@ module _ (w : Worlds) where
   common_with_untyped_alike j untyped_nil h = neither
   common_with_untyped_alike j t h = alike h
 
-  common_alike : (t u : GoType) → TypeWithin w.reach t → TypeWithin w.reach u →
+  pub common_alike : (t u : GoType) → TypeWithin w.reach t → TypeWithin w.reach u →
       Alike (TypeWithin w.reach) (common_type w.left.defined t u) (common_type w.right.defined t u)
   common_alike (untyped j) u k h = common_with_untyped_alike j u h
   common_alike untyped_nil u k h = only_alike refl (alike h)
@@ -76,7 +76,7 @@ module _ (w : Worlds) where
 
   -- ---- comparisons
 
-  compared_alike : (v x : Typed) → TypedWithin w.reach v → TypedWithin w.reach x →
+  pub compared_alike : (v x : Typed) → TypedWithin w.reach v → TypedWithin w.reach x →
       Alike (TypeWithin w.reach) (compared_at w.left.defined v x) (compared_at w.right.defined v x)
   compared_alike v x h i =
       if_alike refl

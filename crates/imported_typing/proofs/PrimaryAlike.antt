@@ -32,15 +32,15 @@ module _ (w : Worlds) where
   pub found_field : (home : ℕ) (n : List ℕ) (fs : GoFields) → FieldsWithin w.reach fs →
       Alike (TypeWithin w.reach) (find_field home n fs) (find_field home n fs)
   found_field home n no_go_fields k = neither
-  found_field home n (go_field m p t fs) k = if_alike refl (alike k.0) (found_field home n fs k.1)
+  found_field home n (go_field m p t fs) k = if_alike refl (alike k.1) (found_field home n fs k.2)
 
-  found_method : (n : List ℕ) (ms : List Method) → AllOf (MethodWithin w.reach) ms →
+  pub found_method : (n : List ℕ) (ms : List Method) → AllOf (MethodWithin w.reach) ms →
       IfAny (MethodWithin w.reach) (find_method n ms)
   found_method n [] k = tt
   found_method n (m ∷ ms) k = either_within (MethodWithin w.reach) (Some m) (find_method n ms) (bytes_eq n m.name) k.0
       (found_method n ms k.1)
 
-  fields_in_alike : (t : GoType) → TypeWithin w.reach t → Alike (FieldsWithin w.reach) (fields_in w.left.defined t)
+  pub fields_in_alike : (t : GoType) → TypeWithin w.reach t → Alike (FieldsWithin w.reach) (fields_in w.left.defined t)
       (fields_in w.right.defined t)
   fields_in_alike t k =
       elim_alike (base_alike w t k) (λ u. fields_of (under w.left.defined u)) (λ u. fields_of (under w.right.defined u))

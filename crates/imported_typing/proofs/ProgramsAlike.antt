@@ -160,7 +160,7 @@ module _ {S : Type 0} where
 
 -- ---- defined types and their underlying types
 
-found_under : (all ds : DeclaredTypes) (p : ℕ) (n : List ℕ) → find_defined (underlying all ds) p n ≡ given
+pub found_under : (all ds : DeclaredTypes) (p : ℕ) (n : List ℕ) → find_defined (underlying all ds) p n ≡ given
     (declared_as ds p n) (λ t. Some
     (record { home = p; name = n; under = under_within (length all) all t; methods = [] }))
 found_under all [] p n = refl
@@ -186,7 +186,7 @@ found_under all (d ∷ ds) p n = by (found_under all ds p n) (nat_eq d.home p &&
         })
     by i false e = i
 
-found_with : (ms : List DeclaredMethod) (ds : List Defined) (p : ℕ) (n : List ℕ) →
+pub found_with : (ms : List DeclaredMethod) (ds : List Defined) (p : ℕ) (n : List ℕ) →
     find_defined (with_methods ms ds) p n ≡ given (find_defined ds p n)
     (λ d. Some (record d { methods = methods_on d ms }))
 found_with ms [] p n = refl
@@ -313,6 +313,7 @@ module _ {S : Type 0} (ps more : Program S) (itself : imports_itself ps ≡ true
     package_within p e (f ∷ fs) k = (
       (λ file at sound x. record {
         home = e;
+        fields = e;
         imports = means_of r (file_block (block_names p.files) [] f.imports)
             (imports_within (block_names p.files) [] f.imports k.0);
       }),
@@ -535,8 +536,8 @@ module _ {S : Type 0} (ps more : Program S) (itself : imports_itself ps ≡ true
 
         fields_finite_within : (fs : GoFields) → FieldsWithin r fs → are_finite_by f fs ≡ are_finite_by g fs
         fields_finite_within no_go_fields k = refl
-        fields_finite_within (go_field n p t fs) k = ap₂ (λ a b. a && b) (finite_within t k.0)
-            (fields_finite_within fs k.1)
+        fields_finite_within (go_field n p t fs) k = ap₂ (λ a b. a && b) (finite_within t k.1)
+            (fields_finite_within fs k.2)
 
     finite_names_same : (k p : ℕ) (n : List ℕ) → has_package ps p ≡ true →
         is_finite_within k ds p n ≡ is_finite_within k es p n

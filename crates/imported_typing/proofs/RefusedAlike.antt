@@ -84,13 +84,13 @@ module _ (w : Worlds) {S : Type 0} where
           alike (subst (λ p. w.reach.types p q.1 ≡ true) (nat_same q.0 h.home
           (first_holds (nat_eq q.0 h.home) (is_none (base_of (under w.left.defined t))) e)) i))
 
-  receiver_alike : (h : Headed S) → HeaderWithin w.reach h → (r : Receiver S) →
+  pub receiver_alike : (h : Headed S) → HeaderWithin w.reach h → (r : Receiver S) →
       Alike (OwnType h) (receiver_type w.left h r) (receiver_type w.right h r)
   receiver_alike h k r =
       along (λ b. given (type_of_name (means (h.imports ++ b ++ universe) r.of.name)) (received w.right h))
       (w.same.blocks h.home k.home)
       (go (type_of_name (meaning (env_of w.left h None) r.of.name))
-      (type_within w (meaning (env_of w.left h None) r.of.name) (around_within w h k None r.of.name)))
+      (type_within w (meaning (env_of w.left h None) r.of.name) ((around_within w h k None).1 r.of.name)))
     where
       go : (o : Option GoType) → IfAny (TypeWithin w.reach) o → Alike (OwnType h) (given o (received w.left h))
           (given o (received w.right h))
@@ -163,7 +163,7 @@ module _ (w : Worlds) {S : Type 0} where
       go (Some m) = binding_within w.reach m.name
           (variable (if r.pointer then pointer_to (named_type h.home n) else named_type h.home n)) (typed r.pointer)
 
-  receiver_of_within : (h : Headed S) → HeaderWithin w.reach h → (o : Option (Receiver S)) →
+  pub receiver_of_within : (h : Headed S) → HeaderWithin w.reach h → (o : Option (Receiver S)) →
       BindsWithin w.reach (receiver_of w.left h o)
   receiver_of_within h k None = tt
   receiver_of_within h k (Some r) = go (receiver_type w.left h r) (holds_of (receiver_alike h k r))
@@ -173,7 +173,7 @@ module _ (w : Worlds) {S : Type 0} where
       go None i = tt
       go (Some n) i = receiver_binds_within r h n i
 
-  receiver_of_same : (h : Headed S) → HeaderWithin w.reach h → (o : Option (Receiver S)) →
+  pub receiver_of_same : (h : Headed S) → HeaderWithin w.reach h → (o : Option (Receiver S)) →
       receiver_of w.left h o ≡ receiver_of w.right h o
   receiver_of_same h k None = refl
   receiver_of_same h k (Some r) = λ z. elim (same_of (receiver_alike h k r) z) as (λ r. Binds)

@@ -35,7 +35,7 @@ use Rattle.imported_typing.proofs.StatementsAlike.{TargetWithin, ResultsWithin, 
 
 module _ (w : Worlds) where
   -- a name after that of a package
-  named_exported : (env : Env) (p : ℕ) (n : List ℕ) → PackageWithin w p →
+  pub named_exported : (env : Env) (p : ℕ) (n : List ℕ) → PackageWithin w p →
       Alike (OperandWithin w.reach) (named_operand (at w.left env) (exported w.left p n))
       (named_operand (at w.right env) (exported w.right p n))
   named_exported env p n h = along (λ e. named_operand (at w.right env) e) (exported_same w p n h)
@@ -75,7 +75,7 @@ module _ (w : Worlds) where
     mutual
       pub parts-reached : (env : Env) → PlaceWithin w.reach env → (e : Expr S) →
           Alike (OperandWithin w.reach) (parts (at w.left env) e) (parts (at w.right env) e)
-      parts-reached env i (ident _ n) = named_operand_alike w env (meaning env n) (i n)
+      parts-reached env i (ident _ n) = named_operand_alike w env (meaning env n) (i.1 n)
       parts-reached env i (int_lit _ s) = constant_alike w (untyped kind.UntypedInt) kind.UntypedInt
           (number (pos (integer_value s))) tt
       parts-reached env i (rune_lit _ s) = constant_alike w (untyped kind.UntypedRune) kind.UntypedRune

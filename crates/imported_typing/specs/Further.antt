@@ -35,9 +35,9 @@ module _ {S : Type 0} where
   abbrev pub in_order : Program S → Bool
   in_order ps = in_order_behind [] ps
 
-  -- the packages, and the types that they define
+  -- the packages, the types that they define, and their fields
   abbrev pub own_reach : Program S → Reach
-  own_reach ps = record { packages = has_package ps; types = λ p n. has_package ps p }
+  own_reach ps = record { packages = has_package ps; types = λ p n. has_package ps p; homes = has_package ps }
 
   -- what is refused first of the packages `ps` in the program `qs`
   abbrev pub refused_among : Program S → Program S → Option (NotTyped S)

@@ -13,10 +13,15 @@ use Rattle.go_tree.specs.GoTypes.Entities.{builtin, nil_name, iota_name, refused
 use Rattle.go_tree.specs.GoTypes.Operands.{Operand, value, several, a_type, a_function, a_builtin, recovered}
 use Rattle.go_tree.specs.GoTypes.Programs.{Headed, spec_of}
 
--- the packages and the defined types that are reached
+-- the packages and the defined types that are reached, and the packages to which fields that aren't exported belong
 pub record Reach : Type 0 where
   pub packages : ℕ → Bool
   pub types : ℕ → List ℕ → Bool
+  pub homes : ℕ → Bool
+
+-- the same, with fields of any package
+abbrev pub any_home : Reach → Reach
+any_home r = record r { homes = λ p. true }
 
 -- it holds of each of a list
 abbrev pub AllOf : {A : Type 0} → (A → Type 0) → List A → Type 0
@@ -29,7 +34,11 @@ IfAny K None = Unit {0}
 IfAny K (Some x) = K x
 
 module _ (r : Reach) where
-  -- ---- types within reach: each defined type in them is
+  -- ---- types within reach: each defined type in them is, and so are the homes of their fields
+
+  -- fields of the package that aren't exported are within reach
+  abbrev pub HomeWithin : ℕ → Type 0
+  HomeWithin p = r.homes p ≡ true
 
   abbrev mutual
     -- a type
@@ -44,10 +53,10 @@ module _ (r : Reach) where
     TypeWithin (untyped k) = Unit {0}
     TypeWithin untyped_nil = Unit {0}
 
-    -- the types of fields
+    -- the homes and the types of fields
     pub FieldsWithin : GoFields → Type 0
     FieldsWithin no_go_fields = Unit {0}
-    FieldsWithin (go_field n p t fs) = TypeWithin t × FieldsWithin fs
+    FieldsWithin (go_field n p t fs) = IfAny HomeWithin p × TypeWithin t × FieldsWithin fs
 
     -- types in order
     pub TypesWithin : GoTypes → Type 0
@@ -90,9 +99,9 @@ module _ (r : Reach) where
 
   -- ---- places and worlds
 
-  -- all that names mean at a place is within reach
+  -- all that names mean at a place is within reach, and so are the fields that are written there
   abbrev pub PlaceWithin : Env → Type 0
-  PlaceWithin env = (n : List ℕ) → IfAny EntityWithin (meaning env n)
+  PlaceWithin env = HomeWithin env.home × ((n : List ℕ) → IfAny EntityWithin (meaning env n))
 
   -- In two worlds the same is found of all that is within reach, and it reaches nothing else.
   pub record SameWithin (left right : World) : Type 0 where
@@ -104,9 +113,10 @@ module _ (r : Reach) where
         (p : ℕ) → r.packages p ≡ true → (n : List ℕ) → IfAny EntityWithin (means (block_of left.blocks p) n)
 
   module _ {S : Type 0} where
-    -- A header stands in a package within reach, and its file imports only such packages.
+    -- A header stands in a package within reach, with its fields, and its file imports only such packages.
     pub record HeaderWithin (h : Headed S) : Type 0 where
       pub home : r.packages h.home ≡ true
+      pub fields : HomeWithin h.home
       pub imports : (n : List ℕ) → IfAny EntityWithin (means h.imports n)
 
     -- The defined type that a header declares is within reach.

@@ -1,13 +1,15 @@
 -- A module whose `main` has a call, and the one with the literal in its place, by the laws alone: they show the same.
 --   package main: func add(x int) int { x = x + 1; return x }; func main() { println(add(2)) }
 -- add is marked; after the step: println(func(x int) int { x = x + 1; return x }(2))
-use Rattle.std.specs.Prelude.{◌≡◌, ◌<◌, refl, ℕ, zero, suc, Bool, false, true, IsTrue, List, [], ◌∷◌, ◌++◌, Some, None, codes, bytes_eq}
-use Rattle.std.proofs.Common.{arith}
+use Rattle.std.specs.Prelude.{◌≡◌, ◌<◌, refl, ℕ, zero, suc, Bool, false, true, IsTrue, List, [], ◌∷◌, ◌++◌, Some, None, codes, bytes_eq, slice_get}
+use mathlib.Core.Path.{ap, subst}
+use Rattle.std.proofs.Common.{sym, ◌||◌, arith}
 use Rattle.go_tree.specs.declared.spans.Span.{Span}
 use Rattle.go_tree.specs.declared.exprs.Rest.TheVariants.{Plain}
 use Rattle.go_tree.specs.declared.operators.BinOp.TheVariants.{Add}
 use Rattle.go_tree.specs.Tree.{NameAt, named, Sig, Expr, ident, int_lit, call, func_lit, binary, no_exprs, expr_and, Stmt, eval, assign, return_, Stmts, no_stmts, stmt_and}
-use Rattle.go_tree.specs.File.{Func, func, File}
+use Rattle.go_tree.specs.File.{Func, Decl, func, File}
+use Rattle.go_tree.proofs.GoTypes.Agreeing.{some_same}
 use Rattle.pkg_graph.specs.Package.{SourceTree, Package}
 use Rattle.param_choice.specs.Chosen.{has}
 use Rattle.run_rules.specs.ImportRules.Removed.{same_span}
@@ -20,6 +22,7 @@ use Rattle.go_translation.specs.Mentions.{Way, mentions}
 use Rattle.go_translation.specs.Packages as translated
 use Rattle.go_translation.specs.Calls.{function_named}
 use Rattle.go_translation.specs.Packages.{sources, paths_in, codes_of, program_of, freely_shown_by, are_well_typed}
+use Rattle.go_translation.specs.SameMeaning.{SameMeaning}
 use Rattle.go_translation.specs.SwappedPackages.{function_here}
 use Rattle.go_translation.proofs.Ranks.{program_ranked}
 use Rattle.run_rules.specs.Surroundings.{whole, Place, a_slot, in_slot, at_stmt}
@@ -28,26 +31,34 @@ use Rattle.typed_in_place.specs.ProgramsAlike.{no_more, and_more}
 use Rattle.typed_in_place.specs.SameFacts.{SameOperand}
 use Rattle.typed_in_place.specs.SameWorlds.SameWorlds.{at as in_world}
 use Rattle.imported_typing.specs.Further.{own_reach}
-use Rattle.imported_typing.specs.Reach.{HeaderWithin, PlaceWithin}
+use Rattle.imported_typing.specs.Reach.{any_home, HeaderWithin, PlaceWithin}
+use Rattle.imported_typing.proofs.AnyHome.{place_any}
 use Rattle.imported_typing.proofs.HeadersAlike.{around_within}
-use Rattle.run_rules.specs.Sites.{MarkRef, Where, Site, an_expr}
+use Rattle.run_rules.specs.Sites.{MarkRef, same_mark, is_among_marks, Where, Site, an_expr, where_is}
 use Rattle.run_rules.specs.Calls.{body_seen}
 use Rattle.run_rules.specs.FormTrees.{as_expr, top}
-use Rattle.run_rules.specs.Places.{sig_seen}
+use Rattle.run_rules.specs.Places.{sig_seen, stmts_seen}
 use Rattle.constant_steps.specs.WrittenLiteral.LinkedNames.{Standing}
 use Rattle.constant_steps.specs.Alone.{this_package}
 use Rattle.constant_steps.specs.PlainUse.{linked_at}
 use Rattle.literal_steps.specs.LiteralUse.{LiteralUse, call_of, names_of_form, plainly, PlainCall}
+use Rattle.literal_steps.specs.TypedParts.{AllWithoutConstants}
+use Rattle.literal_steps.specs.RankedMarks.Free.{is_free, Translated, NoConstantGroups}
+use Rattle.literal_steps.proofs.RankedMarks.RanksFall.{mark_is}
 use Rattle.literal_steps.specs.CalledAt.{CalledAt, Linked, PackagesServe}
 use Rattle.literal_steps.proofs.AddedImports.FilesBeside.{called_beside}
 use Rattle.literal_steps.proofs.PartsHere.{all_here}
 use Rattle.meaning_in_place.specs.InOperands.{in_argument}
-use Rattle.meaning_in_place.specs.InPackages.{rank_of_all, function_stands, header_stays, no_headers, and_header, no_packages as no_more_packages, and_package, PackagesStand}
+use Rattle.meaning_in_place.specs.InPackages.{BodyStands, rank_of_all, function_stands, header_stays, no_headers, and_header, no_packages as no_more_packages, and_package, PackagesStand}
 use Rattle.meaning_in_place.specs.InStatements.{InStmts, this_expr, in_eval, this_stmt}
+use Rattle.meaning_in_place.specs.Runs.{ShowTheSame, no_step, a_step}
 use Rattle.meaning_in_place.specs.Standing.{MentionedAlike, OperandStands}
 use Rattle.meaning_in_place.proofs.Operands.{operand_in}
 use Rattle.meaning_in_place.proofs.Packages.{each_below, all_bounded, all_below, packages_same}
+use Rattle.meaning_in_place.proofs.Runs.{step_same, run_means}
+use Rattle.literals_in_place.specs.Steps.{BodyPut, PackagesPut}
 use Rattle.literals_in_place.proofs.FurtherFacts.{same_beside, facts_beside, mentions_beside}
+use Rattle.literals_in_place.proofs.FurtherLiterals.{stand_beside}
 use Rattle.literals_in_place.proofs.FurtherSteps.{well_typed_beside}
 use Rattle.literals_in_place.proofs.Literals.{operand_stands}
 
@@ -268,11 +279,11 @@ abbrev further : Sources Span
 further = record { number = 1; name = codes "n"; at = at 60; files = [] } ∷ []
 
 main_within : HeaderWithin (own_reach (linked rs)) main_header
-main_within = record { home = refl; imports = λ n. tt }
+main_within = record { home = refl; fields = refl; imports = λ n. tt }
 
 -- all that names mean in main is within reach
-reached : PlaceWithin (own_reach (linked rs)) there.env
-reached = around_within (record { reach = own_reach (linked rs); left = collected (linked rs); right = collected (linked rs ++ further); same = same_beside (linked rs) further refl refl }) main_header main_within None
+reached : PlaceWithin (any_home (own_reach (linked rs))) there.env
+reached = place_any (own_reach (linked rs)) there.env (around_within (record { reach = own_reach (linked rs); left = collected (linked rs); right = collected (linked rs ++ further); same = same_beside (linked rs) further refl refl }) main_header main_within None)
 
 facts : SameOperand [] (in_world (collected (linked rs ++ further)) there.env) adding literal
 unfolding is_literal_use is_plain_call
@@ -283,4 +294,63 @@ unfolding is_literal_use is_plain_call
 mentioned way = mentions_beside same_span no_comments rs marks use_of_add is_literal_use is_plain_call packages is_linked [] in_main (called_beside is_called) no_packages way literal refl [] (λ n e. absurd (grind (arith, e))) further refl reached
 
 still_typed : (Q : List (translated.Package Span)) → IsTrue (are_well_typed (packages ++ Q)) → IsTrue (are_well_typed (packages_after ++ Q))
-still_typed = well_typed_beside P free 1 ranks (paths_in packages) (collected (sources packages)) packages packages_after refl packages_stand.members (and_more (record { number = refl; name = refl; files = and_more tt no_more }) no_more) (and_more refl (and_more refl no_more)) refl refl
+still_typed = well_typed_beside (BodyStands P free 1 ranks) (paths_in packages) (collected (sources packages)) packages packages_after refl packages_stand.members (and_more (record { number = refl; name = refl; files = and_more tt no_more }) no_more) (and_more refl (and_more refl no_more)) refl refl
+
+-- ---- as a step of a run, beside all further packages
+
+-- the one mark
+only_mark : (m : MarkRef) → is_among_marks marks m ≡ true → mark_of_add ≡ m
+only_mark m h = by (same_mark m mark_of_add) refl h
+  where
+    by : (b : Bool) → same_mark m mark_of_add ≡ b → (b || false) ≡ true → mark_of_add ≡ m
+    by true e h = sym (mark_is m mark_of_add e)
+    by false e h = absurd (grind (arith, h))
+
+mark_here : (m : MarkRef) (w : Where Span) → is_among_marks marks m ≡ true → where_is rs m ≡ Some w → here ≡ w
+mark_here m w among e = some_same here w (subst (λ z. where_is rs z ≡ Some w) (sym (only_mark m among)) e)
+
+is_translated : Translated rs marks packages
+is_translated = record { sources_are = refl; distinct = refl; typed = refl; stand = λ m w among k e. subst (Standing rs) (mark_here m w among e) add_stands }
+
+func_in : Decl Span → Func Span
+func_in (func g) = g
+func_in d = main
+
+same_func : (f g : Func Span) → Some (func f) ≡ Some (func g) → f ≡ g
+unfolding func_in
+same_func f g e = ap func_in (some_same (func f) (func g) e)
+
+abbrev NoGroups : Func Span → Type 0
+NoGroups g = AllWithoutConstants (stmts_seen (body_place rs 0 pk file g) g.body)
+
+no_groups_in : (m : MarkRef) (g : Func Span) → is_among_marks marks m ≡ true → slice_get file.decls m.decl ≡ Some (func g) → NoGroups g
+no_groups_in m g among e =
+    subst NoGroups (same_func add g (subst (λ (z : MarkRef). slice_get file.decls z.decl ≡ Some (func g)) (sym (only_mark m among)) e)) (tt, (tt, (tt, (tt, (tt, (tt, (tt, tt)))))))
+
+no_groups : NoConstantGroups rs marks
+no_groups m w g among e d is_plain =
+    subst (λ (w : Where Span). slice_get w.source.tree.decls m.decl ≡ Some (func g) → AllWithoutConstants (stmts_seen (body_place rs w.number w.of w.source.tree g) g.body)) (mark_here m w among e) (λ d. no_groups_in m g among d) d
+
+-- in `main` the literal is the argument of `println`, as the call was
+literal_put : PackagesPut in_main adding literal use_of_add packages packages_after
+literal_put =
+    and_package refl
+    (and_header header_stays
+    (and_header
+    (function_stands main_header main (record { params = []; results = [] }) (function_named (codes "m") (codes "main")) [] refl refl (λ n e. absurd (grind (arith, e)))
+    (record {
+      operands = 1;
+      statements = this_stmt no_stmts (in_eval (at 40) (in_argument (at 41) (ident (at 42) (codes "println")) Plain (this_expr (record { place = refl; before = refl; after = refl }))));
+      local = λ n e. absurd (grind (arith, e));
+    })) no_headers)) no_more_packages
+
+step_shows : ShowTheSame (is_free rs marks (paths_in packages)) 1 packages packages_after
+unfolding is_literal_use is_plain_call
+step_shows =
+    step_same (is_free rs marks (paths_in packages)) 1 packages packages_after
+    (well_typed_beside (BodyPut in_main adding literal use_of_add) (paths_in packages) (collected (sources packages)) packages packages_after refl literal_put (and_more (record { number = refl; name = refl; files = and_more tt no_more }) no_more) (and_more refl (and_more refl no_more)) refl refl)
+    (λ Q t. stand_beside same_span no_comments rs marks use_of_add is_literal_use is_plain_call packages is_linked [] in_main (called_beside is_called) no_packages literal refl is_translated no_groups Q t packages_after refl literal_put)
+
+-- so a run of this step means the same: within (1 + 1)(n + 1), since one function is marked
+run_of_a_step : SameMeaning (record { members = packages; marked = function_named (codes "m") (codes "add") ∷ [] }) (record { members = packages_after; marked = function_named (codes "m") (codes "add") ∷ [] })
+run_of_a_step = run_means (is_free rs marks (paths_in packages)) (function_named (codes "m") (codes "add") ∷ []) packages packages_after (a_step step_shows no_step)

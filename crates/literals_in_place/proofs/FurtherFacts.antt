@@ -21,8 +21,9 @@ use Rattle.go_translation.specs.Packages as translated
 use Rattle.typed_in_place.specs.SameFacts.{UsedAlike, calls_panic, SameOperand}
 use Rattle.typed_in_place.specs.SameWorlds.SameWorlds.{at}
 use Rattle.imported_typing.specs.Further.{in_order, own_reach}
-use Rattle.imported_typing.specs.Reach.{Reach, PlaceWithin, SameWithin}
+use Rattle.imported_typing.specs.Reach.{Reach, any_home, PlaceWithin, SameWithin}
 use Rattle.imported_typing.proofs.Alike.{same_of}
+use Rattle.imported_typing.proofs.AnyHome.{same_any}
 use Rattle.imported_typing.proofs.ChainsEnd.{well_typed_ends}
 use Rattle.imported_typing.proofs.DefinedAlike.{Worlds}
 use Rattle.imported_typing.proofs.InOrder.{first_import_themselves, later_are_others}
@@ -49,7 +50,7 @@ and_true false = refl
 used_moved : (around : List (List ℕ)) {ns ms us vs : List (List ℕ)} → ns ≡ us → ms ≡ vs → UsedAlike around ns ms → UsedAlike around us vs
 used_moved around p q u = record { each = λ n a. ap (is_among n) (sym p) ∙ u.each n a ∙ ap (is_among n) q }
 
-mentions_moved : (around : List (List ℕ)) {ns ms us vs : List Mention} → ns ≡ us → ms ≡ vs → MentionedAlike around ns ms → MentionedAlike around us vs
+pub mentions_moved : (around : List (List ℕ)) {ns ms us vs : List Mention} → ns ≡ us → ms ≡ vs → MentionedAlike around ns ms → MentionedAlike around us vs
 mentions_moved around p q m = record { each = λ k n a. ap (any_mention k n) (sym p) ∙ m.each k n a ∙ ap (any_mention k n) q }
 
 module _ (w : Worlds) {S : Type 0} (env : Env) (i : PlaceWithin w.reach env) where
@@ -77,7 +78,7 @@ module _ (w : Worlds) {S : Type 0} (env : Env) (i : PlaceWithin w.reach env) whe
   initial_same e = sym (and_true (is_initial (at w.left env) e)) ∙ all_initial-reached w env i (expr_and e no_exprs) ∙ and_true (is_initial (at w.right env) e)
 
   -- what has the same facts in the one world has them in the other
-  facts_there : (around : List (List ℕ)) (e f : Expr S) → SameOperand around (at w.left env) e f → SameOperand around (at w.right env) e f
+  pub facts_there : (around : List (List ℕ)) (e f : Expr S) → SameOperand around (at w.left env) e f → SameOperand around (at w.right env) e f
   facts_there around e f h =
       record {
         operand = sym (same_of (parts-reached w env i e)) ∙ h.operand ∙ same_of (parts-reached w env i f);
@@ -103,16 +104,16 @@ pub same_beside : {S : Type 0} (ps more : Program S) → in_order (ps ++ more) �
 same_beside ps more o t = collected_same ps more (first_import_themselves ps more o) (later_are_others ps more o) (well_typed_ends ps t)
 
 module _ (same : Span → Span → Bool) (commented : ℕ → ℕ → Span → Bool) (rs : List (Package Span)) (marks : List MarkRef) (x : Site Span) (u : LiteralUse same commented rs marks x) (v : PlainCall same commented rs marks x u) (ms : List (translated.Package Span)) (l : Linked rs ms x same commented marks u) (names : Environment Entity) (d : Here) (h : CalledBeside rs ms x names d) (y : PackagesServe rs ms x same commented marks u d) where
-  pub facts_beside : (e : Expr Span) → u.form ≡ as_expr e → (around : List (List ℕ)) → ((n : List ℕ) → is_among n around ≡ true → is_local x.place n ≡ true) → (more : Program Span) → in_order (linked rs ++ more) ≡ true → PlaceWithin (own_reach (linked rs)) d.env → SameOperand around (at (collected (linked rs ++ more)) d.env) u.tree e
+  pub facts_beside : (e : Expr Span) → u.form ≡ as_expr e → (around : List (List ℕ)) → ((n : List ℕ) → is_among n around ≡ true → is_local x.place n ≡ true) → (more : Program Span) → in_order (linked rs ++ more) ≡ true → PlaceWithin (any_home (own_reach (linked rs))) d.env → SameOperand around (at (collected (linked rs ++ more)) d.env) u.tree e
   facts_beside e q around a more o i =
-      facts_reached (own_reach (linked rs)) (collected (linked rs)) (collected (linked rs ++ more)) (same_beside (linked rs) more o l.typed) d.env i around u.tree e
+      facts_reached (any_home (own_reach (linked rs))) (collected (linked rs)) (collected (linked rs ++ more)) (same_any (own_reach (linked rs)) (collected (linked rs)) (collected (linked rs ++ more)) (same_beside (linked rs) more o l.typed)) d.env i around u.tree e
       (subst (λ w. SameOperand around (at w d.env) u.tree e) h.world_is (same_facts same commented rs marks x u v ms l names d h y around a e q))
 
   -- and they mention alike what is declared around
-  pub mentions_beside : (way : Way) (e : Expr Span) → u.form ≡ as_expr e → (around : List (List ℕ)) → ((n : List ℕ) → is_among n around ≡ true → is_local x.place n ≡ true) → (more : Program Span) → in_order (linked rs ++ more) ≡ true → PlaceWithin (own_reach (linked rs)) d.env → MentionedAlike around (mentions way (at (collected (linked rs ++ more)) d.env) u.tree) (mentions way (at (collected (linked rs ++ more)) d.env) e)
+  pub mentions_beside : (way : Way) (e : Expr Span) → u.form ≡ as_expr e → (around : List (List ℕ)) → ((n : List ℕ) → is_among n around ≡ true → is_local x.place n ≡ true) → (more : Program Span) → in_order (linked rs ++ more) ≡ true → PlaceWithin (any_home (own_reach (linked rs))) d.env → MentionedAlike around (mentions way (at (collected (linked rs ++ more)) d.env) u.tree) (mentions way (at (collected (linked rs ++ more)) d.env) e)
   mentions_beside way e q around a more o i =
       mentions_moved around (mentions-reached wide way d.env i u.tree) (mentions-reached wide way d.env i e)
       (subst (λ w. MentionedAlike around (mentions way (at w d.env) u.tree) (mentions way (at w d.env) e)) h.world_is (mentioned_alike same commented rs marks x u v ms l names d h y way around a e q))
     where
       wide : Worlds
-      wide = record { reach = own_reach (linked rs); left = collected (linked rs); right = collected (linked rs ++ more); same = same_beside (linked rs) more o l.typed }
+      wide = record { reach = any_home (own_reach (linked rs)); left = collected (linked rs); right = collected (linked rs ++ more); same = same_any (own_reach (linked rs)) (collected (linked rs)) (collected (linked rs ++ more)) (same_beside (linked rs) more o l.typed) }

@@ -2,19 +2,22 @@
 use Rattle.std.specs.Prelude.{◌≡◌, refl, ℕ, Bool, true, false, not, ◌&&◌, ◌||◌, List, [], ◌∷◌, ◌++◌, nat_eq}
 use Rattle.std.specs.List.{list_any, list_all}
 use mathlib.Core.Path.{ap, ap₂, sym, ◌∙◌}
+use Rattle.go_tree.specs.Tree.{Stmts}
 use Rattle.go_tree.specs.GoTypes.Collect.{collected}
 use Rattle.go_tree.specs.GoTypes.Entities.{World}
 use Rattle.go_tree.specs.GoTypes.Programs.{Import, SourceFile, headed}
 use Rattle.go_tree.specs.GoTypes.WellTyped.{well_typed}
-use Rattle.go_kernel.specs.Kernel.{ImportPath, FuncName, same_text, Program as Code}
+use Rattle.go_kernel.specs.Kernel.{ImportPath, FuncName, same_text}
+use Rattle.go_translation.specs.Here.{Here}
 use Rattle.go_translation.specs.Packages.{Package, sources, paths_in, has_path, has_number, are_distinct, imports_known, are_linked, are_well_typed}
 use Rattle.typed_in_place.specs.ImportRule.{SamePackage, imports_ok}
 use Rattle.typed_in_place.specs.ProgramsAlike.{OneByOne, BodiesAlike}
 use Rattle.typed_in_place.proofs.Rising.{and_first, and_second, both_true}
 use Rattle.imported_typing.specs.Further.{in_order}
 use Rattle.constants_anywhere.proofs.Ordered.{linked_order}
-use Rattle.meaning_in_place.specs.InPackages.{MembersStand}
-use Rattle.literals_in_place.proofs.FurtherTyped.{paths_both, sources_both, typed_beside}
+use Rattle.meaning_in_place.specs.InPackages.{MembersChange}
+use Rattle.literals_in_place.proofs.FurtherTyped.{typed_beside}
+use Rattle.literals_in_place.proofs.Joined.{paths_both, sources_both}
 
 abbrev Paths : Type 0
 Paths = List (ℕ × ImportPath)
@@ -78,7 +81,7 @@ module _ {S : Type 0} where
 
   -- ---- the packages after a step
 
-  module _ (P : Code) (free : FuncName → Bool) (A : ℕ) (rank : FuncName → ℕ) (paths : Paths) (w : World) (ps qs : List (Package S)) (e : paths_in ps ≡ paths_in qs) (r : MembersStand P free A rank paths w ps qs) (packages : OneByOne SamePackage (sources ps) (sources qs)) (bodies : BodiesAlike (collected (sources ps)) (headed (sources ps)) (headed (sources qs))) (right : imports_ok (sources qs) ≡ true) (known : are_linked [] qs ≡ true) (Q : List (Package S)) (t : are_well_typed (ps ++ Q) ≡ true) where
+  module _ (Body : FuncName → List (List ℕ) → Here → Stmts S → Stmts S → Type 0) (paths : Paths) (w : World) (ps qs : List (Package S)) (e : paths_in ps ≡ paths_in qs) (r : MembersChange Body paths w ps qs) (packages : OneByOne SamePackage (sources ps) (sources qs)) (bodies : BodiesAlike (collected (sources ps)) (headed (sources ps)) (headed (sources qs))) (right : imports_ok (sources qs) ≡ true) (known : are_linked [] qs ≡ true) (Q : List (Package S)) (t : are_well_typed (ps ++ Q) ≡ true) where
     rest : (are_linked [] (ps ++ Q) && well_typed (sources (ps ++ Q))) ≡ true
     rest = and_second (are_distinct (ps ++ Q)) (are_linked [] (ps ++ Q) && well_typed (sources (ps ++ Q))) t
 
@@ -89,7 +92,7 @@ module _ {S : Type 0} where
     distinct_before = and_first (are_distinct (ps ++ Q)) (are_linked [] (ps ++ Q) && well_typed (sources (ps ++ Q))) t
 
     all_paths : paths_in (qs ++ Q) ≡ paths_in (ps ++ Q)
-    all_paths = paths_both P free A rank paths w qs Q ∙ ap (λ l. l ++ paths_in Q) (sym e) ∙ sym (paths_both P free A rank paths w ps Q)
+    all_paths = paths_both qs Q ∙ ap (λ l. l ++ paths_in Q) (sym e) ∙ sym (paths_both ps Q)
 
     distinct_after : are_distinct (qs ++ Q) ≡ true
     distinct_after = distinct_by (qs ++ Q) ∙ ap distinct_in all_paths ∙ sym (distinct_by (ps ++ Q)) ∙ distinct_before
@@ -103,11 +106,11 @@ module _ {S : Type 0} where
 
     typed_after : well_typed (sources (qs ++ Q)) ≡ true
     typed_after =
-        ap well_typed (sources_both P free A rank paths w qs Q)
-        ∙ typed_beside P free A rank paths w ps qs Q e r packages bodies right
-        (sym (ap in_order (sources_both P free A rank paths w ps Q)) ∙ linked_order (ps ++ Q) distinct_before linked_before)
-        (sym (ap in_order (sources_both P free A rank paths w qs Q)) ∙ linked_order (qs ++ Q) distinct_after linked_after)
-        (sym (ap well_typed (sources_both P free A rank paths w ps Q)) ∙ and_second (are_linked [] (ps ++ Q)) (well_typed (sources (ps ++ Q))) rest)
+        ap well_typed (sources_both qs Q)
+        ∙ typed_beside Body paths w ps qs Q e r packages bodies right
+        (sym (ap in_order (sources_both ps Q)) ∙ linked_order (ps ++ Q) distinct_before linked_before)
+        (sym (ap in_order (sources_both qs Q)) ∙ linked_order (qs ++ Q) distinct_after linked_after)
+        (sym (ap well_typed (sources_both ps Q)) ∙ and_second (are_linked [] (ps ++ Q)) (well_typed (sources (ps ++ Q))) rest)
 
     pub well_typed_beside : are_well_typed (qs ++ Q) ≡ true
     well_typed_beside = both_true distinct_after (both_true linked_after typed_after)

@@ -11,7 +11,8 @@ use Rattle.go_tree.specs.GoTypes.Programs.{a_func, Header, Import, SourceFile, S
 use Rattle.go_tree.specs.GoTypes.WellTyped.{refused_unless, body_ok, header_uses, is_used_in, first_import, well_typed}
 use Rattle.go_tree.specs.File.{Func as Function}
 use Rattle.go_tree.specs.Tree.{Stmts}
-use Rattle.go_kernel.specs.Kernel.{ImportPath, FuncName, Program as Code}
+use Rattle.go_kernel.specs.Kernel.{ImportPath, FuncName}
+use Rattle.go_translation.specs.Here.{Here}
 use Rattle.go_translation.specs.Packages.{Package, sources, paths_in}
 use Rattle.typed_in_place.specs.ImportRule.{SamePackage, files_import, package_imports, imports_ok}
 use Rattle.typed_in_place.specs.ProgramReplaced.{All, all_of_none, all_and, Apart, InPlaceBeside}
@@ -25,9 +26,10 @@ use Rattle.imported_typing.proofs.InOrder.{first_import_themselves, later_are_ot
 use Rattle.imported_typing.proofs.ProgramsAlike.{all_both, all_then, headed_both, headers_within}
 use Rattle.imported_typing.proofs.RefusedAlike.{body_ok_same, header_uses_same}
 use Rattle.imported_typing.proofs.WellTypedAlone.{well_typed_alone}
-use Rattle.meaning_in_place.specs.InPackages.{header_stays, function_stands, HeadersStand, no_headers, and_header, MembersStand, no_packages, and_package}
+use Rattle.meaning_in_place.specs.InPackages.{header_stays, function_stands, HeadersChange, no_headers, and_header, MembersChange, no_packages, and_package}
 use Rattle.meaning_in_place.proofs.Declared.{declared_same, typed_still}
 use Rattle.literals_in_place.proofs.FurtherFacts.{same_beside}
+use Rattle.literals_in_place.proofs.Joined.{paths_both, sources_both}
 
 no : {A : Type 0} → false ≡ true → A
 no e = absurd (grind (arith, e))
@@ -154,40 +156,32 @@ module _ {S : Type 0} where
 
 -- ---- bodies in which parts stand for others
 
-module _ {S : Type 0} (P : Code) (free : FuncName → Bool) (A : ℕ) (rank : FuncName → ℕ) (paths : List (ℕ × ImportPath)) (w : World) where
+module _ {S : Type 0} (Body : FuncName → List (List ℕ) → Here → Stmts S → Stmts S → Type 0) (paths : List (ℕ × ImportPath)) (w : World) where
   -- what holds of a declaration and itself, and of a function and one with another body
   module _ (R : Headed S → Headed S → Type 0) (itself : (h : Headed S) → R h h) (put : (h : Headed S) (f : Function S) (b : Stmts S) → R (record h { header = a_func f }) (record h { header = a_func (record f { body = b }) })) where
-    each_header : {hs ks : List (Headed S)} {xs ys : List (Headed S)} → HeadersStand P free A rank paths w hs ks → OneByOne R xs ys → OneByOne R (hs ++ xs) (ks ++ ys)
+    each_header : {hs ks : List (Headed S)} {xs ys : List (Headed S)} → HeadersChange Body paths w hs ks → OneByOne R xs ys → OneByOne R (hs ++ xs) (ks ++ ys)
     each_header no_headers q = q
     each_header (and_header (header_stays {h = h}) rs) q = and_more (itself h) (each_header rs q)
     each_header (and_header (function_stands h f g n around {b = b} c e a r) rs) q = and_more (put h f b) (each_header rs q)
 
-    headers_hold : {ps qs : List (Package S)} → MembersStand P free A rank paths w ps qs → OneByOne R (headed (sources ps)) (headed (sources qs))
+    headers_hold : {ps qs : List (Package S)} → MembersChange Body paths w ps qs → OneByOne R (headed (sources ps)) (headed (sources qs))
     headers_hold no_packages = no_more
     headers_hold (and_package e r rs) = each_header r (headers_hold rs)
 
   -- further packages stay
-  stay : (hs : List (Headed S)) → HeadersStand P free A rank paths w hs hs
+  stay : (hs : List (Headed S)) → HeadersChange Body paths w hs hs
   stay [] = no_headers
   stay (h ∷ hs) = and_header header_stays (stay hs)
 
-  all_stay : (Q : List (Package S)) → MembersStand P free A rank paths w Q Q
+  all_stay : (Q : List (Package S)) → MembersChange Body paths w Q Q
   all_stay [] = no_packages
   all_stay (q ∷ Q) = and_package refl (stay (headed_package q.source)) (all_stay Q)
 
-  members_beside : {ps qs : List (Package S)} (Q : List (Package S)) → MembersStand P free A rank paths w ps qs → MembersStand P free A rank paths w (ps ++ Q) (qs ++ Q)
+  pub members_beside : {ps qs : List (Package S)} (Q : List (Package S)) → MembersChange Body paths w ps qs → MembersChange Body paths w (ps ++ Q) (qs ++ Q)
   members_beside Q no_packages = all_stay Q
   members_beside Q (and_package e r rs) = and_package e r (members_beside Q rs)
 
-  pub paths_both : (ps Q : List (Package S)) → paths_in (ps ++ Q) ≡ paths_in ps ++ paths_in Q
-  paths_both [] Q = refl
-  paths_both (p ∷ ps) Q = λ z. (p.source.number, p.path) ∷ paths_both ps Q z
-
-  pub sources_both : (ps Q : List (Package S)) → sources (ps ++ Q) ≡ sources ps ++ sources Q
-  sources_both [] Q = refl
-  sources_both (p ∷ ps) Q = λ z. p.source ∷ sources_both ps Q z
-
-  module _ (ps qs Q : List (Package S)) (e : paths_in ps ≡ paths_in qs) (r : MembersStand P free A rank paths w ps qs) (packages : OneByOne SamePackage (sources ps) (sources qs)) (bodies : BodiesAlike (collected (sources ps)) (headed (sources ps)) (headed (sources qs))) (right : imports_ok (sources qs) ≡ true) (o : in_order (sources ps ++ sources Q) ≡ true) (o' : in_order (sources qs ++ sources Q) ≡ true) (t : well_typed (sources ps ++ sources Q) ≡ true) where
+  module _ (ps qs Q : List (Package S)) (e : paths_in ps ≡ paths_in qs) (r : MembersChange Body paths w ps qs) (packages : OneByOne SamePackage (sources ps) (sources qs)) (bodies : BodiesAlike (collected (sources ps)) (headed (sources ps)) (headed (sources qs))) (right : imports_ok (sources qs) ≡ true) (o : in_order (sources ps ++ sources Q) ≡ true) (o' : in_order (sources qs ++ sources Q) ≡ true) (t : well_typed (sources ps ++ sources Q) ≡ true) where
     abbrev before : Program S
     before = sources ps
 
@@ -201,15 +195,15 @@ module _ {S : Type 0} (P : Code) (free : FuncName → Bool) (A : ℕ) (rank : Fu
     typed_before = well_typed_alone before more (first_import_themselves before more o) (later_are_others before more o) t
 
     typed_after : well_typed after ≡ true
-    typed_after = typed_still P free A rank paths w ps qs e r packages bodies typed_before right
+    typed_after = typed_still Body paths w ps qs e r packages bodies typed_before right
 
     alone_same : collected before ≡ collected after
-    alone_same = declared_same P free A rank paths w ps qs e r
+    alone_same = declared_same Body paths w ps qs e r
 
     all_same : collected (before ++ more) ≡ collected (after ++ more)
     all_same =
         sym (ap collected (sources_both ps Q))
-        ∙ declared_same P free A rank paths w (ps ++ Q) (qs ++ Q) (paths_both ps Q ∙ ap (λ l. l ++ paths_in Q) e ∙ sym (paths_both qs Q)) (members_beside Q r)
+        ∙ declared_same Body paths w (ps ++ Q) (qs ++ Q) (paths_both ps Q ∙ ap (λ l. l ++ paths_in Q) e ∙ sym (paths_both qs Q)) (members_beside Q r)
         ∙ ap collected (sources_both qs Q)
 
     abbrev wide : Worlds

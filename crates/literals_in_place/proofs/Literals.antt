@@ -24,6 +24,7 @@ use Rattle.go_kernel.proofs.Means.{mean_sym, mean_up}
 use Rattle.go_translation.specs.Calls.{function_named}
 use Rattle.go_translation.specs.Here.{Here}
 use Rattle.go_translation.specs.Mentions.{Deferred}
+use Rattle.go_translation.specs.Operators.{no_type}
 use Rattle.go_translation.specs.Packages as translated
 use Rattle.go_translation.specs.Packages.{paths_in, codes_of, program_of}
 use Rattle.go_translation.specs.Translation.{expr_term, args_term, try_term, deferred_term}
@@ -76,36 +77,52 @@ module _ (P : Program) (free : FuncName → Bool) (A : ℕ) (rank : FuncName →
             (mean_up P free A zero j (from_zero j) (Defer f a) (DeferLit (P f).params a (code (P f))) (deferred_is_literal P free A f scoped a)));
       }
 
+next_of : {a b : ℕ} → a < b → suc a ≤ b
+next_of l = omega (arith, l)
+
+-- where free functions of lower rank alone are called, the function is one of them
+pub call_stands_where_called : (P : Program) (free : FuncName → Bool) (A : ℕ) (rank : FuncName → ℕ) → Ranked P free rank → (f : FuncName) → free f ≡ true → (j : ℕ) → ((g : FuncName) → Scoped (P g).params (code (P g))) → (a : Term)
+    → TermStands (MeanSame P free A j) (Below free rank j) (Call f a) (Let (P f).params a (Alone (code (P f))))
+call_stands_where_called P free A rank ranked f is_free j scoped a = record { same = λ c. (call_stands P free A rank ranked f is_free j (next_of (c.0 is_free)) scoped a).same c }
+
 module _ (same : Span → Span → Bool) (commented : ℕ → ℕ → Span → Bool) (rs : List (Package Span)) (marks : List MarkRef) (x : Site Span) (u : LiteralUse same commented rs marks x) (v : PlainCall same commented rs marks x u) (ms : List (translated.Package Span)) (l : Linked rs ms x same commented marks u) (more : Environment Entity) (d : Here) (h : CalledBeside rs ms x more d) (y : PackagesServe rs ms x same commented marks u d) (e : Expr Span) (q : u.form ≡ as_expr e) where
-  abbrev P : Program
+  abbrev pub P : Program
   P = program_of (codes_of ms)
 
-  abbrev F : FuncName
+  abbrev pub F : FuncName
   F = function_named (path_of (paths_in ms) u.home.number) v.name
 
-  abbrev expr_in : Expr Span → Form Span → Expr Span
+  abbrev pub expr_in : Expr Span → Form Span → Expr Span
   expr_in z (as_expr e) = e
   expr_in z (as_dropped e) = z
   expr_in z (as_block b) = z
   expr_in z (as_type t) = z
 
   -- the form is a call
-  is_form : e ≡ expr_in e (literal_tree same rs (call_of same commented rs marks x u) (names_by (named_so same commented rs marks x u)) (chosen_of same commented rs marks x u))
+  pub is_form : e ≡ expr_in e (literal_tree same rs (call_of same commented rs marks x u) (names_by (named_so same commented rs marks x u)) (chosen_of same commented rs marks x u))
   is_form = ap (expr_in e) (sym q ∙ (clear same commented rs marks x u).form_is)
 
-  same_place : place d.env u.tree ≡ place d.env e
+  pub same_place : place d.env u.tree ≡ place d.env e
   same_place = ap (place d.env) v.tree_is ∙ sym (ap (place d.env) is_form)
 
-  same_tries : {E : Term → Term → Type 0} {C : FuncName → Type 0} → TermStands E C (try_term d u.tree) (try_term d e)
-  same_tries {E = E} {C = C} = subst (λ z. TermStands E C (try_term d z) (try_term d e)) (sym v.tree_is) (subst (λ z. TermStands E C (try_term d (call v.span v.called v.args Plain)) (try_term d z)) (sym is_form) as_is)
+  -- neither is a map's element, wherever they stand
+  pub same_tries : (c : Here) {E : Term → Term → Type 0} {C : FuncName → Type 0} → TermStands E C (try_term c u.tree) (try_term c e)
+  same_tries c {E = E} {C = C} = subst (λ z. TermStands E C (try_term c z) (try_term c e)) (sym v.tree_is) (subst (λ z. TermStands E C (try_term c (call v.span v.called v.args Plain)) (try_term c z)) (sym is_form) as_is)
 
-  abbrev args : Term
+  -- and their terms are the same at places of all types
+  pub call_anywhere : (c : Here) (t : GoType) → expr_term c t u.tree ≡ expr_term c no_type u.tree
+  call_anywhere c t = ap (expr_term c t) v.tree_is ∙ sym (ap (expr_term c no_type) v.tree_is)
+
+  pub form_anywhere : (c : Here) (t : GoType) → expr_term c t e ≡ expr_term c no_type e
+  form_anywhere c t = ap (expr_term c t) is_form ∙ sym (ap (expr_term c no_type) is_form)
+
+  abbrev pub args : Term
   args = args_term d (meant same commented rs marks x u v ms l).type.params v.args
 
-  call_is : (t : GoType) → expr_term d t u.tree ≡ Call F args
+  pub call_is : (t : GoType) → expr_term d t u.tree ≡ Call F args
   call_is t = let o = call_of_literal same commented rs marks x u v ms l more d h y v.span v.span in ap (expr_term d t) v.tree_is ∙ call_term_is o v.span t v.args Plain
 
-  literal_is : (t : GoType) → expr_term d t e ≡ Let (P F).params args (Alone (code (P F)))
+  pub literal_is : (t : GoType) → expr_term d t e ≡ Let (P F).params args (Alone (code (P F)))
   literal_is t = let o = call_of_literal same commented rs marks x u v ms l more d h y v.span v.span in sym (term_is same commented rs marks x u v ms l more d h y e q t) ∙ literal_term_is o v.span t v.args Plain
 
   deferred_call : deferred_term d u.tree ≡ Defer F args
@@ -126,7 +143,7 @@ module _ (same : Span → Span → Bool) (commented : ℕ → ℕ → Span → B
           before_dot = ap (package_before d.env) v.tree_is ∙ sym (ap (package_before d.env) is_form);
           mentioned = λ w. mentioned_alike same commented rs marks x u v ms l more d h y w around a e q;
           terms = λ t. subst (λ z. Stands z (expr_term d t e)) (sym (call_is t)) (subst (Stands (Call F args)) (sym (literal_is t)) (call_stands P free A rank ranked F is_free j k (program_scoped ms) args));
-          tries = same_tries;
+          tries = same_tries d;
         }
 
     pub deferred_stands : DeferredStands (MeanSame P free A j) (Below free rank j) around d u.tree e

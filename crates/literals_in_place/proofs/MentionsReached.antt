@@ -32,7 +32,7 @@ use Rattle.imported_typing.proofs.TypingAlike.{under_alike, literal_under_alike,
 module _ (w : Worlds) where
   -- ---- how the operand of a selector stands
 
-  typed_of_alike : {p q : Option Operand} → Alike (OperandWithin w.reach) p q → Alike (TypedWithin w.reach) (typed_of p) (typed_of q)
+  pub typed_of_alike : {p q : Option Operand} → Alike (OperandWithin w.reach) p q → Alike (TypedWithin w.reach) (typed_of p) (typed_of q)
   typed_of_alike neither = neither
   typed_of_alike (alike {x = o} k) = typed_alike w o k
 
@@ -77,11 +77,11 @@ module _ (w : Worlds) where
       mentions-reached v env i (binary _ op x y) = λ z. mentions-reached Read env i x z ++ mentions-reached Read env i y z
       mentions-reached v env i (star _ e) = mentions-reached Read env i e
 
-      mentions_all-reached : (env : Env) → PlaceWithin w.reach env → (es : Exprs S) → mentions_all (at w.left env) es ≡ mentions_all (at w.right env) es
+      pub mentions_all-reached : (env : Env) → PlaceWithin w.reach env → (es : Exprs S) → mentions_all (at w.left env) es ≡ mentions_all (at w.right env) es
       mentions_all-reached env i no_exprs = λ z. []
       mentions_all-reached env i (expr_and e es) = λ z. mentions-reached Read env i e z ++ mentions_all-reached env i es z
 
-      mentions_option-reached : (env : Env) → PlaceWithin w.reach env → (e : ExprOption S) → mentions_option (at w.left env) e ≡ mentions_option (at w.right env) e
+      pub mentions_option-reached : (env : Env) → PlaceWithin w.reach env → (e : ExprOption S) → mentions_option (at w.left env) e ≡ mentions_option (at w.right env) e
       mentions_option-reached env i no_expr = λ z. []
       mentions_option-reached env i (some_expr e) = mentions-reached Read env i e
 
@@ -101,7 +101,7 @@ module _ (w : Worlds) where
       mentions_value-reached env i d (plain e) = mentions-reached Read env i e
       mentions_value-reached env i d (braced _ es) = mentions_elems-reached env i (then_alike d (λ u h. literal_under_alike w u h)) es
 
-      mentions_stmt-reached : (env : Env) → PlaceWithin w.reach env → (s : Stmt S) → mentions_stmt (at w.left env) s ≡ mentions_stmt (at w.right env) s
+      pub mentions_stmt-reached : (env : Env) → PlaceWithin w.reach env → (s : Stmt S) → mentions_stmt (at w.left env) s ≡ mentions_stmt (at w.right env) s
       mentions_stmt-reached env i (const_decl _ _ ss) = λ z. []
       mentions_stmt-reached env i (var_decl _ _ ss) = mentions_specs-reached env i ss
       mentions_stmt-reached env i (empty _) = λ z. []
@@ -148,11 +148,11 @@ module _ (w : Worlds) where
           (λ z. mentions_stmt-reached env i s z ++ beyond bs (mentions_stmts-reached (extend bs env) q ss z))
           ∙ ap (λ bs. mentions_stmt (at w.right env) s ++ beyond bs (mentions_stmts (at w.right (extend bs env)) ss)) (binds_of_same w (declared s) d)
 
-      mentions_first-reached : (env : Env) → PlaceWithin w.reach env → (s : StmtOption S) → mentions_first (at w.left env) s ≡ mentions_first (at w.right env) s
+      pub mentions_first-reached : (env : Env) → PlaceWithin w.reach env → (s : StmtOption S) → mentions_first (at w.left env) s ≡ mentions_first (at w.right env) s
       mentions_first-reached env i no_stmt = λ z. []
       mentions_first-reached env i (some_stmt s) = mentions_stmt-reached env i s
 
-      mentions_block-reached : (env : Env) → PlaceWithin w.reach env → (b : BlockOption S) → mentions_block (at w.left env) b ≡ mentions_block (at w.right env) b
+      pub mentions_block-reached : (env : Env) → PlaceWithin w.reach env → (b : BlockOption S) → mentions_block (at w.left env) b ≡ mentions_block (at w.right env) b
       mentions_block-reached env i no_block = λ z. []
       mentions_block-reached env i (some_block _ b) = mentions_stmts-reached (in_block env) i b
 
@@ -161,7 +161,7 @@ module _ (w : Worlds) where
       mentions_range-reached env i (assigns es) = mentions_left-reached env i es
       mentions_range-reached env i (defines ns) = λ z. []
 
-      mentions_arms-reached : (env : Env) → PlaceWithin w.reach env → (last : Env → List Mention) → ((k : Env) → PlaceWithin w.reach k → last (at w.left k) ≡ last (at w.right k)) → (bs : Arms S) → mentions_arms (at w.left env) last bs ≡ mentions_arms (at w.right env) last bs
+      pub mentions_arms-reached : (env : Env) → PlaceWithin w.reach env → (last : Env → List Mention) → ((k : Env) → PlaceWithin w.reach k → last (at w.left k) ≡ last (at w.right k)) → (bs : Arms S) → mentions_arms (at w.left env) last bs ≡ mentions_arms (at w.right env) last bs
       mentions_arms-reached env i last f no_arms = f env i
       mentions_arms-reached env i last f (arm _ j e _ b rest) =
           let d : Alike (DeclaredWithin w.reach) (declares_first (at w.left env) j) (declares_first (at w.right env) j) = declares_first-reached w env i j in
@@ -171,11 +171,11 @@ module _ (w : Worlds) where
           (λ z. mentions_first-reached env i j z ++ beyond bs (mentions-reached Read k q e z ++ mentions_stmts-reached (in_block k) q b z ++ mentions_arms-reached (in_block k) q last f rest z))
           ∙ ap (λ bs. mentions_first (at w.right env) j ++ beyond bs (mentions Read (at w.right (extend bs env)) e ++ mentions_stmts (at w.right (in_block (extend bs env))) b ++ mentions_arms (at w.right (in_block (extend bs env))) last rest)) (binds_of_same w (declared_option j) d)
 
-      mentions_cases-reached : (env : Env) → PlaceWithin w.reach env → (cs : Cases S) → mentions_cases (at w.left env) cs ≡ mentions_cases (at w.right env) cs
+      pub mentions_cases-reached : (env : Env) → PlaceWithin w.reach env → (cs : Cases S) → mentions_cases (at w.left env) cs ≡ mentions_cases (at w.right env) cs
       mentions_cases-reached env i no_cases = λ z. []
       mentions_cases-reached env i (case _ es b cs) = λ z. mentions_all-reached env i es z ++ mentions_stmts-reached (in_block env) i b z ++ mentions_cases-reached env i cs z
 
-      mentions_specs-reached : (env : Env) → PlaceWithin w.reach env → (ss : ValueSpecs S) → mentions_specs (at w.left env) ss ≡ mentions_specs (at w.right env) ss
+      pub mentions_specs-reached : (env : Env) → PlaceWithin w.reach env → (ss : ValueSpecs S) → mentions_specs (at w.left env) ss ≡ mentions_specs (at w.right env) ss
       mentions_specs-reached env i no_specs = λ z. []
       mentions_specs-reached env i (spec _ ns t es ss) =
           let d : Alike (DeclaredWithin w.reach)

@@ -20,7 +20,7 @@ use Rattle.typed_in_place.specs.ProgramsAlike.{OneByOne, BodiesAlike}
 use Rattle.typed_in_place.specs.SameFacts.{SameOperand}
 use Rattle.typed_in_place.specs.SameWorlds.SameWorlds.{at}
 use Rattle.imported_typing.specs.Further.{in_order, own_reach}
-use Rattle.imported_typing.specs.Reach.{Reach, PlaceWithin, SameWithin}
+use Rattle.imported_typing.specs.Reach.{Reach, any_home, PlaceWithin, SameWithin}
 use Rattle.run_rules.specs.FormTrees.{as_expr}
 use Rattle.run_rules.specs.Programs.{linked}
 use Rattle.run_rules.specs.Sites.{MarkRef, Site}
@@ -50,7 +50,7 @@ LiteralsHaveTheFactsBesideOthers =
     (names : Environment Entity) (d : Here) → CalledBeside rs ms x names d →
     PackagesServe rs ms x same commented marks u d → (e : Expr Span) → u.form ≡ as_expr e →
     (around : List (List ℕ)) → ((n : List ℕ) → is_among n around ≡ true → is_local x.place n ≡ true) →
-    (more : Program Span) → in_order (linked rs ++ more) ≡ true → PlaceWithin (own_reach (linked rs)) d.env →
+    (more : Program Span) → in_order (linked rs ++ more) ≡ true → PlaceWithin (any_home (own_reach (linked rs))) d.env →
     SameOperand around (at (collected (linked rs ++ more)) d.env) u.tree e
 
 -- What expressions and statements mention is the same in such worlds, so that the same variables live in cells.
@@ -70,7 +70,7 @@ LiteralsMentionAlikeBesideOthers =
     (names : Environment Entity) (d : Here) → CalledBeside rs ms x names d →
     PackagesServe rs ms x same commented marks u d → (way : Way) (e : Expr Span) → u.form ≡ as_expr e →
     (around : List (List ℕ)) → ((n : List ℕ) → is_among n around ≡ true → is_local x.place n ≡ true) →
-    (more : Program Span) → in_order (linked rs ++ more) ≡ true → PlaceWithin (own_reach (linked rs)) d.env →
+    (more : Program Span) → in_order (linked rs ++ more) ≡ true → PlaceWithin (any_home (own_reach (linked rs))) d.env →
     MentionedAlike around (mentions way (at (collected (linked rs ++ more)) d.env) u.tree)
     (mentions way (at (collected (linked rs ++ more)) d.env) e)
 

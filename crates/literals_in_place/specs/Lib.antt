@@ -1,2 +1,4 @@
 pub mod Laws
 pub mod Further
+pub mod Reached
+pub mod Steps

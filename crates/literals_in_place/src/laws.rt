@@ -8,6 +8,9 @@ ghost use Rattle.literals_in_place.specs.Laws.{BodiesKeepTheirTermAfter, BodiesS
 ghost use Rattle.literals_in_place.specs.Laws.{DeferredLiteralsStand, LiteralsHaveTheFactsOfCalls};
 ghost use Rattle.literals_in_place.specs.Laws.{LiteralsMentionAlike, LiteralsStand};
 ghost use Rattle.literals_in_place.specs.Laws.{ModulesShowTheSame, ModulesAreCovered};
+ghost use Rattle.literals_in_place.specs.Steps.{FunctionsKeepTheirCode, LiteralStepsShowTheSame};
+ghost use Rattle.literals_in_place.specs.Steps.{LiteralStepsStandBeside, LiteralsStandBesideOthers};
+ghost use Rattle.literals_in_place.specs.Steps.{PackagesKeepTheirCode, TermsReachedAlone, ZerosStayBesideOthers};
 
 /// A call and its literal have the same facts to the rules of typing, so a tree in which the one stands for
 /// the other is typed as it was; and they mention alike what is declared around. So the literal stands for
@@ -57,4 +60,29 @@ pub fn packages_stay_typed_beside_others()
 pub fn mentions_stay_beside_others()
     ensures reached { MentionsReachedAlone }
     ensures literals { LiteralsMentionAlikeBesideOthers }
+{}
+
+/// The terms of expressions and statements need of a world what is reached alone, where packages that are reached
+/// have the same import paths and types that are reached the same zero values, as those of well-typed packages
+/// have beside further ones.
+pub fn terms_need_what_they_reach()
+    ensures reached { TermsReachedAlone }
+    ensures zeros { ZerosStayBesideOthers }
+{}
+
+/// So packages keep their code beside all further packages with which they are well typed, and the whole program
+/// has for each function of their paths the code that they alone have for it.
+pub fn packages_keep_their_code_beside_others()
+    ensures packages { PackagesKeepTheirCode }
+    ensures functions { FunctionsKeepTheirCode }
+{}
+
+/// So beside all further packages a literal stands for its call as an operand, in every function, and packages in
+/// one of whose functions it stands in the call's place stand for those before. Where each body is typed as
+/// before, and the imports are right and of packages before, such a step leaves packages that show the same, as
+/// runs of steps ask.
+pub fn literal_steps_show_the_same()
+    ensures operands { LiteralsStandBesideOthers }
+    ensures steps { LiteralStepsStandBeside }
+    ensures shows { LiteralStepsShowTheSame }
 {}

@@ -6,7 +6,8 @@
 mod laws;
 
 pub use laws::{
-    bodies_stay_with_imports, facts_stay_beside_others, literals_stand_for_calls,
-    mentions_stay_beside_others, modules_with_literals_show_the_same,
-    packages_stay_typed_beside_others,
+    bodies_stay_with_imports, facts_stay_beside_others, literal_steps_show_the_same,
+    literals_stand_for_calls, mentions_stay_beside_others, modules_with_literals_show_the_same,
+    packages_keep_their_code_beside_others, packages_stay_typed_beside_others,
+    terms_need_what_they_reach,
 };

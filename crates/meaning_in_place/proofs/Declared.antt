@@ -1,5 +1,5 @@
 -- Packages in whose bodies parts stand for others declare the same: nothing outside bodies changes.
-use Rattle.std.specs.Prelude.{◌≡◌, refl, ℕ, Bool, true, List, [], ◌∷◌, ◌++◌}
+use Rattle.std.specs.Prelude.{◌≡◌, refl, ℕ, true, List, [], ◌∷◌, ◌++◌}
 use mathlib.Core.Path.{ap}
 use Rattle.go_tree.specs.File.{Func as Function}
 use Rattle.go_tree.specs.Tree.{Stmts}
@@ -7,14 +7,15 @@ use Rattle.go_tree.specs.GoTypes.Collect.{aliased_world, types_declared, typed_w
 use Rattle.go_tree.specs.GoTypes.Entities.{World}
 use Rattle.go_tree.specs.GoTypes.Programs.{a_func, Headed, headed, Program}
 use Rattle.go_tree.specs.GoTypes.WellTyped.{well_typed}
-use Rattle.go_kernel.specs.Kernel.{ImportPath, FuncName, Program as Code}
+use Rattle.go_kernel.specs.Kernel.{ImportPath, FuncName}
+use Rattle.go_translation.specs.Here.{Here}
 use Rattle.go_translation.specs.Packages.{Package, sources, paths_in}
 use Rattle.typed_in_place.specs.ImportRule.{SamePackage, imports_ok}
 use Rattle.typed_in_place.specs.ProgramReplaced.{InPlace}
 use Rattle.typed_in_place.specs.ProgramsAlike.{OneByOne, no_more, and_more, SameHeader, SameMethod, DeclareAlike, AliasesStand, TypesStand, ValuesStand, BodiesAlike}
 use Rattle.typed_in_place.proofs.Collected.{same_collected}
 use Rattle.typed_in_place.proofs.ProgramsReplaced.{aliases_stand_itself, types_stand_itself, values_stand_itself, stays_well_typed}
-use Rattle.meaning_in_place.specs.InPackages.{header_stays, function_stands, HeadersStand, no_headers, and_header, MembersStand, no_packages, and_package}
+use Rattle.meaning_in_place.specs.InPackages.{header_stays, function_stands, HeadersChange, no_headers, and_header, MembersChange, no_packages, and_package}
 
 appended : {A B : Type 0} {R : A → B → Type 0} {xs zs : List A} {ys vs : List B} → OneByOne R xs ys → OneByOne R zs vs → OneByOne R (xs ++ zs) (ys ++ vs)
 appended no_more q = q
@@ -28,23 +29,23 @@ abbrev later : List (ℕ × ImportPath) → List (ℕ × ImportPath)
 later [] = []
 later (p ∷ ps) = ps
 
-module _ {S : Type 0} (P : Code) (free : FuncName → Bool) (A : ℕ) (rank : FuncName → ℕ) (paths : List (ℕ × ImportPath)) (w : World) where
+module _ {S : Type 0} (Body : FuncName → List (List ℕ) → Here → Stmts S → Stmts S → Type 0) (paths : List (ℕ × ImportPath)) (w : World) where
   -- what holds of a declaration and itself, and of a function and one with another body
   module _ (R : Headed S → Headed S → Type 0) (itself : (h : Headed S) → R h h) (put : (h : Headed S) (f : Function S) (b : Stmts S) → R (record h { header = a_func f }) (record h { header = a_func (record f { body = b }) })) where
-    each_header : {hs ks : List (Headed S)} → HeadersStand P free A rank paths w hs ks → OneByOne R hs ks
+    each_header : {hs ks : List (Headed S)} → HeadersChange Body paths w hs ks → OneByOne R hs ks
     each_header no_headers = no_more
     each_header (and_header (header_stays {h = h}) rs) = and_more (itself h) (each_header rs)
     each_header (and_header (function_stands h f g n around {b = b} c e a q) rs) = and_more (put h f b) (each_header rs)
 
-    all_headers : {ps qs : List (Package S)} → MembersStand P free A rank paths w ps qs → OneByOne R (headed (sources ps)) (headed (sources qs))
+    all_headers : {ps qs : List (Package S)} → MembersChange Body paths w ps qs → OneByOne R (headed (sources ps)) (headed (sources qs))
     all_headers no_packages = no_more
     all_headers (and_package e r rs) = appended (each_header r) (all_headers rs)
 
-  same_numbers : {ps qs : List (Package S)} → MembersStand P free A rank paths w ps qs → paths_in ps ≡ paths_in qs → OneByOne (λ p q. p.number ≡ q.number) (sources ps) (sources qs)
+  same_numbers : {ps qs : List (Package S)} → MembersChange Body paths w ps qs → paths_in ps ≡ paths_in qs → OneByOne (λ p q. p.number ≡ q.number) (sources ps) (sources qs)
   same_numbers no_packages e = no_more
   same_numbers (and_package d r rs) e = and_more (ap first_number e) (same_numbers rs (ap later e))
 
-  module _ (ps qs : List (Package S)) (e : paths_in ps ≡ paths_in qs) (r : MembersStand P free A rank paths w ps qs) where
+  module _ (ps qs : List (Package S)) (e : paths_in ps ≡ paths_in qs) (r : MembersChange Body paths w ps qs) where
     abbrev before : Program S
     before = sources ps
 

@@ -15,7 +15,7 @@ use Rattle.go_kernel.proofs.AcrossPrograms.{same_self}
 use Rattle.go_kernel.proofs.Congruence.{shows_same}
 use Rattle.go_translation.specs.Packages.{Package, PackageCode, sources, paths_in, function_code, named_code, header_functions, header_initial, headers_functions, headers_initial, package_code, codes_of, comes_first, inserted, in_path_order, one_by_one, initial_of, functions_of, program_of, main_of, freely_shown_by}
 use Rattle.meaning_in_place.specs.Standing.{TermStands}
-use Rattle.meaning_in_place.specs.InPackages.{EachBelow, rank_of_all, HeaderStands, header_stays, function_stands, HeadersStand, no_headers, and_header, MembersStand, no_packages, and_package, PackagesStand}
+use Rattle.meaning_in_place.specs.InPackages.{EachBelow, rank_of_all, BodyStands, HeaderStands, header_stays, function_stands, HeadersStand, no_headers, and_header, MembersStand, no_packages, and_package, PackagesStand}
 use Rattle.meaning_in_place.proofs.Declared.{declared_same}
 use Rattle.meaning_in_place.proofs.Functions.{function_in}
 use Rattle.meaning_in_place.proofs.Terms.{as_is}
@@ -212,7 +212,7 @@ module _ {S : Type 0} (free : FuncName → Bool) (A : ℕ) (rank : FuncName → 
   codes_there = map (package_code (paths_in ps) (collected (sources ps))) qs
 
   codes_are : codes_there ≡ codes_of qs
-  codes_are = ap₂ (λ paths w. map (package_code paths w) qs) r.paths (declared_same P free A rank (paths_in ps) (collected (sources ps)) ps qs r.paths r.members)
+  codes_are = ap₂ (λ paths w. map (package_code paths w) qs) r.paths (declared_same (BodyStands P free A rank) (paths_in ps) (collected (sources ps)) ps qs r.paths r.members)
 
   same_parts : (f : FuncName) → SameAt P free A rank f (P f) (program_of codes_there f)
   same_parts f = declared_stand P free A rank (members_entries P free A rank (paths_in ps) (collected (sources ps)) r.members) f (each f)

@@ -18,45 +18,50 @@ use Rattle.go_translation.specs.Facts.{literal_names}
 use Rattle.go_translation.specs.Here.{Here, at_body}
 use Rattle.go_translation.specs.Mentions.{mentions_stmts}
 use Rattle.meaning_in_place.specs.InPackages.{NamesAround}
-use Rattle.meaning_in_place.specs.InStatements.{InExprs, InStmts}
-use Rattle.meaning_in_place.specs.Standing.{OperandStands}
+use Rattle.meaning_in_place.specs.InStatements.{WithinExprs, WithinStmts}
+use Rattle.meaning_in_place.specs.Standing.{OperandStands, DeferredStands}
 
-module _ {S : Type 0} (E : Term → Term → Type 0) (C : FuncName → Type 0) (around : List (List ℕ)) (h : Here) where
+module _ {S : Type 0} (Stands Deferred : Here → Expr S → Expr S → Type 0) (around : List (List ℕ)) (h : Here) where
   -- Of a literal that is called nothing but its body changes; that it is typed alike is asked, and that what its
   -- signature binds is known.
-  pub data InOperand : Expr S → Expr S → Type 0 where
+  pub data WithinOperand : Expr S → Expr S → Type 0 where
     in_left :
-        (s : S) (op : BinOp) {e f : Expr S} (y : Expr S) → OperandStands E C around h e f →
-        InOperand (binary s op e y) (binary s op f y)
+        (s : S) (op : BinOp) {e f : Expr S} (y : Expr S) → Stands h e f →
+        WithinOperand (binary s op e y) (binary s op f y)
     in_right :
-        (s : S) (op : BinOp) (x : Expr S) {e f : Expr S} → OperandStands E C around h e f →
-        InOperand (binary s op x e) (binary s op x f)
+        (s : S) (op : BinOp) (x : Expr S) {e f : Expr S} → Stands h e f →
+        WithinOperand (binary s op x e) (binary s op x f)
     in_unary :
-        (s : S) (op : UnOp) {e f : Expr S} → is_address op ≡ false → OperandStands E C around h e f →
-        InOperand (unary s op e) (unary s op f)
-    in_star : (s : S) {e f : Expr S} → OperandStands E C around h e f → InOperand (star s e) (star s f)
+        (s : S) (op : UnOp) {e f : Expr S} → is_address op ≡ false → Stands h e f →
+        WithinOperand (unary s op e) (unary s op f)
+    in_star : (s : S) {e f : Expr S} → Stands h e f → WithinOperand (star s e) (star s f)
     in_selected :
-        (s : S) {e f : Expr S} (n : NameAt S) → OperandStands E C around h e f →
-        InOperand (selector s e n) (selector s f n)
+        (s : S) {e f : Expr S} (n : NameAt S) → Stands h e f →
+        WithinOperand (selector s e n) (selector s f n)
     in_indexed :
-        (s : S) {e f : Expr S} (i : Expr S) → OperandStands E C around h e f → InOperand (index s e i) (index s f i)
+        (s : S) {e f : Expr S} (i : Expr S) → Stands h e f → WithinOperand (index s e i) (index s f i)
     in_index :
-        (s : S) (b : Expr S) {e f : Expr S} → OperandStands E C around h e f → InOperand (index s b e) (index s b f)
+        (s : S) (b : Expr S) {e f : Expr S} → Stands h e f → WithinOperand (index s b e) (index s b f)
     in_sliced :
-        (s : S) {e f : Expr S} (i j : ExprOption S) → OperandStands E C around h e f →
-        InOperand (slice s e i j) (slice s f i j)
+        (s : S) {e f : Expr S} (i j : ExprOption S) → Stands h e f →
+        WithinOperand (slice s e i j) (slice s f i j)
     in_low :
-        (s : S) (b : Expr S) {e f : Expr S} (j : ExprOption S) → OperandStands E C around h e f →
-        InOperand (slice s b (some_expr e) j) (slice s b (some_expr f) j)
+        (s : S) (b : Expr S) {e f : Expr S} (j : ExprOption S) → Stands h e f →
+        WithinOperand (slice s b (some_expr e) j) (slice s b (some_expr f) j)
     in_high :
-        (s : S) (b : Expr S) (i : ExprOption S) {e f : Expr S} → OperandStands E C around h e f →
-        InOperand (slice s b i (some_expr e)) (slice s b i (some_expr f))
+        (s : S) (b : Expr S) (i : ExprOption S) {e f : Expr S} → Stands h e f →
+        WithinOperand (slice s b i (some_expr e)) (slice s b i (some_expr f))
     in_argument :
-        (s : S) (e : Expr S) (z : Rest) {xs ys : Exprs S} → InExprs E C around h xs ys →
-        InOperand (call s e xs z) (call s e ys z)
+        (s : S) (e : Expr S) (z : Rest) {xs ys : Exprs S} → WithinExprs Stands Deferred around h xs ys →
+        WithinOperand (call s e xs z) (call s e ys z)
     in_called_literal :
         (s s1 s2 : S) (g : Sig S) (f : FuncType) (bs : Binds) {b c : Stmts S} (xs : Exprs S) (z : Rest) →
         func_type h.env g ≡ Some f → body_binds [] g f ≡ Some bs →
         parts h.env (func_lit s1 g s2 b) ≡ parts h.env (func_lit s1 g s2 c) → NamesAround around (literal_names g f) →
-        InStmts E C around (at_body h bs (literal_names g f) (mentions_stmts (extend bs (in_block h.env)) b)) b c →
-        InOperand (call s (func_lit s1 g s2 b) xs z) (call s (func_lit s1 g s2 c) xs z)
+        WithinStmts Stands Deferred around (at_body h bs (literal_names g f) (mentions_stmts (extend bs (in_block h.env)) b)) b c →
+        WithinOperand (call s (func_lit s1 g s2 b) xs z) (call s (func_lit s1 g s2 c) xs z)
+
+-- so with an operand that means the same
+abbrev pub InOperand :
+    {S : Type 0} → (Term → Term → Type 0) → (FuncName → Type 0) → List (List ℕ) → Here → Expr S → Expr S → Type 0
+InOperand E C around h = WithinOperand (OperandStands E C around) (DeferredStands E C around) around h

@@ -1,3 +1,4 @@
+use Rattle.meaning_in_place.specs.InPackages.{BodyStands}
 use Rattle.meaning_in_place.proofs.Declared.{declared_same, typed_still}
 use Rattle.meaning_in_place.proofs.Packages.{each_below, all_bounded, all_below, packages_same}
 use Rattle.meaning_in_place.proofs.Runs.{step_same}
@@ -13,7 +14,7 @@ pub returns-clause-steps : goal.returns-clause-steps
 returns-clause-steps z = λ free A ps qs t s. step_same free A ps qs t s
 
 pub returns-clause-declared : goal.returns-clause-declared
-returns-clause-declared z = λ P free A rank paths w ps qs e r. declared_same P free A rank paths w ps qs e r
+returns-clause-declared z = λ P free A rank paths w ps qs e r. declared_same (BodyStands P free A rank) paths w ps qs e r
 
 pub returns-clause-typed : goal.returns-clause-typed
-returns-clause-typed z = λ P free A rank paths w ps qs e r packages bodies. typed_still P free A rank paths w ps qs e r packages bodies
+returns-clause-typed z = λ P free A rank paths w ps qs e r packages bodies. typed_still (BodyStands P free A rank) paths w ps qs e r packages bodies
