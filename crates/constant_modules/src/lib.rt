@@ -4,8 +4,10 @@
 #![tactic(auto)]
 
 pub mod constant_names;
+pub mod counted_uses;
 pub mod few_names;
 pub mod kept_uses;
 pub mod look_ups;
 pub mod named_anywhere;
+pub mod typed_forms;
 pub mod typed_uses;

@@ -42,7 +42,7 @@ all_at f (y ∷ ys) (suc n) x q e = all_at f ys n x q (and_second (f y) (list_al
 
 module _ {S : Type 0} where
   -- numbers of packages are those of their sources
-  numbered_there : (k : ℕ) (ms : List (Package S)) → has_package (sources ms) k ≡ list_any (has_number k) ms
+  pub numbered_there : (k : ℕ) (ms : List (Package S)) → has_package (sources ms) k ≡ list_any (has_number k) ms
   numbered_there k [] = refl
   numbered_there k (m ∷ ms) = ap (λ b. nat_eq m.source.number k || b) (numbered_there k ms)
 

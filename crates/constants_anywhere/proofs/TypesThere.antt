@@ -121,7 +121,7 @@ module _ {S : Type 0} (ps more : Program S) (itself : imports_itself ps ≡ true
     here = record { home = home; in_main = false; file = 0; imports = file_block members [] is; at = z; sound = true; header = variables [] None no_exprs }
 
     here_within : HeaderWithin (own_reach ps) here
-    here_within = record { home = there; imports = imports_within members [] is known }
+    here_within = record { home = there; fields = there; imports = imports_within members [] is known }
 
     -- a type means the same in both
     pub top_alike : (t : TypeExpr S) → Alike (TypeWithin (own_reach ps)) (type_meant (file_env (collected ps) home (file_block members [] is) None) t) (type_meant (file_env (collected (ps ++ more)) home (file_block members [] is) None) t)

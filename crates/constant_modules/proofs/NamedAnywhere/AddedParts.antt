@@ -48,7 +48,7 @@ module _ (i n : ℕ) (F : SourceTree At → SourceTree At) where
   abbrev change : run.Package At → run.Package At
   change p = record p { files = change_nth i F p.files }
 
-  changed-have : (ps : List (run.Package At)) → HaveFiles ps → HaveFiles (change_nth n change ps)
+  pub changed-have : (ps : List (run.Package At)) → HaveFiles ps → HaveFiles (change_nth n change ps)
   changed-have ps h k q e s = let c = changed-one change n ps k q e in by c.0 c.1 c.2
     where
       by : (p : run.Package At) → slice_get ps k ≡ Some p → (q ≡ p) ⊎ ((k ≡ n) × (q ≡ change p)) → ⊥

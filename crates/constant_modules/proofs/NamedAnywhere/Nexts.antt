@@ -42,7 +42,7 @@ use Rattle.order_runs.proofs.RunSteps.PackageStands.{StandsAt, package-stands}
 use Rattle.order_runs.specs.ImportRuns.PathsUnder.{PathUnder, PathsUnder}
 use Rattle.order_runs.proofs.ImportRuns.Listed.{among-order}
 use Rattle.order_runs.proofs.ImportRuns.PathsAlike.{SamePath, files-change, paths-alike}
-use Rattle.constant_modules.specs.NamedAnywhere.Taken.{site_there, TakesNameAnywhere}
+use Rattle.constant_modules.specs.NamedAnywhere.Taken.{site_there, TakesNameThere}
 use Rattle.constant_modules.proofs.NamedAnywhere.NamedLinked.{named_linked}
 
 nothing-behind : {A : Type 0} (xs : List A) → xs ++ [] ≡ xs
@@ -73,7 +73,7 @@ change-same f g n [] h = refl
 change-same f g zero (x ∷ xs) h = λ z. h x refl z ∷ xs
 change-same f g (suc n) (x ∷ xs) h = λ z. x ∷ change-same f g n xs h z
 
-module _ (marks : List MarkRef) (st : Standing) (l : Logged) (after : Standing) (n : Next marks st l after) (h : TakesNameAnywhere n) where
+module _ (marks : List MarkRef) (st : Standing) (l : Logged) (after : Standing) (n : Next marks st l after) (h : TakesNameThere n) where
   abbrev x : Site At
   x = n.found.site
 
@@ -151,13 +151,13 @@ module _ (marks : List MarkRef) (st : Standing) (l : Logged) (after : Standing) 
   puts-here : (d : Decl At) → slice_get x.at.source.tree.decls x.decl ≡ Some d → put_mid d ≡ put_here d
   puts-here d e = (λ v. new_decl same_here mid (changes_for same_here (part_span x.part) (sym h.form v)) x.at.number (where_added n.found).of (file_added n.found) d) ∙ puts d e
 
-  abbrev between : List (run.Package At)
+  abbrev pub between : List (run.Package At)
   between = packages_between same_here (is_commented st) mid marks (found_named same_here (is_commented st) mid marks there u)
 
   abbrev tree_by : List NewImport → File At
   tree_by is = record (file_added n.found) { imports = (file_added n.found).imports ++ added_decls u.range is; decls = change_nth x.decl put_mid x.at.source.tree.decls }
 
-  abbrev tree_put : File At
+  abbrev pub tree_put : File At
   tree_put = record (file_added n.found) { decls = change_nth x.decl put_here x.at.source.tree.decls }
 
   tree-is : tree_by (imports_added u.packages) ≡ tree_put
@@ -166,7 +166,7 @@ module _ (marks : List MarkRef) (st : Standing) (l : Logged) (after : Standing) 
       ∙ (λ v. record (file_added n.found) { imports = nothing-behind (file_added n.found).imports v; decls = change_nth x.decl put_mid x.at.source.tree.decls })
       ∙ (λ v. record (file_added n.found) { decls = change-same put_mid put_here x.decl x.at.source.tree.decls puts-here v })
 
-  between-is : between ≡ changed tree_put
+  pub between-is : between ≡ changed tree_put
   between-is =
       twice (in_package (tree_by (imports_added u.packages))) (in_package (file_added n.found)) x.at.number rs
       ∙ (λ v. change_nth x.at.number (λ p. record p { files = twice (with_tree (tree_by (imports_added u.packages))) (with_tree (file_added n.found)) x.at.file_number p.files v }) rs)
@@ -189,12 +189,19 @@ module _ (marks : List MarkRef) (st : Standing) (l : Logged) (after : Standing) 
   abbrev SameKeys : SourceTree At → SourceTree At → Type 0
   SameKeys f g = map import_key (import_specs g.tree) ≡ map import_key (import_specs f.tree)
 
-  files-kept : OneByOne SameKeys (change_nth x.at.file_number (with_tree (file_added n.found)) x.at.of.files) (change_nth x.at.file_number (with_tree tree_read) x.at.of.files)
-  files-kept = both-changed SameKeys (λ f. refl) (with_tree (file_added n.found)) (with_tree tree_read) x.at.file_number x.at.of.files x.at.source here.file_is refl
+  -- the file with these declarations
+  abbrev pub with_decls : List (Decl At) → File At
+  with_decls ds = record (file_added n.found) { decls = ds }
+
+  files-kept : (ds : List (Decl At)) → OneByOne SameKeys (change_nth x.at.file_number (with_tree (file_added n.found)) x.at.of.files) (change_nth x.at.file_number (with_tree (with_decls ds)) x.at.of.files)
+  files-kept ds = both-changed SameKeys (λ f. refl) (with_tree (file_added n.found)) (with_tree (with_decls ds)) x.at.file_number x.at.of.files x.at.source here.file_is refl
+
+  pub pathed-by : (ds : List (Decl At)) → OneByOne PackagePath mid (changed (with_decls ds))
+  pathed-by ds = both-changed PackagePath path-itself (in_package (file_added n.found)) (in_package (with_decls ds)) x.at.number rs x.at.of here.package_is
+      (record { path = refl; imports = import-by-keys (files-kept ds); files = one_by_one (λ f g y. tt) (files-kept ds) })
 
   pub pathed : OneByOne PackagePath mid back
-  pathed = both-changed PackagePath path-itself (in_package (file_added n.found)) (in_package tree_read) x.at.number rs x.at.of here.package_is
-      (record { path = refl; imports = import-by-keys files-kept; files = one_by_one (λ f g y. tt) files-kept })
+  pathed = pathed-by n.tree.decls
 
   -- ---- beside further packages
 
@@ -221,8 +228,15 @@ module _ (marks : List MarkRef) (st : Standing) (l : Logged) (after : Standing) 
     abbrev pub put : List (Package At)
     put = named_members same_here (is_commented st) mid marks there u all-stand.use_.nth (members_of mid)
 
-    put-linked : sources put ≡ linked between
+    pub put-linked : sources put ≡ linked between
     put-linked = named_linked same_here (is_commented st) mid marks there u h.stands (members_of mid) all-stand (sources-linked mid) distinct
+
+    -- the packages with the form put are those of the program between
+    pub put-between : bare_members put ≡ bare_members (members_of (changed tree_put))
+    put-between =
+        zipped put (members_of (changed tree_put))
+        (named-paths same_here mid (part_span x.part) u.new x.at.number (where_added n.found).of (file_added n.found) all-stand.use_.nth x.at.file_number x.decl (members_of mid) ∙ sym (paths-viewed (pathed-by (change_nth x.decl put_here x.at.source.tree.decls))))
+        ((λ v. map bare_package (put-linked v)) ∙ (λ v. map bare_package (linked (between-is v))) ∙ (λ v. map bare_package (sym (sources-linked (changed tree_put)) v)))
 
     pub read-again : bare_members put ≡ bare_members (members_of back)
     read-again =

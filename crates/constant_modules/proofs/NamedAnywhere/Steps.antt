@@ -24,16 +24,16 @@ use Rattle.order_runs.specs.ImportCodes.PackagesMoved.{PackagesMoved, ImportsSta
 use Rattle.order_runs.proofs.ImportCodes.PackagesCode.{beside, number-among, sources-append}
 use Rattle.order_runs.proofs.ImportCodes.LinkedBeside.{linked-beside}
 use Rattle.order_runs.proofs.ImportSteps.TypedUnder.{AllTyped}
-use Rattle.order_runs.proofs.ImportSteps.Links.{moved-link, bare-link, put-link, any-number}
+use Rattle.order_runs.proofs.ImportSteps.Links.{moved-link, declarations-of, bare-link, put-link, any-number}
 use Rattle.order_runs.proofs.ImportSteps.ImportingSteps.{put-numbers}
 use Rattle.constant_steps.specs.Alone.{PackageAt}
 use Rattle.constant_steps.specs.PlainUse.{linked_at}
 use Rattle.constant_steps.specs.QualifiedSteps.NamedUse.{PackagesStand}
-use Rattle.constant_modules.specs.NamedAnywhere.Taken.{TakesNameAnywhere}
+use Rattle.constant_modules.specs.NamedAnywhere.Taken.{TakesNameThere, TakesNameAnywhere}
 use Rattle.constant_modules.specs.NamedAnywhere.Use.{PartsStand}
 use Rattle.order_runs.proofs.RunSteps.MembersViewed.{sources-linked}
 use Rattle.constant_modules.proofs.NamedAnywhere.Added as added
-use Rattle.constant_modules.proofs.NamedAnywhere.Added.{numbers-moved, distinct-of, linked-of, reordered-own}
+use Rattle.constant_modules.proofs.NamedAnywhere.Added.{numbers-moved, linked-of, reordered-own}
 use Rattle.constant_modules.proofs.NamedAnywhere.Nexts as next
 use Rattle.constant_modules.proofs.NamedAnywhere.Swaps.{swaps_there}
 use Rattle.order_runs.specs.SameCodes.Orders.{PackagesReordered}
@@ -41,7 +41,7 @@ use Rattle.order_runs.specs.SameProgram.{SameProgram}
 use Rattle.order_runs.proofs.Likened.{Likened, likened-then, likened-link, likened-reordered, likened-typed}
 use Rattle.order_runs.proofs.RunOrders.{to-numbers, from-numbers}
 
-module _ (marks : List MarkRef) (st : Standing) (l : Logged) (after : Standing) (n : Next marks st l after) (h : TakesNameAnywhere n) where
+module _ (marks : List MarkRef) (st : Standing) (l : Logged) (after : Standing) (n : Next marks st l after) (h : TakesNameThere n) where
   abbrev rs : List (run.Package At)
   rs = st.packages
 
@@ -112,11 +112,14 @@ module _ (marks : List MarkRef) (st : Standing) (l : Logged) (after : Standing) 
     k6 : Likened (members_of back ++ Q) (members_among back (numbered back) ++ Q)
     k6 = likened-reordered (members_of back ++ Q) (members_among back (numbered back) ++ Q) d5 r6
 
+    to-back : Likened (members_of rs ++ Q) (members_among back (numbered back) ++ Q)
+    to-back = likened-then (added.added-likened marks st l after n h.names Q w) (likened-then k4 (likened-then k5 k6))
+
     m7 : PackagesMoved (members_among back (numbered back)) (members_among last (numbered last))
     m7 = numbers-moved back last (next.under-last marks st l after n h)
 
     k7 : Likened (members_among back (numbered back) ++ Q) (members_among last (numbered last) ++ Q)
-    k7 = likened-link (moved-link (members_among back (numbered back) ++ Q) (members_among last (numbered last) ++ Q) (beside Q (members_among back (numbered back)) (members_among last (numbered last)) m7))
+    k7 = likened-link (moved-link (members_among back (numbered back) ++ Q) (members_among last (numbered last) ++ Q) (beside Q (members_among back (numbered back)) (members_among last (numbered last)) m7) (sym to-back.typed ∙ declarations-of (members_of rs ++ Q) w))
 
     d7 : are_distinct (members_among last (numbered last) ++ Q) ≡ true
     d7 = sym (k6.distinct ∙ k7.distinct) ∙ d5
@@ -128,7 +131,7 @@ module _ (marks : List MarkRef) (st : Standing) (l : Logged) (after : Standing) 
     k8 = likened-reordered (members_among last (numbered last) ++ Q) (members_of last ++ Q) d7 r8
 
     to-last : Likened (members_of rs ++ Q) (members_of last ++ Q)
-    to-last = likened-then (added.added-likened marks st l after n h.names Q w) (likened-then k4 (likened-then k5 (likened-then k6 (likened-then k7 k8))))
+    to-last = likened-then to-back (likened-then k7 k8)
 
     pub likened : Likened (members_of rs ++ Q) (members_of after.packages ++ Q)
     likened = subst (λ (ps : List (run.Package At)). Likened (members_of rs ++ Q) (members_of ps ++ Q)) (sym n.packages_are) to-last
@@ -151,17 +154,31 @@ module _ (marks : List MarkRef) (st : Standing) (l : Logged) (after : Standing) 
         ∙ number-among x (m7 Q w)
         ∙ sym (reordered-own last ordered-last last-distinct x)
 
-    numbers-after : (x : ℕ) → list_any (has_number x) (members_of rs) ≡ list_any (has_number x) (members_of after.packages)
+    pub numbers-after : (x : ℕ) → list_any (has_number x) (members_of rs) ≡ list_any (has_number x) (members_of after.packages)
     numbers-after x = same-numbers x ∙ (λ z. list_any (has_number x) (members_of (sym n.packages_are z)))
 
-    pub typed-after : (marked : List FuncName) → are_well_typed (members_of after.packages ++ Q) ≡ true
-    typed-after marked =
-        let i : ImportsStand Q (members_of after.packages) = h.imports marked Q w in
+    pub typed-after : ImportsStand Q (members_of after.packages) → are_well_typed (members_of after.packages ++ Q) ≡ true
+    typed-after i =
         likened-typed (members_of rs) (members_of after.packages) Q (likened Q w) (linked-beside (members_of rs) (members_of after.packages) Q numbers-after i.linked (linked-of (members_of rs) Q w)) i.right w
 
-  pub same-program : (marked : List FuncName) → SameProgram (packages_of rs marked) (packages_of after.packages marked)
-  same-program marked = record {
-    typed = λ Q w. typed-after Q w marked;
-    program = λ Q w. (likened Q w).program;
-    initial = λ Q w. (likened Q w).initial;
-  }
+    -- ---- with the form put
+
+    abbrev pub put_there : List (run.Package At)
+    put_there = next.changed marks st l after n h (next.tree_put marks st l after n h)
+
+    pub put-likened : Likened (members_of rs ++ Q) (members_of put_there ++ Q)
+    put-likened =
+        likened-then (added.added-likened marks st l after n h.names Q w)
+        (likened-then (k4 Q w) (likened-link (bare-link (put Q w ++ Q) (members_of put_there ++ Q) (beside-alike (put Q w) (members_of put_there) Q (next.put-between marks st l after n h (own-distinct Q w))))))
+
+  pub ordered-put : AllOrdered (next.changed marks st l after n h (next.tree_put marks st l after n h))
+  ordered-put =
+      ordered-alike mid (next.changed marks st l after n h (next.tree_put marks st l after n h))
+      (one_by_one (λ p q r. record { path = r.path; imports = r.imports }) (next.pathed-by marks st l after n h (next.tree_put marks st l after n h).decls)) h.names.ordered_added
+
+pub same-program : (marks : List MarkRef) (st : Standing) (l : Logged) (after : Standing) (n : Next marks st l after) → TakesNameAnywhere n → (marked : List FuncName) → SameProgram (packages_of st.packages marked) (packages_of after.packages marked)
+same-program marks st l after n h marked = record {
+  typed = λ Q w. typed-after marks st l after n h.there Q w (h.imports marked Q w);
+  program = λ Q w. (likened marks st l after n h.there Q w).program;
+  initial = λ Q w. (likened marks st l after n h.there Q w).initial;
+}

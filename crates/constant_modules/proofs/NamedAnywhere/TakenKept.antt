@@ -30,24 +30,27 @@ module _ (marks : List MarkRef) (st : Standing) (l : Logged) (after : Standing) 
   -- a step whose parts are simple
   pub simple-takes : TakesName n → TakesNameAnywhere n
   simple-takes h = record {
-    place = h.place;
-    use_ = h.use_;
-    stands =
+    there =
         record {
-          package_there = h.stands.package_there;
-          file_there = h.stands.file_there;
-          decl = h.stands.decl;
-          decl_there = h.stands.decl_there;
-          plain = h.stands.plain;
-          home_plain = h.stands.home_plain;
-          new_plain = h.stands.new_plain;
-          alone = h.stands.alone;
+          place = h.place;
+          use_ = h.use_;
+          stands =
+              record {
+                package_there = h.stands.package_there;
+                file_there = h.stands.file_there;
+                decl = h.stands.decl;
+                decl_there = h.stands.decl_there;
+                plain = h.stands.plain;
+                home_plain = h.stands.home_plain;
+                new_plain = h.stands.new_plain;
+                alone = h.stands.alone;
+              };
+          parts = λ Q w s k at. simple_stand same_here (packages_added st.packages n.found) (site_there n.found h.place) h.use_.new h.stands.decl k (linked (packages_added st.packages n.found)) (sources Q) h.stands.simple;
+          form = h.form;
+          names = h.names;
+          file_sound = h.file_sound;
+          home_sound = h.home_sound;
         };
-    parts = λ Q w s k at. simple_stand same_here (packages_added st.packages n.found) (site_there n.found h.place) h.use_.new h.stands.decl k (linked (packages_added st.packages n.found)) (sources Q) h.stands.simple;
-    form = h.form;
-    names = h.names;
-    file_sound = h.file_sound;
-    home_sound = h.home_sound;
     imports = h.imports;
   }
 

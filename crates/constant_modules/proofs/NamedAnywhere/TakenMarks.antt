@@ -14,7 +14,7 @@ use Rattle.order_runs.specs.RunSteps.RunPackages.{members_of}
 use Rattle.printed_constants.specs.TypedParts.MarkedRuns.NamedMarks.Named.{AllNamed}
 use Rattle.printed_constants.specs.TypedParts.MarkedRuns.SettledConstants.Programs.{IsReady}
 use Rattle.order_runs.specs.CycleRuns.OrderCycles.Steps.{KeepsImportLookUps}
-use Rattle.order_runs.specs.CycleRuns.OrderCycles.NewNames.{NamesByPath, FewNames}
+use Rattle.order_runs.specs.CycleRuns.OrderCycles.NewNames.{NamesByPath, AvoidsFew}
 use Rattle.order_runs.proofs.CycleRuns.Runs.{linked-names}
 use Rattle.go_tree.specs.declared.spans.Span.{Span}
 use Rattle.pkg_graph.specs.Package.{SourceTree, Package}
@@ -36,14 +36,14 @@ use Rattle.printed_constants.specs.InlinedFiles.Files.{AllWrite}
 use Rattle.printed_constants.specs.TypedParts.MarkedRuns.LinkedMembers.Laws.{HaveFiles}
 use Rattle.printed_constants.proofs.InlinedFiles.InlinedModules.Runs.{kept_inlined}
 use Rattle.printed_constants.proofs.TypedParts.MarkedRuns.LinkedMembers.Files.{read-have, step-have}
-use Rattle.constant_modules.specs.NamedAnywhere.Taken.{site_there, TakesNameAnywhere, EachTakesAnywhere}
-use Rattle.constant_modules.specs.NamedAnywhere.Marked.{StandsAnywhere, AllOverAnywhere}
+use Rattle.constant_modules.specs.NamedAnywhere.Taken.{site_there, TakesNameThere, TakesNameAnywhere, EachTakesAnywhere}
+use Rattle.constant_modules.specs.NamedAnywhere.Marked.{StandsNamedThere, StandsAnywhere, AllOverAnywhere}
 use Rattle.constant_modules.specs.NamedAnywhere.TakenLaws.{RunsAnywhereMeanTheSame}
 use Rattle.constant_modules.specs.NamedAnywhere.MarkedLaws.{StepsAnywhereStayReady, RunsOverMarksAnywhereKeep, RunsOverMarksAnywhereWrite, RunsOverMarksAnywhereInline}
 use Rattle.constant_modules.specs.NamedAnywhere.Use.{NamedUseAnywhere}
 use Rattle.constant_modules.proofs.NamedAnywhere.AddedParts.{added-parts}
 
-module _ (sound : AddedImportsMayBeDeclared) (marks : List MarkRef) (st : Standing) (l : Logged) (after : Standing) (n : Next marks st l after) (ready : IsReady st) (files : HaveFiles st.packages) (typed : are_well_typed (members_of st.packages) ≡ true) (few : FewNames st.packages n.found) (names : KeepsImportLookUps n) (h : StandsAnywhere n) where
+module _ (sound : AddedImportsMayBeDeclared) (marks : List MarkRef) (st : Standing) (l : Logged) (after : Standing) (n : Next marks st l after) (ready : IsReady st) (files : HaveFiles st.packages) (typed : are_well_typed (members_of st.packages) ≡ true) (few : AvoidsFew st.packages n.found) (names : KeepsImportLookUps n) (h : StandsNamedThere n) where
   abbrev w : Where At
   w = n.found.site.at
 
@@ -71,8 +71,8 @@ module _ (sound : AddedImportsMayBeDeclared) (marks : List MarkRef) (st : Standi
     alone = alone-there marks st l after n ready.reads h.place h.used_as h.use_.use_ h.use_.part here.decl here.decl_is (h.there here.decl here.decl_is);
   }
 
-  pub takes-name : TakesNameAnywhere n
-  takes-name =
+  pub takes-there : TakesNameThere n
+  takes-there =
       let home : StandsThere (packages_added st.packages n.found) n.found.site.mark h.use_.home = stands_there (packages_added st.packages n.found) n.found.site.mark h.use_.home h.use_.home_is in
       record {
         place = h.place;
@@ -87,8 +87,10 @@ module _ (sound : AddedImportsMayBeDeclared) (marks : List MarkRef) (st : Standi
         home_sound =
             sound marks st l after n names.ordered by_path typed few
             (record { number = n.found.site.mark.«package»; of = h.use_.home.of; file_number = n.found.site.mark.file; source = h.use_.home.source }) home.package_there home.file_there;
-        imports = h.imports;
       }
+
+pub takes-name : AddedImportsMayBeDeclared → (marks : List MarkRef) (st : Standing) (l : Logged) (after : Standing) (n : Next marks st l after) → IsReady st → HaveFiles st.packages → are_well_typed (members_of st.packages) ≡ true → AvoidsFew st.packages n.found → KeepsImportLookUps n → StandsAnywhere n → TakesNameAnywhere n
+takes-name sound marks st l after n ready files typed few names h = record { there = takes-there sound marks st l after n ready files typed few names h.stands; imports = h.imports }
 
 module _ (sound : AddedImportsMayBeDeclared) (write : ConstantsWrite) (step : StepsAnywhereStayReady) (keep : StepsKeepNamed) where
   -- each step takes its name, and the last program is ready and well typed, its marks those of constants

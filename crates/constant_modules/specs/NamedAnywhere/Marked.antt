@@ -29,8 +29,8 @@ AllTakeAnywhere (goes_on st next last l log n run) =
     IsOverConstant n × (PutsOtherName n × (TakesNameAnywhere n × AllTakeAnywhere run))
 
 -- What marked_runs asks of a step (`StandsAdded`), but that nothing is asked of the parts of the declaration of the
--- use.
-pub record StandsAnywhere {marks : List MarkRef} {st : Standing} {l : Logged} {after : Standing}
+-- use, nor of the imports at last.
+pub record StandsNamedThere {marks : List MarkRef} {st : Standing} {l : Logged} {after : Standing}
     (n : Next marks st l after) : Type 0 where
   pub place : Place At
   pub use_ : NamedUse same_here (is_commented st) (packages_added st.packages n.found) marks (site_there n.found place)
@@ -42,6 +42,11 @@ pub record StandsAnywhere {marks : List MarkRef} {st : Standing} {l : Logged} {a
   pub home_plain : PlainFiles (map (linked_file (packages_added st.packages n.found)) use_.home.of.files)
   pub new_plain : PlainFiles (map (linked_file (packages_added st.packages n.found)) use_.new_home.of.files)
   pub form : n.found.form ≡ as_expr use_.new
+
+-- And the imports are right at last.
+pub record StandsAnywhere {marks : List MarkRef} {st : Standing} {l : Logged} {after : Standing}
+    (n : Next marks st l after) : Type 0 where
+  pub stands : StandsNamedThere n
   pub imports :
       (marked : List FuncName) (Q : List (Package At)) → WellTyped (with_further (packages_of st.packages marked) Q)
       → ImportsStand Q (members_of after.packages)

@@ -19,7 +19,7 @@ use Rattle.run_rules.specs.Inlining.{ModuleReads, standing_as_read}
 use Rattle.constant_steps.specs.WrittenLiteral.UnspreadForms.UnspreadForms.{UnspreadPackages}
 use Rattle.order_runs.specs.RunSteps.RunPackages.{packages_of}
 use Rattle.order_runs.specs.CycleRuns.Linked.{WritesFile}
-use Rattle.order_runs.specs.CycleRuns.OrderCycles.NewNames.{FewNames}
+use Rattle.order_runs.specs.CycleRuns.OrderCycles.NewNames.{AvoidsFew}
 use Rattle.order_runs.specs.CycleRuns.OrderCycles.Steps.{KeepsImportLookUps}
 use Rattle.printed_constants.specs.InlinedFiles.Files.{AllWrite}
 use Rattle.printed_constants.specs.InlinedFiles.InlinedModules.Modules.{IsInlinedModule}
@@ -28,8 +28,8 @@ use Rattle.printed_constants.specs.TypedParts.MarkedRuns.NamedMarks.Named.{AllNa
 use Rattle.printed_constants.specs.TypedParts.MarkedRuns.SettledConstants.Programs.{IsReady}
 use Rattle.printed_constants.specs.TypedParts.MarkedRuns.TakenNames.Laws.{KeptByRun}
 use Rattle.printed_constants.specs.TypedParts.MarkedRuns.TakenNames.Taken.{TakesName}
-use Rattle.constant_modules.specs.NamedAnywhere.Marked.{AllTakeAnywhere, StandsAnywhere, AllOverAnywhere}
-use Rattle.constant_modules.specs.NamedAnywhere.Taken.{TakesNameAnywhere}
+use Rattle.constant_modules.specs.NamedAnywhere.Marked.{AllTakeAnywhere, StandsNamedThere, StandsAnywhere, AllOverAnywhere}
+use Rattle.constant_modules.specs.NamedAnywhere.Taken.{TakesNameThere, TakesNameAnywhere}
 
 -- ---- steps that take names
 
@@ -68,11 +68,18 @@ RunsAnywhereInline =
 -- ---- steps over marked constants
 
 -- In a program that is ready and well typed, each of whose packages has a file, a step over a marked constant takes its
--- name: with its imports added the parts of the declaration of the use are known.
+-- name, but for its imports at last: with its imports added the parts of the declaration of the use are known.
+abbrev pub StepsOverMarksTakeThere : Type 0
+StepsOverMarksTakeThere =
+    (marks : List MarkRef) (st : Standing) (l : Logged) (after : Standing) (n : Next marks st l after) → IsReady st
+    → HaveFiles st.packages → WellTyped (packages_of st.packages []) → AvoidsFew st.packages n.found
+    → KeepsImportLookUps n → StandsNamedThere n → TakesNameThere n
+
+-- So it takes its name, where its imports are right at last.
 abbrev pub StepsOverMarksTake : Type 0
 StepsOverMarksTake =
     (marks : List MarkRef) (st : Standing) (l : Logged) (after : Standing) (n : Next marks st l after) → IsReady st
-    → HaveFiles st.packages → WellTyped (packages_of st.packages []) → FewNames st.packages n.found
+    → HaveFiles st.packages → WellTyped (packages_of st.packages []) → AvoidsFew st.packages n.found
     → KeepsImportLookUps n → StandsAnywhere n → TakesNameAnywhere n
 
 -- A run over marked constants from a module that reads, is well typed, and whose marks are all of constants, keeps

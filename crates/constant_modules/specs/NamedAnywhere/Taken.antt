@@ -25,10 +25,11 @@ use Rattle.constant_modules.specs.NamedAnywhere.Use.{NamedUseAnywhere, PartsStan
 abbrev pub site_there : Found At → Place At → Site At
 site_there f p = record f.site { at = where_added f; place = p }
 
--- What taken_names asks of such a step (`TakesName`), but that the parts of the declaration of the use, with the
+-- What is asked of the name that such a step takes, before its imports are settled: what taken_names asks of the step
+-- (`TakesName`), but that the imports are right at last, and that the parts of the declaration of the use, with the
 -- imports of the form added to its file, are known in place of simple: beside all further packages with which those
 -- before are well typed, wherever the use's package stands among the linked ones.
-pub record TakesNameAnywhere {marks : List MarkRef} {st : Standing} {l : Logged} {after : Standing}
+pub record TakesNameThere {marks : List MarkRef} {st : Standing} {l : Logged} {after : Standing}
     (n : Next marks st l after) : Type 0 where
   pub place : Place At
   pub use_ : NamedUse same_here (is_commented st) (packages_added st.packages n.found) marks (site_there n.found place)
@@ -45,6 +46,11 @@ pub record TakesNameAnywhere {marks : List MarkRef} {st : Standing} {l : Logged}
   pub names : KeepsImportLookUps n
   pub file_sound : MayBeDeclared (packages_added st.packages n.found) (site_there n.found place).at
   pub home_sound : MayBeDeclared (packages_added st.packages n.found) use_.home
+
+-- And the imports are right at last.
+pub record TakesNameAnywhere {marks : List MarkRef} {st : Standing} {l : Logged} {after : Standing}
+    (n : Next marks st l after) : Type 0 where
+  pub there : TakesNameThere n
   pub imports :
       (marked : List FuncName) (Q : List (Package At)) → WellTyped (with_further (packages_of st.packages marked) Q)
       → ImportsStand Q (members_of after.packages)

@@ -26,6 +26,7 @@ pub fn runs_anywhere_keep()
 /// parts of the declaration are known. So a run over marked constants, from a module that reads and is well typed and
 /// whose marks are all of constants, keeps typing, which marked functions lie on a cycle, and the meaning.
 pub fn runs_over_marks_anywhere_keep()
+    ensures takes_there { law.StepsOverMarksTakeThere }
     ensures takes { law.StepsOverMarksTake }
     ensures runs { law.RunsOverMarksAnywhereKeep }
 {

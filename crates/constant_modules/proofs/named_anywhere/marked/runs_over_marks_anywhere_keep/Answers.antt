@@ -1,5 +1,8 @@
-use Rattle.constant_modules.proofs.NamedAnywhere.TakenMarks.{takes-name, runs-keep}
+use Rattle.constant_modules.proofs.NamedAnywhere.TakenMarks.{takes-there, takes-name, runs-keep}
 use Rattle.constant_modules.proofs.named_anywhere.marked.runs_over_marks_anywhere_keep.Goals as goal
+
+pub returns-clause-takes_there : goal.returns-clause-takes_there
+returns-clause-takes_there c = λ marks st l after n ready files typed few names h. takes-there c.added_imports_may_be_declared.ensures marks st l after n ready files typed few names h
 
 pub returns-clause-takes : goal.returns-clause-takes
 returns-clause-takes c = λ marks st l after n ready files typed few names h. takes-name c.added_imports_may_be_declared.ensures marks st l after n ready files typed few names h
