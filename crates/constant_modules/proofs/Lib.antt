@@ -4,5 +4,6 @@ pub mod FewNames
 pub mod KeptUses
 pub mod LookUps
 pub mod NamedAnywhere
+pub mod NamedThere
 pub mod TypedForms
 pub mod TypedUses

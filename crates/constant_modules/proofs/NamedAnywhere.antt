@@ -1,5 +1,7 @@
 -- Steps over constants that are declared as names, of any packages, in declarations of every form, and runs of them.
 pub mod FormsNamed
+pub mod NewDeclared
+pub mod OwnExpressions
 pub mod UsesKnown
 pub mod Swaps
 pub mod Rehomed

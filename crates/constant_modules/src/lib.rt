@@ -9,5 +9,6 @@ pub mod few_names;
 pub mod kept_uses;
 pub mod look_ups;
 pub mod named_anywhere;
+pub mod named_there;
 pub mod typed_forms;
 pub mod typed_uses;

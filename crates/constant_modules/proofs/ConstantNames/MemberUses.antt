@@ -2,7 +2,6 @@
 -- only this is asked that the other's name means one.
 use Rattle.std.specs.Prelude.{◌≡◌, refl, true, false, not, List, [], Some, None}
 use mathlib.Core.Path.{ap, sym, ◌∙◌, subst}
-use Rattle.go_tree.specs.declared.spans.Span.{Span}
 use Rattle.go_tree.specs.Tree.{Expr}
 use Rattle.go_tree.specs.ScopeNames.Means.{means, is_blank}
 use Rattle.pkg_graph.specs.Package.{Package}
@@ -26,7 +25,7 @@ use Rattle.constant_modules.specs.ConstantNames.Laws.{DeclaredConstantsAreConsta
 use Rattle.constant_modules.specs.ConstantNames.MemberUses.{DeclaredFirst, MemberUse}
 use Rattle.constant_modules.proofs.ConstantNames.Members.{program_constant}
 
-module _ (rs : List (Package Span)) (ps : Program Span) (w : World) (ended : ValuesEnd ps w) (at : Where Span) (q : Place Span) (use_ new : Expr Span) (u : MemberUse rs ps at q use_ new) where
+module _ {S : Type 0} (rs : List (Package S)) (ps : Program S) (w : World) (ended : ValuesEnd ps w) (at : Where S) (q : Place S) (use_ new : Expr S) (u : MemberUse rs ps at q use_ new) where
   abbrev last : World
   last = valued_world ps (headed ps)
 
@@ -103,7 +102,7 @@ module _ (rs : List (Package Span)) (ps : Program Span) (w : World) (ended : Val
   put : MemberMeant top q new u.new_mark
   put = member_meant rs at u.members u.may_be_declared w None q new u.new_mark u.new_names u.new_spelled (subst ConstantOrRefused (sym new_block) known)
 
-  member_use : UseOfConstant ps d.header u.constant u.text w top q use_ new
+  pub member_use : UseOfConstant ps d.header u.constant u.text w top q use_ new
   member_use = record {
     meant = text_meant.meant;
     declares = declares;

@@ -1,7 +1,6 @@
 -- What holds of all parts of typed expressions and of typed statements holds of all parts of a declaration whose headers
 -- are typed: the parts that the code which looks for uses asks for, and names of imports before dots alone.
 use Rattle.std.specs.Prelude.{◌≡◌, refl, ℕ, suc, Bool, true, false, ◌&&◌, ◌||◌, List, [], ◌∷◌, ◌++◌, Option, Some, None, if◌then◌else◌, bytes_eq}
-use mathlib.Core.Path.{◌∙◌}
 use Rattle.std.proofs.Common.{arith}
 use Rattle.go_tree.specs.Tree.{NameAt, Param, TypeExpr, named, Exprs, no_exprs, expr_and, Stmts, const_decl, var_decl, ValueSpecs, no_specs, spec}
 use Rattle.go_tree.specs.File.{TypeSpec, Receiver, Func, Decl, values, types, func}

@@ -1,6 +1,6 @@
 -- In the declaration of a use literals of functions have types, and with the form in its place keys of literals of structs
 -- are names.
-use Rattle.std.proofs.Common.{◌≡◌, ◌∙◌, refl, ℕ, suc, Bool, true, false, List, [], ◌∷◌, Option, Some}
+use Rattle.std.proofs.Common.{◌≡◌, refl, ℕ, suc, Bool, true, false, List, [], ◌∷◌, Option, Some}
 use Rattle.go_tree.specs.Tree.{ident, composite, func_lit, Elems, no_elems, elem, Value, plain, braced, ValueOption, no_value, some_value}
 use Rattle.go_tree.specs.File.{Decl}
 use Rattle.go_tree.specs.GoTypes.Answers.{given, meets}

@@ -15,7 +15,6 @@ use Rattle.run_rules.specs.Run.{Standing, Logged, Next, is_commented}
 use Rattle.constant_steps.specs.StepLaws.PartsTyped.{HeaderTyped}
 use Rattle.constant_steps.specs.Alone.{PackageAt}
 use Rattle.constant_steps.specs.PlainUse.{linked_at}
-use Rattle.constant_steps.specs.QualifiedSteps.NamedUse.{NamedUse}
 use Rattle.constants_anywhere.proofs.Ordered.{linked_order}
 use Rattle.imported_typing.specs.Further.{imports_itself, are_others, in_order, chains_end}
 use Rattle.imported_typing.proofs.InOrder.{first_import_themselves, later_are_others}
@@ -31,7 +30,7 @@ use Rattle.order_runs.proofs.ImportCodes.PackagesCode.{sources-append}
 use Rattle.order_runs.proofs.ImportSteps.TypedUnder.{AllTyped}
 use Rattle.printed_constants.specs.TypedParts.MarkedRuns.LinkedMembers.Laws.{HaveFiles}
 use Rattle.printed_constants.proofs.TypedParts.MarkedRuns.LinkedMembers.Linked.{members-linked}
-use Rattle.constant_modules.specs.NamedAnywhere.Use.{NamedUseAnywhere, PartsStand}
+use Rattle.constant_modules.specs.NamedAnywhere.Use.{NamedUseAnywhere, PartsStand, ConstantUse}
 use Rattle.constant_modules.proofs.NamedAnywhere.Added.{nothing-behind, linked-of, added-distinct, added-numbers, added-typed}
 use Rattle.constant_modules.proofs.NamedAnywhere.HeadersEnd.{headers_end}
 use Rattle.constant_modules.proofs.NamedAnywhere.HeadersParts.{headers_parts, headers_starts}
@@ -97,7 +96,7 @@ module _ (marks : List MarkRef) (st : Standing) (l : Logged) (after : Standing) 
     others : are_others (linked mid) (sources Q) ≡ true
     others = later_are_others (linked mid) (sources Q) order
 
-    pub added-parts : (x : Site At) (u : NamedUse same_here (is_commented st) mid marks x) (v : NamedUseAnywhere same_here (is_commented st) mid marks x u) (s : At) (k : ℕ) → PackageAt (linked_at mid x.at s) k (linked mid)
+    pub added-parts : (x : Site At) (u : ConstantUse same_here (is_commented st) mid marks x) (v : NamedUseAnywhere same_here (is_commented st) mid marks x u) (s : At) (k : ℕ) → PackageAt (linked_at mid x.at s) k (linked mid)
         → PartsStand same_here mid x u.new v.decl k (linked mid) (sources Q)
     added-parts x u v s k at =
         typed_stand same_here (is_commented st) mid marks x u v s k (sources Q) at itself others ends

@@ -23,9 +23,9 @@ use Rattle.constant_steps.proofs.AfterStep.{same_number}
 use Rattle.constant_steps.proofs.MarksFound.{member_of_mark, named_member, both_none, StandsThere, stands_there}
 use Rattle.constant_steps.proofs.NamesOutside.{linked_block, unshadowed}
 use Rattle.constant_steps.specs.QualifiedSteps.MemberNames.{member_name, NamesMember, own_member, imported_member}
-use Rattle.constant_steps.specs.QualifiedSteps.NamedUse.{NamedUse}
 use Rattle.constant_steps.proofs.QualifiedSteps.MembersNamed.{OwnName, own_name, OfPackage, of_package}
 use Rattle.constant_steps.proofs.QualifiedSteps.Qualifiers.{OwnPath, qualifier_path, first_means}
+use Rattle.constant_modules.specs.NamedAnywhere.Use.{ConstantUse}
 
 exported_if : (b : Bool) (n : List ℕ) → given (one_of (if b then None else Some n) None) (λ n. Some (NotAccessible n)) ≡ None → b ≡ true
 exported_if true n h = refl
@@ -43,7 +43,7 @@ nothing_again : (q : List (List (List ℕ))) (b : Bool) → (not (is_empty q) ||
 nothing_again [] b e = refl
 nothing_again (y ∷ ys) b e = absurd (grind (arith, e))
 
-module _ {S : Type 0} (same : S → S → Bool) (commented : ℕ → ℕ → S → Bool) (rs : List (Package S)) (marks : List MarkRef) (x : Site S) (u : NamedUse same commented rs marks x) where
+module _ {S : Type 0} (same : S → S → Bool) (commented : ℕ → ℕ → S → Bool) (rs : List (Package S)) (marks : List MarkRef) (x : Site S) (u : ConstantUse same commented rs marks x) where
   abbrev z : S
   z = part_span x.part
 

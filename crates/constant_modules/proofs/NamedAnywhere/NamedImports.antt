@@ -47,17 +47,15 @@ use Rattle.constant_steps.proofs.ImportsKept.{AllDiffer, all_differ}
 use Rattle.constant_steps.proofs.MarksFound.{nth_mapped}
 use Rattle.constant_steps.proofs.PlainImports.{distinct_sources}
 use Rattle.constant_steps.specs.QualifiedSteps.MemberNames.{NamesMember, own_member}
-use Rattle.constant_steps.specs.QualifiedSteps.NamedUse.{NamedUse, PackagesStand, looked_up, SameQualifier, no_qualifier, one_qualifier}
-use Rattle.constant_steps.specs.QualifiedSteps.ImportsStay.{ImportsStay, same_before, still_used}
+use Rattle.constant_steps.specs.QualifiedSteps.NamedUse.{looked_up, SameQualifier, no_qualifier, one_qualifier}
 use Rattle.constant_steps.proofs.QualifiedSteps.HeadersUse.{OnePackage, one_package, Untouched, other_name, any_name, UsesKept, uses_itself}
 use Rattle.constant_steps.proofs.QualifiedSteps.ImportsRight.{NameStays, as_before, in_use, NamesStay, packages_right, files_stay, packages_stay}
 use Rattle.constant_steps.proofs.QualifiedSteps.MembersNamed.{OwnName, own_name}
 use Rattle.constant_steps.proofs.QualifiedSteps.Small.{or_left, or_right}
-use Rattle.constant_steps.proofs.QualifiedSteps.NamedSwaps.{stand_beside}
-use Rattle.constant_modules.specs.NamedAnywhere.Use.{NamedUseAnywhere, PartsStand}
+use Rattle.constant_modules.specs.NamedAnywhere.Use.{NamedUseAnywhere, PartsStand, ConstantUse, ImportsStayAnywhere, PackagesStandAnywhere, same_before, still_used}
 use Rattle.constant_modules.proofs.NamedAnywhere.HeadersUse.{decl_uses}
 use Rattle.constant_modules.proofs.NamedAnywhere.Swaps.{not_init, all_typed, sound_there, typed_swaps}
-use Rattle.constant_modules.proofs.NamedAnywhere.UsesKnown.{put_named, use_before}
+use Rattle.constant_modules.proofs.NamedAnywhere.UsesKnown.{put_named, use_before, stand_beside}
 
 all_front : {S : Type 0} (f : SourcePackage S → Bool) (xs ys : Program S) → list_all f (xs ++ ys) ≡ true → list_all f xs ≡ true
 all_front f [] ys q = refl
@@ -68,7 +66,7 @@ names_looked : {S : Type 0} {top : Env} {e : Expr S} {r : Option Entity} {m : Li
 names_looked plain_name = refl
 names_looked (qualified_name k) = refl
 
-module _ {S : Type 0} (same : S → S → Bool) (commented : ℕ → ℕ → S → Bool) (rs : List (Package S)) (marks : List MarkRef) (x : Site S) (u : NamedUse same commented rs marks x) (v : NamedUseAnywhere same commented rs marks x u) (ms Q : List (translated.Package S)) (a : PackagesStand same commented rs marks x u (sources ms)) (typed : are_well_typed (ms ++ Q) ≡ true) (t : PartsStand same rs x u.new v.decl a.use_.nth (sources ms) (sources Q)) where
+module _ {S : Type 0} (same : S → S → Bool) (commented : ℕ → ℕ → S → Bool) (rs : List (Package S)) (marks : List MarkRef) (x : Site S) (u : ConstantUse same commented rs marks x) (v : NamedUseAnywhere same commented rs marks x u) (ms Q : List (translated.Package S)) (a : PackagesStandAnywhere same commented rs marks x u (sources ms)) (typed : are_well_typed (ms ++ Q) ≡ true) (t : PartsStand same rs x u.new v.decl a.use_.nth (sources ms) (sources Q)) where
   abbrev p : SourcePackage S
   p = linked_at rs x.at a.use_.at
 
@@ -207,7 +205,7 @@ module _ {S : Type 0} (same : S → S → Bool) (commented : ℕ → ℕ → S �
   own_none : {s : S} {k : MarkRef} (n : List ℕ) → NamesMember rs x.at x.place (ident s n) k → means is n ≡ None
   own_none {k = k} n (own_member r) = let o : OwnName rs x.at x.place n k = own_name rs x.at x.place n k r in o.there.no_import members
 
-  names_stay : ImportsStay same commented rs marks x u a.use_.nth (sources ms) (sources Q) → NamesStay D K M w ks K M (linked_imports rs tree)
+  names_stay : ImportsStayAnywhere same commented rs marks x u a.use_.nth (sources ms) (sources Q) → NamesStay D K M w ks K M (linked_imports rs tree)
   names_stay (same_before q) = by q refl refl
     where
       by : {y f : Expr S} → SameQualifier y f → u.use_ ≡ y → u.new ≡ f → NamesStay D K M w ks K M (linked_imports rs tree)
@@ -221,7 +219,7 @@ module _ {S : Type 0} (same : S → S → Bool) (commented : ℕ → ℕ → S �
       (λ l. (λ j. is_used_in (moved j) K M (old_looked j) ks) ∙ f (ap (λ n. is_among n (import_names (linked_imports rs tree))) (sym old_looked) ∙ l))
       (λ l. (λ j. is_used_in (moved j) K M (new_looked j) ks) ∙ g (ap (λ n. is_among n (import_names (linked_imports rs tree))) (sym new_looked) ∙ l))
 
-  pub named_imports : ImportsStay same commented rs marks x u a.use_.nth (sources ms) (sources Q) → ImportsRight same rs z e K x.at.of tree a.use_.nth M x.decl (sources ms) (sources Q)
+  pub named_imports : ImportsStayAnywhere same commented rs marks x u a.use_.nth (sources ms) (sources Q) → ImportsRight same rs z e K x.at.of tree a.use_.nth M x.decl (sources ms) (sources Q)
   named_imports stay =
       let right : imports_ok all ≡ true = and_second (declarations_ok all) (imports_ok all) (sym (well_typed_apart all) ∙ well) in
       (λ i. list_all (package_imports (sym moved i) ks) after)
@@ -229,9 +227,9 @@ module _ {S : Type 0} (same : S → S → Bool) (commented : ℕ → ℕ → S �
       (all_front (package_imports w (headed all)) (sources ms) (sources Q) right)
 
 -- the packages after mean the same
-pub named_step : {S : Type 0} (same : S → S → Bool) (commented : ℕ → ℕ → S → Bool) (rs : List (Package S)) (marks : List MarkRef) (x : Site S) (u : NamedUse same commented rs marks x) (v : NamedUseAnywhere same commented rs marks x u) (P : Packages S) (a : PackagesStand same commented rs marks x u (sources P.members))
+pub named_step : {S : Type 0} (same : S → S → Bool) (commented : ℕ → ℕ → S → Bool) (rs : List (Package S)) (marks : List MarkRef) (x : Site S) (u : ConstantUse same commented rs marks x) (v : NamedUseAnywhere same commented rs marks x u) (P : Packages S) (a : PackagesStandAnywhere same commented rs marks x u (sources P.members))
     → ((Q : List (translated.Package S)) → WellTyped (with_further P Q) → PartsStand same rs x u.new v.decl a.use_.nth (sources P.members) (sources Q))
-    → ((Q : List (translated.Package S)) → WellTyped (with_further P Q) → ImportsStay same commented rs marks x u a.use_.nth (sources P.members) (sources Q))
+    → ((Q : List (translated.Package S)) → WellTyped (with_further P Q) → ImportsStayAnywhere same commented rs marks x u a.use_.nth (sources P.members) (sources Q))
     → SameMeaning P (record P { members = members_put same rs (part_span x.part) u.new x.at.number x.at.of x.at.source.tree a.use_.nth x.at.file_number x.decl P.members })
 named_step same commented rs marks x u v P a parts stay =
     known-constant-means-the-same same rs (part_span x.part) u.new x.at.number x.at.of x.at.source.tree a.use_.nth x.at.file_number x.decl P

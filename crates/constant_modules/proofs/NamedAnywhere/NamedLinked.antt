@@ -19,9 +19,8 @@ use Rattle.constant_steps.specs.Alone.{PackageAt}
 use Rattle.constant_steps.specs.PlainUse.{linked_at}
 use Rattle.constant_steps.proofs.LinkedAfter.{package_with, rs_after, linked_after}
 use Rattle.constant_steps.proofs.PlainImports.{Distinct, distinct_sources}
-use Rattle.constant_steps.specs.QualifiedSteps.NamedUse.{NamedUse, PackagesStand}
-use Rattle.constant_steps.specs.QualifiedSteps.NamedRuns.{found_named}
-use Rattle.constant_modules.specs.NamedAnywhere.Use.{NamedUseAnywhere}
+use Rattle.constant_modules.specs.NamedAnywhere.Use.{NamedUseAnywhere, ConstantUse, PackagesStandAnywhere}
+use Rattle.constant_modules.specs.NamedAnywhere.Runs.{found_anywhere}
 
 -- the entry with a number changed one way or another
 nth_alike : {A : Type 0} (f g : A → A) (n : ℕ) (xs : List A) (x : A) → slice_get xs n ≡ Some x → f x ≡ g x → change_nth n f xs ≡ change_nth n g xs
@@ -36,7 +35,7 @@ nothing_behind (x ∷ xs) = ap (λ l. x ∷ l) (nothing_behind xs)
 all_themselves : {S : Type 0} (ms : List (translated.Package S)) → are_distinct ms ≡ true → Distinct (sources ms)
 all_themselves ms d = distinct_sources ms [] (ap are_distinct (nothing_behind ms) ∙ d)
 
-module _ {S : Type 0} (same : S → S → Bool) (commented : ℕ → ℕ → S → Bool) (rs : List (Package S)) (marks : List MarkRef) (x : Site S) (u : NamedUse same commented rs marks x) (v : NamedUseAnywhere same commented rs marks x u) where
+module _ {S : Type 0} (same : S → S → Bool) (commented : ℕ → ℕ → S → Bool) (rs : List (Package S)) (marks : List MarkRef) (x : Site S) (u : ConstantUse same commented rs marks x) (v : NamedUseAnywhere same commented rs marks x u) where
   abbrev z : S
   z = part_span x.part
 
@@ -59,7 +58,7 @@ module _ {S : Type 0} (same : S → S → Bool) (commented : ℕ → ℕ → S �
   file_is : (is : List NewImport) → is ≡ [] → new_file is ≡ record tree { decls = change_nth x.decl change tree.decls }
   file_is is h = (λ i. new_file (h i)) ∙ (λ i. record tree { imports = nothing_behind tree.imports i; decls = change_nth x.decl change tree.decls })
 
-  between_is : packages_between same commented rs marks (found_named same commented rs marks x u) ≡ rs_after M x.decl change K rs
+  between_is : packages_between same commented rs marks (found_anywhere same commented rs marks x u) ≡ rs_after M x.decl change K rs
   between_is =
       nth_alike (λ p. record p { files = change_nth M (λ s. record s { tree = new_file (imports_added u.packages) }) p.files }) (package_with M x.decl change) K rs x.at.of v.package_there
       (ap (λ fs. record x.at.of { files = fs })
@@ -71,8 +70,8 @@ module _ {S : Type 0} (same : S → S → Bool) (commented : ℕ → ℕ → S �
   sources_put zero (m ∷ ms) = refl
   sources_put (suc k) (m ∷ ms) = ap (λ l. m.source ∷ l) (sources_put k ms)
 
-  pub named_linked : (ms : List (translated.Package S)) (a : PackagesStand same commented rs marks x u (sources ms)) → sources ms ≡ linked rs → are_distinct ms ≡ true
-      → sources (members_put same rs z u.new K x.at.of tree a.use_.nth M x.decl ms) ≡ linked (packages_between same commented rs marks (found_named same commented rs marks x u))
+  pub named_linked : (ms : List (translated.Package S)) (a : PackagesStandAnywhere same commented rs marks x u (sources ms)) → sources ms ≡ linked rs → are_distinct ms ≡ true
+      → sources (members_put same rs z u.new K x.at.of tree a.use_.nth M x.decl ms) ≡ linked (packages_between same commented rs marks (found_anywhere same commented rs marks x u))
   named_linked ms a h d =
       sources_put a.use_.nth ms ∙ ap (λ ps. changed (put_decl same rs z u.new K x.at.of tree) a.use_.nth M x.decl ps) h
       ∙ sym (linked_after M x.decl change K rs (linked_at rs x.at a.use_.at) a.use_.nth (subst (PackageAt (linked_at rs x.at a.use_.at) a.use_.nth) h a.use_.there) refl (subst Distinct h (all_themselves ms d)))

@@ -28,8 +28,7 @@ use Rattle.order_runs.proofs.CycleLaws.BareWith as spans
 use Rattle.order_runs.proofs.CycleLaws.StepsLead.{change-at}
 use Rattle.constant_steps.proofs.MarksFound.{StandsThere, stands_there}
 use Rattle.constant_steps.proofs.PlainImports.{Distinct, distinct_sources}
-use Rattle.constant_steps.specs.QualifiedSteps.NamedUse.{NamedUse, PackageStands, PackagesStand}
-use Rattle.constant_steps.specs.QualifiedSteps.NamedRuns.{named_members, found_named}
+use Rattle.constant_steps.specs.QualifiedSteps.NamedUse.{PackageStands}
 use Rattle.order_runs.specs.CycleRuns.ImportCycles.OtherImports.{FileUnder}
 use Rattle.order_runs.specs.CycleRuns.ImportCycles.ImportSteps.{file_added, packages_added, where_added, decl_put}
 use Rattle.order_runs.proofs.CycleRuns.ImportCycles.ImportStep.{placed, twice}
@@ -44,6 +43,8 @@ use Rattle.order_runs.proofs.ImportRuns.Listed.{among-order}
 use Rattle.order_runs.proofs.ImportRuns.PathsAlike.{SamePath, files-change, paths-alike}
 use Rattle.constant_modules.specs.NamedAnywhere.Taken.{site_there, TakesNameThere}
 use Rattle.constant_modules.proofs.NamedAnywhere.NamedLinked.{named_linked}
+use Rattle.constant_modules.specs.NamedAnywhere.Use.{ConstantUse, PackagesStandAnywhere}
+use Rattle.constant_modules.specs.NamedAnywhere.Runs.{found_anywhere, members_anywhere}
 
 nothing-behind : {A : Type 0} (xs : List A) → xs ++ [] ≡ xs
 nothing-behind [] = refl
@@ -86,7 +87,7 @@ module _ (marks : List MarkRef) (st : Standing) (l : Logged) (after : Standing) 
   abbrev pub there : Site At
   there = site_there n.found h.place
 
-  abbrev u : NamedUse same_here (is_commented st) mid marks there
+  abbrev u : ConstantUse same_here (is_commented st) mid marks there
   u = h.use_
 
   here : Placed here_of (λ (z : Span). Unit {0}) rs marks x
@@ -152,7 +153,7 @@ module _ (marks : List MarkRef) (st : Standing) (l : Logged) (after : Standing) 
   puts-here d e = (λ v. new_decl same_here mid (changes_for same_here (part_span x.part) (sym h.form v)) x.at.number (where_added n.found).of (file_added n.found) d) ∙ puts d e
 
   abbrev pub between : List (run.Package At)
-  between = packages_between same_here (is_commented st) mid marks (found_named same_here (is_commented st) mid marks there u)
+  between = packages_between same_here (is_commented st) mid marks (found_anywhere same_here (is_commented st) mid marks there u)
 
   abbrev tree_by : List NewImport → File At
   tree_by is = record (file_added n.found) { imports = (file_added n.found).imports ++ added_decls u.range is; decls = change_nth x.decl put_mid x.at.source.tree.decls }
@@ -218,7 +219,7 @@ module _ (marks : List MarkRef) (st : Standing) (l : Logged) (after : Standing) 
     home-stands : (at : Where At) (m : MarkRef) → where_is mid m ≡ Some at → PackageStands mid at (sources (members_of mid))
     home-stands at m e = let s : StandsThere mid m at = stands_there mid m at e in stands at ((λ v. slice_get mid (s.number v)) ∙ s.package_there) m.file s.file_there
 
-    pub all-stand : PackagesStand same_here (is_commented st) mid marks there u (sources (members_of mid))
+    pub all-stand : PackagesStandAnywhere same_here (is_commented st) mid marks there u (sources (members_of mid))
     all-stand = record {
       use_ = stands there.at package-there x.at.file_number file-there;
       home = home-stands u.home x.mark u.home_is;
@@ -226,7 +227,7 @@ module _ (marks : List MarkRef) (st : Standing) (l : Logged) (after : Standing) 
     }
 
     abbrev pub put : List (Package At)
-    put = named_members same_here (is_commented st) mid marks there u all-stand.use_.nth (members_of mid)
+    put = members_anywhere same_here (is_commented st) mid marks there u all-stand.use_.nth (members_of mid)
 
     pub put-linked : sources put ≡ linked between
     put-linked = named_linked same_here (is_commented st) mid marks there u h.stands (members_of mid) all-stand (sources-linked mid) distinct

@@ -17,7 +17,6 @@ use Rattle.run_rules.specs.Programs.{linked_file, linked_imports, linked, world,
 use Rattle.run_rules.specs.Sites.{MarkRef, Site, part_span}
 use Rattle.constant_steps.specs.Alone.{PackageAt}
 use Rattle.constant_steps.specs.PlainUse.{linked_at, AllSimple, IsTheUse}
-use Rattle.constant_steps.specs.QualifiedSteps.NamedUse.{NamedUse}
 use Rattle.constant_steps.proofs.MarksFound.{nth_mapped}
 use Rattle.imported_typing.specs.Reach.{IfAny, TypeWithin, FunctionWithin, EntityWithin, HeaderWithin, SameWithin}
 use Rattle.imported_typing.specs.Further.{has_package, imports_itself, are_others, own_reach, in_order, chains_end}
@@ -40,7 +39,7 @@ use Rattle.constants_anywhere.proofs.Ordered.{stands_numbered, imports_numbered}
 use Rattle.constants_anywhere.proofs.PlacesWithin.{AllPlaced}
 use Rattle.constants_anywhere.proofs.TypedDecls.{program_typed, program_starts}
 use Rattle.constants_anywhere.proofs.UsesAnywhere.{simple_parts, simple_translated}
-use Rattle.constant_modules.specs.NamedAnywhere.Use.{NamedUseAnywhere, PartsStand, parts_there, top_of}
+use Rattle.constant_modules.specs.NamedAnywhere.Use.{NamedUseAnywhere, PartsStand, parts_there, top_of, ConstantUse}
 use Rattle.constant_modules.proofs.NamedAnywhere.FormsNamed.{not_repeated}
 use Rattle.constant_modules.proofs.NamedAnywhere.PartsFree.{free_translated, free_known}
 
@@ -102,7 +101,7 @@ simple_stand same rs x new decl k ps more h =
 
 -- ---- the parts of the declaration of a use
 
-module _ {S : Type 0} (same : S → S → Bool) (commented : ℕ → ℕ → S → Bool) (rs : List (Package S)) (marks : List MarkRef) (x : Site S) (u : NamedUse same commented rs marks x) (v : NamedUseAnywhere same commented rs marks x u) (s : S) (k : ℕ) where
+module _ {S : Type 0} (same : S → S → Bool) (commented : ℕ → ℕ → S → Bool) (rs : List (Package S)) (marks : List MarkRef) (x : Site S) (u : ConstantUse same commented rs marks x) (v : NamedUseAnywhere same commented rs marks x u) (s : S) (k : ℕ) where
   abbrev p : SourcePackage S
   p = linked_at rs x.at s
 

@@ -28,9 +28,8 @@ use Rattle.order_runs.proofs.ImportSteps.Links.{moved-link, declarations-of, bar
 use Rattle.order_runs.proofs.ImportSteps.ImportingSteps.{put-numbers}
 use Rattle.constant_steps.specs.Alone.{PackageAt}
 use Rattle.constant_steps.specs.PlainUse.{linked_at}
-use Rattle.constant_steps.specs.QualifiedSteps.NamedUse.{PackagesStand}
 use Rattle.constant_modules.specs.NamedAnywhere.Taken.{TakesNameThere, TakesNameAnywhere}
-use Rattle.constant_modules.specs.NamedAnywhere.Use.{PartsStand}
+use Rattle.constant_modules.specs.NamedAnywhere.Use.{PartsStand, PackagesStandAnywhere}
 use Rattle.order_runs.proofs.RunSteps.MembersViewed.{sources-linked}
 use Rattle.constant_modules.proofs.NamedAnywhere.Added as added
 use Rattle.constant_modules.proofs.NamedAnywhere.Added.{numbers-moved, linked-of, reordered-own}
@@ -83,7 +82,7 @@ module _ (marks : List MarkRef) (st : Standing) (l : Logged) (after : Standing) 
     abbrev put : List (Package At)
     put = next.put marks st l after n h own-distinct
 
-    abbrev stand : PackagesStand same_here (is_commented st) mid marks there h.use_ (sources (members_of mid))
+    abbrev stand : PackagesStandAnywhere same_here (is_commented st) mid marks there h.use_ (sources (members_of mid))
     stand = next.all-stand marks st l after n h own-distinct
 
     abbrev k : ℕ

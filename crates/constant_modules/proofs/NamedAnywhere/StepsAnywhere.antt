@@ -19,22 +19,20 @@ use Rattle.constant_steps.specs.StepLaws.SwapPrograms.{members_put}
 use Rattle.constant_steps.proofs.StepLaws.ConstantRuns.{run-means-the-same}
 use Rattle.constant_steps.specs.Alone.{PackageAt}
 use Rattle.constant_steps.specs.PlainUse.{linked_at}
-use Rattle.constant_steps.specs.QualifiedSteps.ImportsStay.{ImportsStay}
-use Rattle.constant_steps.specs.QualifiedSteps.NamedUse.{NamedUse, PackagesStand}
 use Rattle.constants_anywhere.proofs.Ordered.{linked_order}
 use Rattle.imported_typing.specs.Further.{in_order}
 use Rattle.constant_modules.specs.NamedAnywhere.Runs.{NamedStepAnywhere, after_named, NamedRunAnywhere, no_step, and_step}
-use Rattle.constant_modules.specs.NamedAnywhere.Use.{NamedUseAnywhere, PartsStand}
+use Rattle.constant_modules.specs.NamedAnywhere.Use.{NamedUseAnywhere, PartsStand, ConstantUse, ImportsStayAnywhere, PackagesStandAnywhere}
 use Rattle.constant_modules.proofs.NamedAnywhere.NamedImports.{well, named_imports, named_step}
 use Rattle.constant_modules.proofs.NamedAnywhere.PartsKnown.{parts_stand}
 use Rattle.constant_modules.proofs.NamedAnywhere.Swaps.{typed_swaps}
 
-module _ {S : Type 0} (same : S → S → Bool) (commented : ℕ → ℕ → S → Bool) (rs : List (Package S)) (marks : List MarkRef) (x : Site S) (u : NamedUse same commented rs marks x) (v : NamedUseAnywhere same commented rs marks x u) where
-  pub uses_anywhere : (more : Program S) (a : PackagesStand same commented rs marks x u (linked rs)) → in_order (linked rs ++ more) ≡ true → well_typed (linked rs ++ more) ≡ true
+module _ {S : Type 0} (same : S → S → Bool) (commented : ℕ → ℕ → S → Bool) (rs : List (Package S)) (marks : List MarkRef) (x : Site S) (u : ConstantUse same commented rs marks x) (v : NamedUseAnywhere same commented rs marks x u) where
+  pub uses_anywhere : (more : Program S) (a : PackagesStandAnywhere same commented rs marks x u (linked rs)) → in_order (linked rs ++ more) ≡ true → well_typed (linked rs ++ more) ≡ true
       → ConstantSwaps same rs (part_span x.part) u.new x.at.number x.at.of x.at.source.tree more a.use_.nth x.at.file_number x.decl (linked rs)
   uses_anywhere more a order well = typed_swaps same commented rs marks x u v (linked rs) more a well (parts_stand same commented rs marks x u v a.use_.at a.use_.nth more a.use_.there order well)
 
-  module _ (ms Q : List (translated.Package S)) (is : sources ms ≡ linked rs) (a : PackagesStand same commented rs marks x u (sources ms)) (typed : are_well_typed (ms ++ Q) ≡ true) where
+  module _ (ms Q : List (translated.Package S)) (is : sources ms ≡ linked rs) (a : PackagesStandAnywhere same commented rs marks x u (sources ms)) (typed : are_well_typed (ms ++ Q) ≡ true) where
     distinct : are_distinct (ms ++ Q) ≡ true
     distinct = and_first (are_distinct (ms ++ Q)) (are_linked [] (ms ++ Q) && well_typed (sources (ms ++ Q))) typed
 
@@ -55,14 +53,14 @@ module _ {S : Type 0} (same : S → S → Bool) (commented : ℕ → ℕ → S �
         (ap in_order (sym all_are) ∙ linked_order (ms ++ Q) distinct (and_first (are_linked [] (ms ++ Q)) (well_typed (sources (ms ++ Q))) rest))
         (ap well_typed (sym all_are) ∙ and_second (are_linked [] (ms ++ Q)) (well_typed (sources (ms ++ Q))) rest))
 
-    pub imports_anywhere : ImportsStay same commented rs marks x u a.use_.nth (sources ms) (sources Q) → ImportsRight same rs (part_span x.part) u.new x.at.number x.at.of x.at.source.tree a.use_.nth x.at.file_number x.decl (sources ms) (sources Q)
+    pub imports_anywhere : ImportsStayAnywhere same commented rs marks x u a.use_.nth (sources ms) (sources Q) → ImportsRight same rs (part_span x.part) u.new x.at.number x.at.of x.at.source.tree a.use_.nth x.at.file_number x.decl (sources ms) (sources Q)
     imports_anywhere stay = named_imports same commented rs marks x u v ms Q a typed parts_there_stand stay
 
     pub swaps_anywhere : ConstantSwaps same rs (part_span x.part) u.new x.at.number x.at.of x.at.source.tree (sources Q) a.use_.nth x.at.file_number x.decl (sources ms)
     swaps_anywhere = typed_swaps same commented rs marks x u v (sources ms) (sources Q) a (well same commented rs marks x u v ms Q a typed parts_there_stand) parts_there_stand
 
-  pub meaning_anywhere : (P : Packages S) (a : PackagesStand same commented rs marks x u (sources P.members)) → sources P.members ≡ linked rs
-      → ((Q : List (translated.Package S)) → WellTyped (with_further P Q) → ImportsStay same commented rs marks x u a.use_.nth (sources P.members) (sources Q))
+  pub meaning_anywhere : (P : Packages S) (a : PackagesStandAnywhere same commented rs marks x u (sources P.members)) → sources P.members ≡ linked rs
+      → ((Q : List (translated.Package S)) → WellTyped (with_further P Q) → ImportsStayAnywhere same commented rs marks x u a.use_.nth (sources P.members) (sources Q))
       → SameMeaning P (record P { members = members_put same rs (part_span x.part) u.new x.at.number x.at.of x.at.source.tree a.use_.nth x.at.file_number x.decl P.members })
   meaning_anywhere P a is stay = named_step same commented rs marks x u v P a (λ Q t. parts_there_stand P.members Q is a t) stay
 

@@ -17,15 +17,13 @@ use Rattle.constant_steps.proofs.StepLaws.StepUses.{use-of-constant}
 use Rattle.constant_steps.proofs.AfterStep.{at_package}
 use Rattle.constant_steps.proofs.MarksFound.{nth_mapped}
 use Rattle.constant_steps.specs.PlainUse.{linked_at}
-use Rattle.constant_steps.specs.QualifiedSteps.NamedUse.{NamedUse, PackagesStand}
-use Rattle.constant_steps.proofs.QualifiedSteps.NamedSwaps.{stand_beside}
 use Rattle.order_runs.proofs.ImportSteps.KnownThere.{known-there, named-otherwise}
 use Rattle.constants_anywhere.proofs.PartsMeant.{known_uses, known_swaps}
 use Rattle.constants_anywhere.proofs.UsesStand.{files_use, files_swap}
-use Rattle.constant_modules.specs.NamedAnywhere.Use.{NamedUseAnywhere, PartsStand}
-use Rattle.constant_modules.proofs.NamedAnywhere.UsesKnown.{ImportsSound, imports_sound_there, old_name, use_imports, old_before, use_before, use_after}
+use Rattle.constant_modules.specs.NamedAnywhere.Use.{NamedUseAnywhere, PartsStand, ConstantUse, PackagesStandAnywhere}
+use Rattle.constant_modules.proofs.NamedAnywhere.UsesKnown.{ImportsSound, imports_sound_there, old_name, use_imports, old_before, use_before, use_after, stand_beside}
 
-module _ {S : Type 0} (same : S → S → Bool) (commented : ℕ → ℕ → S → Bool) (rs : List (Package S)) (marks : List MarkRef) (x : Site S) (u : NamedUse same commented rs marks x) (v : NamedUseAnywhere same commented rs marks x u) (ps more : Program S) (a : PackagesStand same commented rs marks x u ps) where
+module _ {S : Type 0} (same : S → S → Bool) (commented : ℕ → ℕ → S → Bool) (rs : List (Package S)) (marks : List MarkRef) (x : Site S) (u : ConstantUse same commented rs marks x) (v : NamedUseAnywhere same commented rs marks x u) (ps more : Program S) (a : PackagesStandAnywhere same commented rs marks x u ps) where
   abbrev z : S
   z = part_span x.part
 
@@ -35,7 +33,7 @@ module _ {S : Type 0} (same : S → S → Bool) (commented : ℕ → ℕ → S �
   abbrev p : SourcePackage S
   p = linked_at rs x.at a.use_.at
 
-  abbrev beside : PackagesStand same commented rs marks x u (ps ++ more)
+  abbrev beside : PackagesStandAnywhere same commented rs marks x u (ps ++ more)
   beside = stand_beside same commented rs marks x u ps more a
 
   abbrev HeadersTyped : Type 0

@@ -6,7 +6,7 @@ use Rattle.run_rules.specs.Programs.{linked}
 use Rattle.run_rules.specs.Sites.{MarkRef}
 use Rattle.run_rules.specs.Steps.{same_here}
 use Rattle.run_rules.specs.Respanned.{packages_with}
-use Rattle.run_rules.specs.Run.{Standing, Logged, Next, Run, ends, goes_on, here_of}
+use Rattle.run_rules.specs.Run.{Standing, Logged, Next, Run, ends, goes_on, here_of, is_commented}
 use Rattle.run_rules.specs.Inlining.{standing_as_read}
 use Rattle.order_runs.specs.RunSteps.RunPackages.{members_of, packages_of}
 use Rattle.order_runs.proofs.OrderedSteps.{program-means}
@@ -23,17 +23,19 @@ use Rattle.printed_constants.proofs.TypedParts.MarkedRuns.ReadyModules.Typed.{li
 use Rattle.constant_modules.specs.NamedAnywhere.Marked.{AllTakeAnywhere}
 use Rattle.constant_modules.specs.NamedAnywhere.MarkedLaws.{RunsAnywhereKeep, RunsAnywhereInline}
 use Rattle.constant_modules.specs.NamedAnywhere.Taken.{site_there, TakesNameAnywhere, EachTakesAnywhere}
+use Rattle.constant_modules.proofs.NamedAnywhere.OwnExpressions.{as_use}
 use Rattle.constant_modules.proofs.NamedAnywhere.PartsKnown.{simple_stand}
 use Rattle.constant_modules.proofs.NamedAnywhere.TakenRuns.{typed-next, module-keeps}
 
 module _ (marks : List MarkRef) (st : Standing) (l : Logged) (after : Standing) (n : Next marks st l after) where
   -- a step whose parts are simple
   pub simple-takes : TakesName n → TakesNameAnywhere n
+  unfolding as_use
   simple-takes h = record {
     there =
         record {
           place = h.place;
-          use_ = h.use_;
+          use_ = as_use same_here (is_commented st) (packages_added st.packages n.found) marks (site_there n.found h.place) h.use_;
           stands =
               record {
                 package_there = h.stands.package_there;
@@ -42,7 +44,6 @@ module _ (marks : List MarkRef) (st : Standing) (l : Logged) (after : Standing) 
                 decl_there = h.stands.decl_there;
                 plain = h.stands.plain;
                 home_plain = h.stands.home_plain;
-                new_plain = h.stands.new_plain;
                 alone = h.stands.alone;
               };
           parts = λ Q w s k at. simple_stand same_here (packages_added st.packages n.found) (site_there n.found h.place) h.use_.new h.stands.decl k (linked (packages_added st.packages n.found)) (sources Q) h.stands.simple;

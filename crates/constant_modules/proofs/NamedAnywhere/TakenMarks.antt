@@ -67,7 +67,6 @@ module _ (sound : AddedImportsMayBeDeclared) (marks : List MarkRef) (st : Standi
     decl_there = here.decl_is;
     plain = h.plain;
     home_plain = h.home_plain;
-    new_plain = h.new_plain;
     alone = alone-there marks st l after n ready.reads h.place h.used_as h.use_.use_ h.use_.part here.decl here.decl_is (h.there here.decl here.decl_is);
   }
 

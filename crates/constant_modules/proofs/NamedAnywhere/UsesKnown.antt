@@ -2,17 +2,18 @@
 use Rattle.std.specs.Prelude.{◌≡◌, refl, ℕ, Bool, true, false, List, [], ◌++◌, map, Option, Some, None, if◌then◌else◌, nat_eq, slice_get}
 use mathlib.Core.Path.{ap, sym, ◌∙◌, subst}
 use Rattle.std.proofs.Common.{arith}
-use Rattle.go_tree.specs.Tree.{NameAt, TypeExpr, Expr, ident, selector}
+use Rattle.go_tree.specs.Tree.{NameAt, Expr, ident, selector}
 use Rattle.go_tree.specs.File.{File}
-use Rattle.go_tree.specs.ScopeNames.Means.{means}
+use Rattle.go_tree.specs.ScopeNames.Means.{means, is_blank}
 use Rattle.pkg_graph.specs.Package.{Package, import_specs}
 use Rattle.pkg_graph.specs.Members.{Target, imported, member, import_name}
 use Rattle.go_tree.specs.GoTypes.Answers.{given, otherwise}
-use Rattle.go_tree.specs.GoTypes.Entities.{World}
-use Rattle.go_tree.specs.GoTypes.Programs.{SourcePackage, Program, file_block, block_names, is_init}
-use Rattle.go_tree.specs.GoTypes.Collect.{file_env}
+use Rattle.go_tree.specs.GoTypes.Entities.{World, block_of}
+use Rattle.go_tree.specs.GoTypes.Programs.{SourcePackage, Program, headed, file_block, block_names, is_init}
+use Rattle.go_tree.specs.GoTypes.Collect.{file_env, valued_world}
 use Rattle.go_tree.specs.GoTypes.WellTyped.{well_typed}
 use Rattle.go_tree.proofs.GoTypes.Agreeing.{from_given, some_same}
+use Rattle.typed_in_place.specs.Declared.{ConstantOrRefused}
 use Rattle.typed_in_place.specs.ImportRule.{imports_sound}
 use Rattle.typed_in_place.specs.ProgramReplaced.{ValuesEnd}
 use Rattle.run_rules.specs.Surroundings.{Place, Use}
@@ -23,20 +24,23 @@ use Rattle.run_rules.specs.FormTrees.{as_expr}
 use Rattle.run_rules.specs.Steps.{changes_for}
 use Rattle.constant_steps.specs.StepLaws.ConstantSteps.{constant_put}
 use Rattle.constant_steps.specs.StepLaws.ConstantUses.{UseOfConstant}
-use Rattle.constant_steps.specs.Alone.{block_from, PackageAt}
+use Rattle.constant_steps.specs.Alone.{PlainFiles, block_from, PackageAt}
 use Rattle.constant_steps.proofs.StepLaws.Swapping.{written-same}
-use Rattle.constant_steps.specs.PlainUse.{linked_at, type_marked}
+use Rattle.constant_steps.specs.PlainUse.{linked_at}
 use Rattle.constant_steps.proofs.AfterStep.{package_beside, plain_file, plain_decl}
+use Rattle.literal_steps.proofs.FirstFunctions.{spelled_found}
 use Rattle.constant_steps.proofs.MarksFound.{StandsThere, stands_there, nth_mapped}
 use Rattle.constant_steps.proofs.NamesOutside.{equal_numbers}
 use Rattle.constant_steps.specs.QualifiedSteps.MemberNames.{member_name, NamesMember, own_member, imported_member}
-use Rattle.constant_steps.specs.QualifiedSteps.NamedUse.{NamedUse, PackageStands, PackagesStand}
+use Rattle.constant_steps.specs.QualifiedSteps.NamedUse.{PackageStands}
 use Rattle.constant_steps.proofs.QualifiedSteps.Targets.{numbered_import}
 use Rattle.constant_steps.proofs.QualifiedSteps.MembersNamed.{ByImport, by_import, OwnName, own_name, named_in_home}
-use Rattle.constant_modules.specs.NamedAnywhere.Use.{NamedUseAnywhere}
+use Rattle.constant_modules.specs.NamedAnywhere.Use.{NamedUseAnywhere, ConstantUse, PackagesStandAnywhere}
+use Rattle.constant_modules.proofs.ConstantNames.MemberUses.{member_use}
 use Rattle.constant_modules.proofs.NamedAnywhere.FormsNamed.{home_at, NewNamed, new_named}
+use Rattle.constant_modules.proofs.NamedAnywhere.NewDeclared.{meant_before, meant_after}
 use Rattle.constant_steps.proofs.QualifiedSteps.PackagesAfter.{one_place, after, package_then, TextThen, text_stays, text_changes, decl_text_seen}
-use Rattle.constant_steps.proofs.QualifiedSteps.UsesMeant.{TextNamed, use_known}
+use Rattle.constant_steps.proofs.QualifiedSteps.UsesMeant.{DeclaredIn, TextNamed}
 use Rattle.constant_steps.proofs.QualifiedSteps.Declared.{sound_there, MarkedAt, marked_at, not_init, DeclaredBefore, declared_before, DeclaredThen, declared_then}
 
 -- files with the same numbers are one
@@ -61,7 +65,7 @@ file_number rs m w e =
     let b = from_given (slice_get (a.0).files m.file) (λ f. Some (record { number = m.«package»; of = a.0; file_number = m.file; source = f })) w a.2 in
     sym (ap (λ w. w.file_number) (some_same (record { number = m.«package»; of = a.0; file_number = m.file; source = b.0 }) w b.2))
 
-module _ {S : Type 0} (same : S → S → Bool) (commented : ℕ → ℕ → S → Bool) (rs : List (Package S)) (marks : List MarkRef) (x : Site S) (u : NamedUse same commented rs marks x) (v : NamedUseAnywhere same commented rs marks x u) where
+module _ {S : Type 0} (same : S → S → Bool) (commented : ℕ → ℕ → S → Bool) (rs : List (Package S)) (marks : List MarkRef) (x : Site S) (u : ConstantUse same commented rs marks x) (v : NamedUseAnywhere same commented rs marks x u) where
   abbrev z : S
   z = part_span x.part
 
@@ -95,11 +99,8 @@ module _ {S : Type 0} (same : S → S → Bool) (commented : ℕ → ℕ → S �
   pub old_marked : MarkedAt u.home x.mark u.constant None u.text
   old_marked = marked_at rs u.home x.mark u.constant None u.text u.home_is u.declared u.untyped
 
-  abbrev pub new_type : Option (TypeExpr S)
-  new_type = type_marked rs u.new_mark
-
-  pub new_marked : MarkedAt u.new_home u.new_mark u.new_constant new_type u.new_text
-  new_marked = marked_at rs u.new_home u.new_mark u.new_constant new_type u.new_text u.new_home_is u.new_declared refl
+  new_spelled : is_blank new_name ≡ false
+  new_spelled = spelled_found u.new_home.number 0 (map (linked_file rs) u.new_home.of.files) new_name (member u.new_home.number u.new_mark.file u.new_mark.decl u.new_mark.item) new_block
 
   abbrev pub use_imports : List (List ℕ)
   use_imports = block_names (map (linked_file rs) x.at.of.files)
@@ -112,20 +113,64 @@ module _ {S : Type 0} (same : S → S → Bool) (commented : ℕ → ℕ → S �
     pub use_ : imports_sound use_imports [] (linked_imports rs x.at.source.tree) ≡ true
     pub home : imports_sound home_imports [] (linked_imports rs u.home.source.tree) ≡ true
 
-  pub imports_sound_there : (ps : Program S) → PackagesStand same commented rs marks x u ps → well_typed ps ≡ true → ImportsSound
+  pub imports_sound_there : (ps : Program S) → PackagesStandAnywhere same commented rs marks x u ps → well_typed ps ≡ true → ImportsSound
   imports_sound_there ps a well = record {
     use_ = sound_there ps (linked_at rs x.at a.use_.at) a.use_.nth x.at.file_number (linked_file rs x.at.source) well a.use_.there (nth_mapped (linked_file rs) x.at.of.files x.at.file_number x.at.source v.file_there);
     home = sound_there ps (linked_at rs u.home a.home.at) a.home.nth x.mark.file (linked_file rs u.home.source) well a.home.there (nth_mapped (linked_file rs) u.home.of.files x.mark.file u.home.source home_stands.file_there);
   }
 
+  -- ---- in a program
+
+  module _ (ps : Program S) where
+    -- what the constant is declared as means a constant, or is refused
+    abbrev NewMeant : Type 0
+    NewMeant = ConstantOrRefused (means (block_of (valued_world ps (headed ps)).blocks u.new_home.number) new_name)
+
+    -- a use of the constant where its text names what it is declared as
+    known_use : (text : Expr S) (d : DeclaredIn rs ps u.home old_name u.constant None text) → d.members ≡ home_imports → TextNamed rs u.home u.new_mark new_name text → NewMeant → ImportsSound → is_init old_name ≡ false → (w : World) → ValuesEnd ps w
+        → UseOfConstant ps d.header u.constant text w (file_env w x.at.number (file_block use_imports [] (linked_imports rs x.at.source.tree)) None) x.place u.use_ u.new
+    known_use text d members t known sound init w ended =
+        member_use rs ps w ended x.at x.place u.use_ u.new
+        (record {
+          members = use_imports;
+          may_be_declared = sound.use_;
+          mark = x.mark;
+          names = u.names;
+          spelled = d.spelled;
+          not_init = init;
+          home = u.home;
+          number = sym home_stands.number;
+          constant = u.constant;
+          text = text;
+          declared =
+              record {
+                header = d.header;
+                constant = d.constant;
+                first = d.first;
+                home_is = d.home;
+                members = d.members;
+                imports = d.imports;
+                may_be_declared = ap (λ ms. imports_sound ms [] (linked_imports rs u.home.source.tree)) members ∙ sound.home;
+                sound = d.sound;
+                in_program = d.in_program;
+              };
+          new_mark = u.new_mark;
+          new_names = put_named.names;
+          new_spelled = new_spelled;
+          there = t.place;
+          text_names = t.names;
+          same_name = t.same_name;
+          known = subst (λ k. ConstantOrRefused (means (block_of (valued_world ps (headed ps)).blocks k) new_name)) new_home_stands.number known;
+        })
+
   -- ---- before the step
 
-  module _ (ps : Program S) (a : PackagesStand same commented rs marks x u ps) where
+  module _ (ps : Program S) (a : PackagesStandAnywhere same commented rs marks x u ps) where
     pub old_before : DeclaredBefore rs u.home a.home.at x.mark old_name u.constant None u.text old_marked v.home_plain old_block ps
     old_before = declared_before rs u.home a.home.at x.mark old_name u.constant None u.text old_marked v.home_plain old_block a.home.nth ps a.home.there
 
-    pub new_before : DeclaredBefore rs u.new_home a.new_home.at u.new_mark new_name u.new_constant new_type u.new_text new_marked v.new_plain new_block ps
-    new_before = declared_before rs u.new_home a.new_home.at u.new_mark new_name u.new_constant new_type u.new_text new_marked v.new_plain new_block a.new_home.nth ps a.new_home.there
+    new_before : NewMeant ps
+    new_before = meant_before rs u.new_home a.new_home.at u.new_mark new_name u.new_span u.new_grouped u.new_specs new_home_stands.file_there u.new_declared new_block a.new_home.nth ps a.new_home.there
 
     pub plainly : well_typed ps ≡ true → is_init old_name ≡ false
     plainly well = not_init rs ps u.home old_name u.constant u.text old_before.declared well
@@ -134,8 +179,7 @@ module _ {S : Type 0} (same : S → S → Bool) (commented : ℕ → ℕ → S �
     text_named = record { place = home_at same commented rs marks x u; names = u.text_names; same_name = sym put_named.same_name }
 
     pub use_before : ImportsSound → is_init old_name ≡ false → (w : World) → ValuesEnd ps w → UseOfConstant ps old_before.declared.header u.constant u.text w (file_env w x.at.number (file_block use_imports [] (linked_imports rs x.at.source.tree)) None) x.place u.use_ u.new
-    use_before sound init w ended =
-        use_known rs ps w ended x.at u.home u.new_home x.place x.mark u.new_mark u.constant u.new_constant new_type u.use_ u.new u.text u.new_text use_imports sound.use_ u.names put_named.names (sym home_stands.number) (sym new_home_stands.number) old_before.declared (ap (λ ms. imports_sound ms [] (linked_imports rs u.home.source.tree)) old_before.members_are ∙ sound.home) new_before.declared text_named init
+    use_before sound init w ended = known_use ps u.text old_before.declared old_before.members_are text_named new_before sound init w ended
 
   -- ---- after it
 
@@ -202,7 +246,7 @@ module _ {S : Type 0} (same : S → S → Bool) (commented : ℕ → ℕ → S �
   text_then b _ f text_stays = was_named
   text_then b _ f (text_changes p us q m n) = changed_text p us u.text_names refl (home_is_use (f q) m) n
 
-  module _ (ps more : Program S) (a : PackagesStand same commented rs marks x u ps) where
+  module _ (ps more : Program S) (a : PackagesStandAnywhere same commented rs marks x u ps) where
     abbrev qs : Program S
     qs = constant_put same rs z u.new x.at.number x.at.of tree a.use_.nth M N ps ++ more
 
@@ -217,12 +261,25 @@ module _ {S : Type 0} (same : S → S → Bool) (commented : ℕ → ℕ → S �
         declared_then rs u.home a.home.at x.mark old_name u.constant None u.text old_marked v.home_plain old_block same puts x.at.number x.at.of tree M N (written-same same z u.new) (here a.home) a.home.nth qs
         (package_beside (after same rs puts x.at.number x.at.of tree (here a.home) M N (linked_at rs u.home a.home.at)) a.home.nth more (package_then same rs puts x.at.number x.at.of tree (linked_at rs u.home a.home.at) a.home.nth a.use_.nth M N a.home.there (here a.home) refl))
 
-    new_after : DeclaredThen rs u.new_home a.new_home.at u.new_mark new_name u.new_constant new_type u.new_text new_marked v.new_plain new_block same puts x.at.number x.at.of tree M N (nat_eq a.new_home.nth a.use_.nth) qs
+    -- where the package of what the constant is declared as changes it is that of the use
+    new_plain : nat_eq a.new_home.nth a.use_.nth ≡ true → PlainFiles (map (linked_file rs) u.new_home.of.files)
+    new_plain e =
+        subst (λ (p : SourcePackage S). PlainFiles p.files)
+        (sym (one_place (linked_at rs u.new_home a.new_home.at) (linked_at rs x.at a.use_.at) a.use_.nth (subst (λ j. PackageAt (linked_at rs u.new_home a.new_home.at) j ps) (equal_numbers a.new_home.nth a.use_.nth e) a.new_home.there) a.use_.there))
+        v.plain
+
+    new_after : NewMeant qs
     new_after =
-        declared_then rs u.new_home a.new_home.at u.new_mark new_name u.new_constant new_type u.new_text new_marked v.new_plain new_block same puts x.at.number x.at.of tree M N (written-same same z u.new) (nat_eq a.new_home.nth a.use_.nth) a.new_home.nth qs
+        meant_after rs u.new_home a.new_home.at u.new_mark new_name u.new_span u.new_grouped u.new_specs new_home_stands.file_there u.new_declared new_block same puts x.at.number x.at.of tree M N (nat_eq a.new_home.nth a.use_.nth) new_plain a.new_home.nth qs
         (package_beside (after same rs puts x.at.number x.at.of tree (nat_eq a.new_home.nth a.use_.nth) M N (linked_at rs u.new_home a.new_home.at)) a.new_home.nth more (package_then same rs puts x.at.number x.at.of tree (linked_at rs u.new_home a.new_home.at) a.new_home.nth a.use_.nth M N a.new_home.there (nat_eq a.new_home.nth a.use_.nth) refl))
 
     pub use_after : ImportsSound → is_init old_name ≡ false → (w : World) → ValuesEnd qs w → UseOfConstant qs old_after.declared.header u.constant old_after.text w (file_env w x.at.number (file_block use_imports [] (linked_imports rs x.at.source.tree)) None) x.place u.use_ u.new
-    use_after sound init w ended =
-        use_known rs qs w ended x.at u.home u.new_home x.place x.mark u.new_mark u.constant u.new_constant new_type u.use_ u.new old_after.text new_after.text use_imports sound.use_ u.names put_named.names (sym home_stands.number) (sym new_home_stands.number) old_after.declared
-        (ap (λ ms. imports_sound ms [] (linked_imports rs u.home.source.tree)) old_after.members_are ∙ sound.home) new_after.declared (text_then (here a.home) old_after.text in_use old_after.text_then) init
+    use_after sound init w ended = known_use qs old_after.text old_after.declared old_after.members_are (text_then (here a.home) old_after.text in_use old_after.text_then) new_after sound init w ended
+
+-- further packages stand behind
+pub stand_beside : {S : Type 0} (same : S → S → Bool) (commented : ℕ → ℕ → S → Bool) (rs : List (Package S)) (marks : List MarkRef) (x : Site S) (u : ConstantUse same commented rs marks x) (ps more : Program S) → PackagesStandAnywhere same commented rs marks x u ps → PackagesStandAnywhere same commented rs marks x u (ps ++ more)
+stand_beside same commented rs marks x u ps more a = record {
+  use_ = record { at = a.use_.at; nth = a.use_.nth; there = package_beside (linked_at rs x.at a.use_.at) a.use_.nth more a.use_.there };
+  home = record { at = a.home.at; nth = a.home.nth; there = package_beside (linked_at rs u.home a.home.at) a.home.nth more a.home.there };
+  new_home = record { at = a.new_home.at; nth = a.new_home.nth; there = package_beside (linked_at rs u.new_home a.new_home.at) a.new_home.nth more a.new_home.there };
+}

@@ -1,6 +1,6 @@
 -- The laws of the imports of a program after a step over a constant. Each is the contract of a function of this crate
 -- (Go specification, Import declarations; Constant declarations; Declarations and scope).
-use Rattle.std.specs.Prelude.{◌≡◌, ◌≤◌, ℕ, true, false, List, [], ◌++◌, Some, slice_get}
+use Rattle.std.specs.Prelude.{◌≡◌, ◌≤◌, ℕ, true, false, List, [], Some, slice_get}
 use Rattle.go_tree.specs.Tree.{Expr}
 use Rattle.go_tree.specs.File.{ImportSpec}
 use Rattle.go_tree.specs.ScopeNames.Means.{is_blank}

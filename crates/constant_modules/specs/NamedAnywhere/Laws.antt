@@ -18,13 +18,11 @@ use Rattle.constant_steps.specs.StepLaws.ConstantSteps.{ImportsRight}
 use Rattle.constant_steps.specs.StepLaws.ConstantSwaps.{ConstantSwaps}
 use Rattle.constant_steps.specs.Alone.{PackageAt}
 use Rattle.constant_steps.specs.PlainUse.{linked_at, AllSimple}
-use Rattle.constant_steps.specs.QualifiedSteps.ImportsStay.{ImportsStay}
 use Rattle.constant_steps.specs.QualifiedSteps.MemberNames.{member_name, NamesMember}
-use Rattle.constant_steps.specs.QualifiedSteps.NamedRuns.{found_named, named_members}
-use Rattle.constant_steps.specs.QualifiedSteps.NamedUse.{NamedUse, PackagesStand}
 use Rattle.imported_typing.specs.Further.{in_order}
-use Rattle.constant_modules.specs.NamedAnywhere.Runs.{NamedRunAnywhere}
-use Rattle.constant_modules.specs.NamedAnywhere.Use.{NamedUseAnywhere, PartsStand, parts_there}
+use Rattle.constant_modules.specs.NamedAnywhere.Runs.{NamedRunAnywhere, found_anywhere, members_anywhere}
+use Rattle.constant_modules.specs.NamedAnywhere.Use.{ConstantUse, NamedUseAnywhere, PackagesStandAnywhere}
+use Rattle.constant_modules.specs.NamedAnywhere.Use.{ImportsStayAnywhere, PartsStand, parts_there}
 
 -- ---- what is known of parts
 
@@ -40,7 +38,7 @@ SimpleNamedPartsAreKnown =
 abbrev pub TypedNamedPartsAreKnown : Type 0
 TypedNamedPartsAreKnown =
     (same : Span → Span → Bool) (commented : ℕ → ℕ → Span → Bool) (rs : List (Package Span)) (marks : List MarkRef)
-    (x : Site Span) (u : NamedUse same commented rs marks x) (v : NamedUseAnywhere same commented rs marks x u)
+    (x : Site Span) (u : ConstantUse same commented rs marks x) (v : NamedUseAnywhere same commented rs marks x u)
     (s : Span) (k : ℕ) (more : Program Span) → PackageAt (linked_at rs x.at s) k (linked rs) →
     in_order (linked rs ++ more) ≡ true → well_typed (linked rs ++ more) ≡ true →
     PartsStand same rs x u.new v.decl k (linked rs) more
@@ -51,7 +49,7 @@ TypedNamedPartsAreKnown =
 abbrev pub NamedFormsAreNames : Type 0
 NamedFormsAreNames =
     (same : Span → Span → Bool) (commented : ℕ → ℕ → Span → Bool) (rs : List (Package Span)) (marks : List MarkRef)
-    (x : Site Span) (u : NamedUse same commented rs marks x) →
+    (x : Site Span) (u : ConstantUse same commented rs marks x) →
     NamesMember rs x.at x.place u.new u.new_mark × (member_name u.new ≡ member_name u.text) ×
     (u.range ≡ part_span x.part)
 
@@ -60,9 +58,9 @@ NamedFormsAreNames =
 abbrev pub KnownNamedPartsMeanConstants : Type 0
 KnownNamedPartsMeanConstants =
     (same : Span → Span → Bool) (commented : ℕ → ℕ → Span → Bool) (rs : List (Package Span)) (marks : List MarkRef)
-    (x : Site Span) (u : NamedUse same commented rs marks x) (v : NamedUseAnywhere same commented rs marks x u)
-    (ps more : Program Span) (a : PackagesStand same commented rs marks x u ps) → well_typed (ps ++ more) ≡ true →
-    PartsStand same rs x u.new v.decl a.use_.nth ps more →
+    (x : Site Span) (u : ConstantUse same commented rs marks x) (v : NamedUseAnywhere same commented rs marks x u)
+    (ps more : Program Span) (a : PackagesStandAnywhere same commented rs marks x u ps) →
+    well_typed (ps ++ more) ≡ true → PartsStand same rs x u.new v.decl a.use_.nth ps more →
     ConstantSwaps same rs (part_span x.part) u.new x.at.number x.at.of x.at.source.tree more a.use_.nth
     x.at.file_number x.decl ps
 
@@ -70,10 +68,10 @@ KnownNamedPartsMeanConstants =
 abbrev pub KnownNamedPartsKeepImports : Type 0
 KnownNamedPartsKeepImports =
     (same : Span → Span → Bool) (commented : ℕ → ℕ → Span → Bool) (rs : List (Package Span)) (marks : List MarkRef)
-    (x : Site Span) (u : NamedUse same commented rs marks x) (v : NamedUseAnywhere same commented rs marks x u)
-    (ms Q : List (translated.Package Span)) (a : PackagesStand same commented rs marks x u (sources ms)) →
+    (x : Site Span) (u : ConstantUse same commented rs marks x) (v : NamedUseAnywhere same commented rs marks x u)
+    (ms Q : List (translated.Package Span)) (a : PackagesStandAnywhere same commented rs marks x u (sources ms)) →
     are_well_typed (ms ++ Q) ≡ true → PartsStand same rs x u.new v.decl a.use_.nth (sources ms) (sources Q) →
-    ImportsStay same commented rs marks x u a.use_.nth (sources ms) (sources Q) →
+    ImportsStayAnywhere same commented rs marks x u a.use_.nth (sources ms) (sources Q) →
     ImportsRight same rs (part_span x.part) u.new x.at.number x.at.of x.at.source.tree a.use_.nth x.at.file_number
     x.decl (sources ms) (sources Q)
 
@@ -81,24 +79,24 @@ KnownNamedPartsKeepImports =
 abbrev pub KnownNamedPartsMeanTheSame : Type 0
 KnownNamedPartsMeanTheSame =
     (same : Span → Span → Bool) (commented : ℕ → ℕ → Span → Bool) (rs : List (Package Span)) (marks : List MarkRef)
-    (x : Site Span) (u : NamedUse same commented rs marks x) (v : NamedUseAnywhere same commented rs marks x u)
-    (P : Packages Span) (a : PackagesStand same commented rs marks x u (sources P.members)) →
+    (x : Site Span) (u : ConstantUse same commented rs marks x) (v : NamedUseAnywhere same commented rs marks x u)
+    (P : Packages Span) (a : PackagesStandAnywhere same commented rs marks x u (sources P.members)) →
     ((Q : List (translated.Package Span)) → WellTyped (with_further P Q) →
     PartsStand same rs x u.new v.decl a.use_.nth (sources P.members) (sources Q)) →
     ((Q : List (translated.Package Span)) → WellTyped (with_further P Q) →
-    ImportsStay same commented rs marks x u a.use_.nth (sources P.members) (sources Q)) →
-    SameMeaning P (record P { members = named_members same commented rs marks x u a.use_.nth P.members })
+    ImportsStayAnywhere same commented rs marks x u a.use_.nth (sources P.members) (sources Q)) →
+    SameMeaning P (record P { members = members_anywhere same commented rs marks x u a.use_.nth P.members })
 
 -- Where the packages before are what the packages of the run are linked to, those after are what the packages with the
 -- form in the use's place are linked to.
 abbrev pub NamedStepsAnywhereLink : Type 0
 NamedStepsAnywhereLink =
     (same : Span → Span → Bool) (commented : ℕ → ℕ → Span → Bool) (rs : List (Package Span)) (marks : List MarkRef)
-    (x : Site Span) (u : NamedUse same commented rs marks x) → NamedUseAnywhere same commented rs marks x u →
-    (ms : List (translated.Package Span)) (a : PackagesStand same commented rs marks x u (sources ms)) →
+    (x : Site Span) (u : ConstantUse same commented rs marks x) → NamedUseAnywhere same commented rs marks x u →
+    (ms : List (translated.Package Span)) (a : PackagesStandAnywhere same commented rs marks x u (sources ms)) →
     sources ms ≡ linked rs → are_distinct ms ≡ true →
-    sources (named_members same commented rs marks x u a.use_.nth ms) ≡
-    linked (packages_between same commented rs marks (found_named same commented rs marks x u))
+    sources (members_anywhere same commented rs marks x u a.use_.nth ms) ≡
+    linked (packages_between same commented rs marks (found_anywhere same commented rs marks x u))
 
 -- ---- steps in declarations with literals and groups of constants
 
@@ -107,8 +105,8 @@ NamedStepsAnywhereLink =
 abbrev pub NamedUsesAnywhereMeanConstants : Type 0
 NamedUsesAnywhereMeanConstants =
     (same : Span → Span → Bool) (commented : ℕ → ℕ → Span → Bool) (rs : List (Package Span)) (marks : List MarkRef)
-    (x : Site Span) (u : NamedUse same commented rs marks x) (v : NamedUseAnywhere same commented rs marks x u)
-    (more : Program Span) (a : PackagesStand same commented rs marks x u (linked rs)) →
+    (x : Site Span) (u : ConstantUse same commented rs marks x) (v : NamedUseAnywhere same commented rs marks x u)
+    (more : Program Span) (a : PackagesStandAnywhere same commented rs marks x u (linked rs)) →
     in_order (linked rs ++ more) ≡ true → well_typed (linked rs ++ more) ≡ true →
     ConstantSwaps same rs (part_span x.part) u.new x.at.number x.at.of x.at.source.tree more a.use_.nth
     x.at.file_number x.decl (linked rs)
@@ -117,10 +115,10 @@ NamedUsesAnywhereMeanConstants =
 abbrev pub NamedUsesAnywhereKeepImports : Type 0
 NamedUsesAnywhereKeepImports =
     (same : Span → Span → Bool) (commented : ℕ → ℕ → Span → Bool) (rs : List (Package Span)) (marks : List MarkRef)
-    (x : Site Span) (u : NamedUse same commented rs marks x) (v : NamedUseAnywhere same commented rs marks x u)
-    (ms Q : List (translated.Package Span)) (a : PackagesStand same commented rs marks x u (sources ms)) →
+    (x : Site Span) (u : ConstantUse same commented rs marks x) (v : NamedUseAnywhere same commented rs marks x u)
+    (ms Q : List (translated.Package Span)) (a : PackagesStandAnywhere same commented rs marks x u (sources ms)) →
     sources ms ≡ linked rs → are_well_typed (ms ++ Q) ≡ true →
-    ImportsStay same commented rs marks x u a.use_.nth (sources ms) (sources Q) →
+    ImportsStayAnywhere same commented rs marks x u a.use_.nth (sources ms) (sources Q) →
     ImportsRight same rs (part_span x.part) u.new x.at.number x.at.of x.at.source.tree a.use_.nth x.at.file_number
     x.decl (sources ms) (sources Q)
 
@@ -128,12 +126,12 @@ NamedUsesAnywhereKeepImports =
 abbrev pub NamedUsesAnywhereMeanTheSame : Type 0
 NamedUsesAnywhereMeanTheSame =
     (same : Span → Span → Bool) (commented : ℕ → ℕ → Span → Bool) (rs : List (Package Span)) (marks : List MarkRef)
-    (x : Site Span) (u : NamedUse same commented rs marks x) (v : NamedUseAnywhere same commented rs marks x u)
-    (P : Packages Span) (a : PackagesStand same commented rs marks x u (sources P.members)) →
+    (x : Site Span) (u : ConstantUse same commented rs marks x) (v : NamedUseAnywhere same commented rs marks x u)
+    (P : Packages Span) (a : PackagesStandAnywhere same commented rs marks x u (sources P.members)) →
     sources P.members ≡ linked rs →
     ((Q : List (translated.Package Span)) → WellTyped (with_further P Q) →
-    ImportsStay same commented rs marks x u a.use_.nth (sources P.members) (sources Q)) →
-    SameMeaning P (record P { members = named_members same commented rs marks x u a.use_.nth P.members })
+    ImportsStayAnywhere same commented rs marks x u a.use_.nth (sources P.members) (sources Q)) →
+    SameMeaning P (record P { members = members_anywhere same commented rs marks x u a.use_.nth P.members })
 
 -- So do the packages after any number of such steps, one after the other.
 abbrev pub NamedRunsAnywhereMeanTheSame : Type 0

@@ -12,7 +12,6 @@ use Rattle.run_rules.specs.Steps.{At, same_here}
 use Rattle.run_rules.specs.Surroundings.{Use, Place, seen}
 use Rattle.run_rules.specs.Run.{Standing, Logged, Next, Run, ends, goes_on, is_commented}
 use Rattle.constant_steps.specs.Alone.{PlainFiles}
-use Rattle.constant_steps.specs.QualifiedSteps.NamedUse.{NamedUse}
 use Rattle.order_runs.specs.CycleRuns.ImportCycles.ImportSteps.{packages_added, where_added}
 use Rattle.order_runs.specs.ImportCodes.PackagesMoved.{ImportsStand}
 use Rattle.order_runs.specs.RunSteps.RunPackages.{members_of, packages_of}
@@ -20,6 +19,7 @@ use Rattle.printed_constants.specs.TypedParts.MarkedRuns.KeptMarks.Over.{IsOverN
 use Rattle.printed_constants.specs.TypedParts.MarkedRuns.Marked.{decl_there}
 use Rattle.printed_constants.specs.TypedParts.MarkedRuns.SettledConstants.Programs.{IsOverConstant, PutsOtherName}
 use Rattle.constant_modules.specs.NamedAnywhere.Taken.{site_there, TakesNameAnywhere}
+use Rattle.constant_modules.specs.NamedAnywhere.Use.{ConstantUse}
 
 -- Each step of a run is over a constant that is declared as a name, puts another name of it, and takes that name.
 abbrev pub AllTakeAnywhere : {marks : List MarkRef} {st last : Standing} {log : List Logged} → Run marks st log last
@@ -29,18 +29,19 @@ AllTakeAnywhere (goes_on st next last l log n run) =
     IsOverConstant n × (PutsOtherName n × (TakesNameAnywhere n × AllTakeAnywhere run))
 
 -- What marked_runs asks of a step (`StandsAdded`), but that nothing is asked of the parts of the declaration of the
--- use, nor of the imports at last.
+-- use, and of what the constant is declared as only that a declaration of constants declares it; nor that the imports
+-- are right at last.
 pub record StandsNamedThere {marks : List MarkRef} {st : Standing} {l : Logged} {after : Standing}
     (n : Next marks st l after) : Type 0 where
   pub place : Place At
-  pub use_ : NamedUse same_here (is_commented st) (packages_added st.packages n.found) marks (site_there n.found place)
+  pub use_ :
+      ConstantUse same_here (is_commented st) (packages_added st.packages n.found) marks (site_there n.found place)
   pub used_as : Use
   pub there :
       (d : Decl At) → slice_get n.found.site.at.source.tree.decls n.found.site.decl ≡ Some d
       → Contains (decl_there n d) (seen place used_as use_.use_)
   pub plain : PlainFiles (map (linked_file (packages_added st.packages n.found)) (where_added n.found).of.files)
   pub home_plain : PlainFiles (map (linked_file (packages_added st.packages n.found)) use_.home.of.files)
-  pub new_plain : PlainFiles (map (linked_file (packages_added st.packages n.found)) use_.new_home.of.files)
   pub form : n.found.form ≡ as_expr use_.new
 
 -- And the imports are right at last.

@@ -13,13 +13,12 @@ use Rattle.run_rules.specs.Surroundings.{Place}
 use Rattle.run_rules.specs.Run.{Standing, Logged, Next, Run, ends, goes_on, is_commented}
 use Rattle.constant_steps.specs.Alone.{PackageAt}
 use Rattle.constant_steps.specs.PlainUse.{linked_at}
-use Rattle.constant_steps.specs.QualifiedSteps.NamedUse.{NamedUse}
 use Rattle.order_runs.specs.CycleRuns.ImportCycles.ImportSteps.{packages_added, where_added}
 use Rattle.order_runs.specs.CycleRuns.OrderCycles.Steps.{KeepsImportLookUps}
 use Rattle.order_runs.specs.ImportCodes.PackagesMoved.{ImportsStand}
 use Rattle.order_runs.specs.ImportSteps.ImportingSteps.{MayBeDeclared}
 use Rattle.order_runs.specs.RunSteps.RunPackages.{members_of, packages_of}
-use Rattle.constant_modules.specs.NamedAnywhere.Use.{NamedUseAnywhere, PartsStand}
+use Rattle.constant_modules.specs.NamedAnywhere.Use.{NamedUseAnywhere, PartsStand, ConstantUse}
 
 -- the use with the imports of its form added to its file, at a place there: what names mean at a place is told with it
 abbrev pub site_there : Found At → Place At → Site At
@@ -32,7 +31,8 @@ site_there f p = record f.site { at = where_added f; place = p }
 pub record TakesNameThere {marks : List MarkRef} {st : Standing} {l : Logged} {after : Standing}
     (n : Next marks st l after) : Type 0 where
   pub place : Place At
-  pub use_ : NamedUse same_here (is_commented st) (packages_added st.packages n.found) marks (site_there n.found place)
+  pub use_ :
+      ConstantUse same_here (is_commented st) (packages_added st.packages n.found) marks (site_there n.found place)
   pub stands :
       NamedUseAnywhere same_here (is_commented st) (packages_added st.packages n.found) marks
       (site_there n.found place) use_

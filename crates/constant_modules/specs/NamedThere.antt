@@ -1,0 +1,4 @@
+pub mod Alike
+pub mod There
+pub mod Laws
+pub mod Steps
