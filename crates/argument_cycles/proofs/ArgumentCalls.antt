@@ -32,9 +32,10 @@ use Rattle.literal_cycles.proofs.BodyForms.FormsWritten.{apart, conversion_calls
 use Rattle.literal_cycles.proofs.BodyForms.FreeForms.{free_form}
 use Rattle.literal_cycles.proofs.LiteralLed.{append_none}
 use Rattle.literal_cycles.proofs.FormCycles.BlockCalls.{of-both, in-front, in-back}
+use Rattle.argument_cycles.specs.Stays.{CallGives}
 use Rattle.argument_cycles.specs.Uses.{nth_param, TypesCallNothing, ReceiverGiven, PlacedArguments}
 
-at_zero : (n : ℕ) → n ≡ 0 + n
+pub at_zero : (n : ℕ) → n ≡ 0 + n
 at_zero n = omega arith
 
 abbrev less_one : ℕ → ℕ
@@ -199,7 +200,7 @@ module _ (commented : ℕ → ℕ → At → Bool) (rs : List (Package At)) (mar
   abbrev method : Bool
   method = calls.has_receiver same_here rs c
 
-  pub in_arguments : (k : PlacedArguments commented rs marks x u) (b : MarkRef) → Has b (E k.called) ⊎ Has b (calls_all D env around k.arguments) → Has b (listed (calls.args same_here rs c))
+  pub in_arguments : (k : CallGives commented rs marks x u) (b : MarkRef) → Has b (E k.called) ⊎ Has b (calls_all D env around k.arguments) → Has b (listed (calls.args same_here rs c))
   in_arguments k b h = moved b (sym (ap (λ (t : Expr At). listed (arguments c.new method env t)) k.tree_is)) (go h)
     where
       go : Has b (E k.called) ⊎ Has b (calls_all D env around k.arguments) → Has b (listed (receiver_in c.new method env k.called ++ list_of k.arguments))
@@ -231,8 +232,8 @@ module _ (commented : ℕ → ℕ → At → Bool) (rs : List (Package At)) (mar
   none_listed [] e b h = grind (arith, h)
   none_listed (a ∷ es) e b h = grind (arith, e)
 
-  pub param_of : (k : PlacedArguments commented rs marks x u) (b : MarkRef) → Has b (listed (calls.args same_here rs c)) → CallingParameter (given_params same_here rs c) b
-  param_of k b h = go (spread_call same_here rs c) k.each_given
+  pub param_of : length (calls.args same_here rs c) ≡ length (given_params same_here rs c) → (b : MarkRef) → Has b (listed (calls.args same_here rs c)) → CallingParameter (given_params same_here rs c) b
+  param_of k b h = go (spread_call same_here rs c) k
     where
       go : (t : Bool) → length (calls.args same_here rs c) ≡ length (if t then [] else givens (all_params same_here rs c) types (calls.args same_here rs c)) → CallingParameter (if t then [] else givens (all_params same_here rs c) types (calls.args same_here rs c)) b
       go true e = absurd (none_listed (calls.args same_here rs c) e b h)

@@ -3,16 +3,18 @@ use Rattle.std.proofs.Common.{◌≡◌, refl, sym, ap, ◌∙◌, subst, ◌⊎
 use Rattle.std.specs.Prelude.{is_some}
 use Rattle.go_tree.specs.Tree.{NameAt, Sig, Expr, ident, int_lit, rune_lit, str_lit, composite, selector, index, slice, call, func_lit, type_operand, unary, binary, star, Exprs, no_exprs, expr_and, ExprOption, no_expr, some_expr, Elems, no_elems, elem, Value, plain, braced, ValueOption, no_value, some_value, Stmt, const_decl, var_decl, empty, eval, step, assign, define, return_, break_, continue_, inner, if_, for_, range_, switch, defer, label, Stmts, no_stmts, stmt_and, StmtOption, no_stmt, some_stmt, BlockOption, no_block, some_block, RangeLeft, nothing, assigns, defines, Arms, no_arms, arm, Cases, no_cases, case, ValueSpecs, no_specs, spec}
 use Rattle.go_tree.specs.declared.exprs.Rest.{Rest}
-use Rattle.go_tree.specs.GoTypes.Answers.{given, meets, otherwise}
+use Rattle.go_tree.specs.GoTypes.Answers.{given, meets, otherwise, is_among}
 use Rattle.go_tree.specs.GoTypes.Declarations.{Repeated}
 use Rattle.go_tree.specs.GoTypes.Entities.{Env}
 use Rattle.go_tree.specs.GoTypes.Literals.{is_struct}
 use Rattle.go_tree.specs.GoTypes.TypeNames.{func_type}
 use Rattle.go_tree.specs.GoTypes.Types.{GoType, FuncType}
+use Rattle.go_tree.specs.ScopeNames.Binders.{expr_binders, exprs_binders, expr_option_binders, elems_binders, value_binders, stmt_binders, stmts_binders, stmt_option_binders, block_option_binders, left_binders, arms_binders, cases_binders, specs_binders, func_binders}
 use Rattle.go_tree.specs.ScopeNames.FreeNames.{names_of}
-use Rattle.go_tree.specs.ScopeNames.Scopes.{sig_declares}
+use Rattle.go_tree.specs.ScopeNames.Scopes.{sig_declares, declares}
 use Rattle.go_tree.proofs.GoTypes.Agreeing.{from_given, some_same}
 use Rattle.form_meaning.specs.FormInPlace.Bound.{literal_under}
+use Rattle.form_meaning.proofs.FormInPlace.Uses.{among_append}
 use Rattle.param_choice.specs.Chosen.{has}
 use Rattle.pkg_graph.specs.Package.{Package}
 use Rattle.run_rules.specs.Calls.{Given, Call, given_params}
@@ -24,17 +26,19 @@ use Rattle.run_rules.specs.Places.{type_seen, expr_seen, all_seen, option_seen, 
 use Rattle.run_rules.specs.Rewriting.{Changes, new_sig, new_expr, new_all, new_option, new_elems, new_key, new_value, new_stmt, new_stmts, new_first, new_block, new_left, new_arms, new_cases, new_constants, new_variables}
 use Rattle.run_rules.specs.Sites.{MarkRef, is_among_marks, Site, called_mark}
 use Rattle.run_rules.specs.Steps.{At, same_here}
-use Rattle.run_rules.specs.Surroundings.{Use, called, other, a_slot, in_slot, inner_slot, callee_place, Place, Seen, seen, key_use, in_literal}
+use Rattle.run_rules.specs.Surroundings.{Use, called, other, a_slot, in_slot, inner_slot, callee_place, Place, Seen, seen, key_use, in_literal, at_stmt, block, in_heading}
 use Rattle.order_runs.proofs.CycleLaws.Called.{Callees, bound_lit, called_by, callee, calls_expr, calls_all, calls_option, calls_elems, calls_key, calls_value, calls_stmt, calls_stmts, calls_first, calls_block, calls_left, calls_arms, calls_cases, calls_constants, calls_variables}
 use Rattle.order_runs.proofs.CycleLaws.Walked.{callees, callee-is, expr-led}
 use Rattle.literal_cycles.specs.BodyForms.Uses.{CalledUse, call_of, chosen_of, names_for}
 use Rattle.literal_cycles.proofs.BodyForms.FormsWritten.{apart}
 use Rattle.literal_cycles.proofs.FormCycles.BlockCalls.{of-both}
 use Rattle.literal_cycles.proofs.ThroughLiterals.{only_mark}
-use Rattle.argument_cycles.specs.Braces.{PlainKey, PlainKeys, PlainInside, IsInside, CalleeLed, AllCalleesLed, ArgumentLed, AllArgumentsLed}
+use Rattle.constant_steps.proofs.FormImports.Kept.{both_false}
+use Rattle.argument_cycles.specs.Braces.{PlainKey, PlainKeys, PlainInside, IsWithin, CalleeLed, AllCalleesLed, ArgumentLed, AllArgumentsLed}
+use Rattle.argument_cycles.proofs.OwnNames.{Own, own_front, own_back, own_both, names_own, sig_own, stmt_own, first_own, left_own}
 
 -- lists one behind the other
-assoc : {A : Type 0} (xs ys zs : List A) → xs ++ (ys ++ zs) ≡ (xs ++ ys) ++ zs
+pub assoc : {A : Type 0} (xs ys zs : List A) → xs ++ (ys ++ zs) ≡ (xs ++ ys) ++ zs
 assoc [] ys zs = refl
 assoc (x ∷ xs) ys zs = λ i. x ∷ assoc xs ys zs i
 
@@ -80,36 +84,47 @@ module _ (commented : ℕ → ℕ → At → Bool) (rs : List (Package At)) (mar
 
   -- ---- names around
 
-  -- these names are declared inside
+  -- binders of the function
+  abbrev pub Its : List (List ℕ) → Type 0
+  Its ns = Own (func_binders u.callee) ns
+
+  -- these names are declared within
   pub record Within (b : List (List ℕ)) : Type 0 where
     pub more : List (List ℕ)
     pub is : b ≡ more ++ around
+    pub own : Its more
 
-  pub further : {b : List (List ℕ)} (ns : List (List ℕ)) → Within b → Within (ns ++ b)
-  further ns v = record { more = ns ++ v.more; is = ap (λ l. ns ++ l) v.is ∙ assoc ns v.more around }
+  pub further : {b : List (List ℕ)} (ns : List (List ℕ)) → Within b → Its ns → Within (ns ++ b)
+  further ns v o = record { more = ns ++ v.more; is = ap (λ l. ns ++ l) v.is ∙ assoc ns v.more around; own = own_both ns v.more o v.own }
 
-  pub literal_within : (env : Env) (b : List (List ℕ)) (g : Sig At) → Within b → Within (bound_lit env b g)
-  literal_within env b g v = go (func_type env g)
+  pub literal_within : (env : Env) (b : List (List ℕ)) (g : Sig At) → Within b → Its (names_of (sig_declares g)) → Within (bound_lit env b g)
+  literal_within env b g v o = go (func_type env g)
     where
-      go : (o : Option FuncType) → Within (elim o [ None ↦ b | Some f ↦ names_of (sig_declares g) ++ b ])
+      go : (t : Option FuncType) → Within (elim t [ None ↦ b | Some f ↦ names_of (sig_declares g) ++ b ])
       go None = v
-      go (Some f) = further (names_of (sig_declares g)) v
+      go (Some f) = further (names_of (sig_declares g)) v o
 
-  spans : List (List ℕ) → List (NameAt At)
+  -- a form puts no statement in the body
+  pub quiet : (p : Place At) (s y : Stmt At) → bc.stmt p s ≡ Some y → (known : List (List ℕ)) → declares known y ≡ []
+  quiet p s y e known = apart (ap is_some e)
+
+  pub spans : List (List ℕ) → List (NameAt At)
   spans [] = []
   spans (n ∷ b) = record { span = c.new; name = n } ∷ spans b
 
-  spans_are : (b : List (List ℕ)) → names_of (spans b) ≡ b
+  pub spans_are : (b : List (List ℕ)) → names_of (spans b) ≡ b
   unfolding spans
   spans_are [] = refl
   spans_are (n ∷ b) = λ i. n ∷ spans_are b i
 
   -- a place where these are declared
-  abbrev spot : Env → List (List ℕ) → Place At
+  abbrev pub spot : Env → List (List ℕ) → Place At
   spot env b = record x.place { env = env; bound = spans b }
 
-  inside : (env : Env) (b : List (List ℕ)) → Within b → IsInside commented rs marks x u (spot env b)
-  inside env b v = (v.more, spans_are b ∙ v.is)
+  pub inside : (env : Env) (b : List (List ℕ)) → Within b → IsWithin commented rs marks x u (spot env b)
+  inside env b v =
+      let is : names_of (spans b) ≡ v.more ++ around = spans_are b ∙ v.is in
+      ((v.more, is), λ n e a. ap (is_among n) is ∙ among_append n v.more around ∙ both_false (is_among n v.more) (is_among n around) (v.own.each n e) a)
 
   -- ---- what is called
 
@@ -190,38 +205,38 @@ module _ (commented : ℕ → ℕ → At → Bool) (rs : List (Package At)) (mar
     key_case g env b false false y z f h = h
 
     mutual
-      expr_put : (p : Place At) (w : Use) (e : Expr At) (env : Env) (b : List (List ℕ)) → Within b → Led (expr_seen p w e) → Comes (calls_expr D env b (new_expr bc p w e))
-      expr_put p w (ident s n) env b v h = name_put p w n env b v (param_number same_here rs c nm ch p n)
-      expr_put p w (int_lit s n) env b v h = none
-      expr_put p w (rune_lit s n) env b v h = none
-      expr_put p w (str_lit s n) env b v h = none
-      expr_put p w (composite s t es) env b v h =
+      expr_put : (p : Place At) (w : Use) (e : Expr At) (env : Env) (b : List (List ℕ)) → Within b → Led (expr_seen p w e) → Its (expr_binders e) → Comes (calls_expr D env b (new_expr bc p w e))
+      expr_put p w (ident s n) env b v h m = name_put p w n env b v (param_number same_here rs c nm ch p n)
+      expr_put p w (int_lit s n) env b v h m = none
+      expr_put p w (rune_lit s n) env b v h m = none
+      expr_put p w (str_lit s n) env b v h m = none
+      expr_put p w (composite s t es) env b v h m =
           let within : Place At = in_slot (a_slot 1 false false) p in
-          both (elems_put within (literal_under p.env t) 0 es env b v _ 0 (last_led (type_seen p t ++ elems_seen within (literal_under p.env t) 0 es) (seen p w (composite s t es)) h) (back (type_seen p t) (elems_seen within (literal_under p.env t) 0 es) (front (type_seen p t ++ elems_seen within (literal_under p.env t) 0 es) (seen p w (composite s t es) ∷ []) h))) none
-      expr_put p w (selector s (ident z q) n) env b v h =
+          both (elems_put within (literal_under p.env t) 0 es env b v _ 0 (last_led (type_seen p t ++ elems_seen within (literal_under p.env t) 0 es) (seen p w (composite s t es)) h) (back (type_seen p t) (elems_seen within (literal_under p.env t) 0 es) (front (type_seen p t ++ elems_seen within (literal_under p.env t) 0 es) (seen p w (composite s t es) ∷ []) h)) m) none
+      expr_put p w (selector s (ident z q) n) env b v h m =
           qualified_put (import_qualifier rs u.home x.at.number nm p q) n.name _ env b
           (both (name_put (in_slot (inner_slot p.slot (selector s (ident z q) n) 7 false true) p) other q env b v (param_number same_here rs c nm ch (in_slot (inner_slot p.slot (selector s (ident z q) n) 7 false true) p) q)) none)
-      expr_put p w (selector s d n) env b v h = both (expr_put (in_slot (inner_slot p.slot (selector s d n) 7 false true) p) other d env b v (front (expr_seen (in_slot (inner_slot p.slot (selector s d n) 7 false true) p) other d) (seen p w (selector s d n) ∷ []) h)) none
-      expr_put p w (index s d i) env b v h = both (both (expr_put _ _ d env b v (front _ _ (front _ _ h))) (expr_put _ _ i env b v (back _ _ (front _ _ h)))) none
-      expr_put p w (slice s d i j) env b v h = both (both (both (expr_put _ _ d env b v (front _ _ (front _ _ (front _ _ h)))) (option_put _ i env b v (back _ _ (front _ _ (front _ _ h))))) (option_put _ j env b v (back _ _ (front _ _ h)))) none
-      expr_put p w (call s f xs r) env b v h = both (both (expr_put _ _ f env b v (front _ _ (front _ _ h))) (all_put _ _ xs env b v (back _ _ (front _ _ h)))) (callee_put p w s f xs r env b v (last_led _ (seen p w (call s f xs r)) h))
-      expr_put p w (func_lit s g z y) env b v h = both (stmts_put (in_literal p g) y _ _ (literal_within env b (new_sig bc p g) v) (back _ _ (front _ _ h))) none
-      expr_put p w (type_operand s t) env b v h = none
-      expr_put p w (unary s o d) env b v h = both (expr_put _ _ d env b v (front _ _ h)) none
-      expr_put p w (binary s o d e) env b v h = both (both (expr_put _ _ d env b v (front _ _ (front _ _ h))) (expr_put _ _ e env b v (back _ _ (front _ _ h)))) none
-      expr_put p w (star s d) env b v h = both (expr_put _ _ d env b v (front _ _ h)) none
+      expr_put p w (selector s d n) env b v h m = both (expr_put (in_slot (inner_slot p.slot (selector s d n) 7 false true) p) other d env b v (front (expr_seen (in_slot (inner_slot p.slot (selector s d n) 7 false true) p) other d) (seen p w (selector s d n) ∷ []) h) m) none
+      expr_put p w (index s d i) env b v h m = both (both (expr_put _ _ d env b v (front _ _ (front _ _ h)) (own_front _ _ m)) (expr_put _ _ i env b v (back _ _ (front _ _ h)) (own_back _ _ m))) none
+      expr_put p w (slice s d i j) env b v h m = both (both (both (expr_put _ _ d env b v (front _ _ (front _ _ (front _ _ h))) (own_front _ _ (own_front _ _ m))) (option_put _ i env b v (back _ _ (front _ _ (front _ _ h))) (own_back _ _ (own_front _ _ m)))) (option_put _ j env b v (back _ _ (front _ _ h)) (own_back _ _ m))) none
+      expr_put p w (call s f xs r) env b v h m = both (both (expr_put _ _ f env b v (front _ _ (front _ _ h)) (own_front _ _ m)) (all_put _ _ xs env b v (back _ _ (front _ _ h)) (own_back _ _ m))) (callee_put p w s f xs r env b v (last_led _ (seen p w (call s f xs r)) h))
+      expr_put p w (func_lit s g z y) env b v h m = both (stmts_put (in_literal p g) y _ _ (literal_within env b (new_sig bc p g) v (sig_own bc p g (own_front _ _ m))) (back _ _ (front _ _ h)) (own_back _ _ m)) none
+      expr_put p w (type_operand s t) env b v h m = none
+      expr_put p w (unary s o d) env b v h m = both (expr_put _ _ d env b v (front _ _ h) m) none
+      expr_put p w (binary s o d e) env b v h m = both (both (expr_put _ _ d env b v (front _ _ (front _ _ h)) (own_front _ _ m)) (expr_put _ _ e env b v (back _ _ (front _ _ h)) (own_back _ _ m))) none
+      expr_put p w (star s d) env b v h m = both (expr_put _ _ d env b v (front _ _ h) m) none
 
-      all_put : (p : Place At) (us : List Use) (es : Exprs At) (env : Env) (b : List (List ℕ)) → Within b → Led (all_seen p us es) → Comes (calls_all D env b (new_all bc p us es))
-      all_put p us no_exprs env b v h = none
-      all_put p us (expr_and e es) env b v h = both (expr_put _ _ e env b v (front _ _ h)) (all_put _ _ es env b v (back _ _ h))
+      all_put : (p : Place At) (us : List Use) (es : Exprs At) (env : Env) (b : List (List ℕ)) → Within b → Led (all_seen p us es) → Its (exprs_binders es) → Comes (calls_all D env b (new_all bc p us es))
+      all_put p us no_exprs env b v h m = none
+      all_put p us (expr_and e es) env b v h m = both (expr_put _ _ e env b v (front _ _ h) (own_front _ _ m)) (all_put _ _ es env b v (back _ _ h) (own_back _ _ m))
 
-      option_put : (p : Place At) (e : ExprOption At) (env : Env) (b : List (List ℕ)) → Within b → Led (option_seen p e) → Comes (calls_option D env b (new_option bc p e))
-      option_put p no_expr env b v h = none
-      option_put p (some_expr e) env b v h = expr_put p other e env b v h
+      option_put : (p : Place At) (e : ExprOption At) (env : Env) (b : List (List ℕ)) → Within b → Led (option_seen p e) → Its (expr_option_binders e) → Comes (calls_option D env b (new_option bc p e))
+      option_put p no_expr env b v h m = none
+      option_put p (some_expr e) env b v h m = expr_put p other e env b v h m
 
-      elems_put : (p : Place At) (t : Option GoType) (i : ℕ) (es : Elems At) (env : Env) (b : List (List ℕ)) → Within b → (o : Option GoType) (j : ℕ) → PlainKeys es → Led (elems_seen p t i es) → Comes (calls_elems D env b o j (new_elems bc p t i es))
-      elems_put p t i no_elems env b v o j f h = none
-      elems_put p t i (elem s key y es) env b v o j f h = both (both (key_put p t key env b v o f.0) (value_put _ _ y env b v _ f.1.0 (back _ _ (front _ _ h)))) (elems_put p t (suc i) es env b v o (suc j) f.1.1 (back _ _ h))
+      elems_put : (p : Place At) (t : Option GoType) (i : ℕ) (es : Elems At) (env : Env) (b : List (List ℕ)) → Within b → (o : Option GoType) (j : ℕ) → PlainKeys es → Led (elems_seen p t i es) → Its (elems_binders es) → Comes (calls_elems D env b o j (new_elems bc p t i es))
+      elems_put p t i no_elems env b v o j f h m = none
+      elems_put p t i (elem s key y es) env b v o j f h m = both (both (key_put p t key env b v o f.0) (value_put _ _ y env b v _ f.1.0 (back _ _ (front _ _ h)) (own_back _ _ (own_front _ _ m)))) (elems_put p t (suc i) es env b v o (suc j) f.1.1 (back _ _ h) (own_back _ _ m))
 
       key_put : (p : Place At) (t : Option GoType) (key : ValueOption At) (env : Env) (b : List (List ℕ)) → Within b → (o : Option GoType) → PlainKey key → Comes (calls_key D env b o (new_key bc p t key))
       key_put p t no_value env b v o f = none
@@ -232,64 +247,76 @@ module _ (commented : ℕ → ℕ → At → Bool) (rs : List (Package At)) (mar
       key_put p t (some_value (plain (str_lit s n))) env b v o f = key_case (key_use env o) env b (meets t is_struct) (meets o is_struct) (plain (str_lit c.new n)) (plain (str_lit c.new n)) none none
       key_put p t (some_value y) env b v o f = absurd f
 
-      value_put : (p : Place At) (w : Use) (y : Value At) (env : Env) (b : List (List ℕ)) → Within b → (g : Use) → PlainInside y → Led (value_seen p w y) → Comes (calls_value D env b g (new_value bc p w y))
-      value_put p w (plain e) env b v g f h = expr_put p w e env b v h
-      value_put p w (braced s es) env b v g f h = elems_put _ _ 0 es env b v _ 0 f h
+      value_put : (p : Place At) (w : Use) (y : Value At) (env : Env) (b : List (List ℕ)) → Within b → (g : Use) → PlainInside y → Led (value_seen p w y) → Its (value_binders y) → Comes (calls_value D env b g (new_value bc p w y))
+      value_put p w (plain e) env b v g f h m = expr_put p w e env b v h m
+      value_put p w (braced s es) env b v g f h m = elems_put _ _ 0 es env b v _ 0 f h m
 
-      stmt_put : (p : Place At) (l : Bool) (s : Stmt At) (env : Env) (b : List (List ℕ)) → Within b → Led (stmt_seen p l s) → Comes (calls_stmt D env b (new_stmt bc p l s))
-      stmt_put p l (const_decl s g ss) env b v h = both (constants_put _ _ _ ss env b v _ 0 (front _ _ h)) none
-      stmt_put p l (var_decl s g ss) env b v h = both (variables_put _ ss env b v (front _ _ h)) none
-      stmt_put p l (empty s) env b v h = none
-      stmt_put p l (eval s e) env b v h = both (expr_put _ _ e env b v (front _ _ h)) none
-      stmt_put p l (step s e y) env b v h = both (expr_put _ _ e env b v (front _ _ h)) none
-      stmt_put p l (assign s xs None ys) env b v h = both (both (all_put _ _ xs env b v (front _ _ (front _ _ h))) (all_put _ _ ys env b v (back _ _ (front _ _ h)))) none
-      stmt_put p l (assign s xs (Some o) ys) env b v h = both (both (all_put _ _ xs env b v (front _ _ (front _ _ h))) (all_put _ _ ys env b v (back _ _ (front _ _ h)))) none
-      stmt_put p l (define s ns ys) env b v h = both (all_put _ _ ys env b v (back _ _ (front _ _ h))) none
-      stmt_put p l (return_ s xs) env b v h = both (all_put _ _ xs env b v (front _ _ h)) none
-      stmt_put p l (break_ s n) env b v h = none
-      stmt_put p l (continue_ s n) env b v h = none
-      stmt_put p l (inner s y) env b v h = both (stmts_put _ y _ b v (front _ _ h)) none
-      stmt_put p l (if_ s bs z) env b v h = both (arms_put _ bs _ b v _ (λ e y m. block_put _ z e y m (back _ _ (front _ _ h))) (front _ _ (front _ _ h))) none
-      stmt_put p l (for_ s i t q z y) env b v h =
-          both (both (both (both (first_put _ i _ b v (front _ _ (front _ _ (front _ _ (front _ _ h))))) (option_put _ t _ _ (further _ v) (back _ _ (front _ _ (front _ _ (front _ _ h)))))) (first_put _ q _ _ (further _ v) (back _ _ (front _ _ (front _ _ h))))) (stmts_put _ y _ _ (further _ v) (back _ _ (front _ _ h)))) none
-      stmt_put p l (range_ s y e z d) env b v h = both (both (both (left_put _ y env b v (front _ _ (front _ _ (front _ _ h)))) (expr_put _ _ e env b v (back _ _ (front _ _ (front _ _ h))))) (stmts_put _ d _ _ (further _ v) (back _ _ (front _ _ h)))) none
-      stmt_put p l (switch s i t cs) env b v h = both (both (both (first_put _ i _ b v (front _ _ (front _ _ (front _ _ h)))) (option_put _ t _ _ (further _ v) (back _ _ (front _ _ (front _ _ h))))) (cases_put _ cs _ _ (further _ v) (back _ _ (front _ _ h)))) none
-      stmt_put p l (defer s e) env b v h = both (expr_put _ _ e env b v (front _ _ h)) none
-      stmt_put p l (label s n y) env b v h = both (stmt_put _ _ y env b v (front _ _ h)) none
+      stmt_put : (p : Place At) (l : Bool) (s : Stmt At) (env : Env) (b : List (List ℕ)) → Within b → Led (stmt_seen p l s) → Its (stmt_binders s) → Comes (calls_stmt D env b (new_stmt bc p l s))
+      stmt_put p l (const_decl s g ss) env b v h m = both (constants_put _ _ _ ss env b v _ 0 (front _ _ h) m) none
+      stmt_put p l (var_decl s g ss) env b v h m = both (variables_put _ ss env b v (front _ _ h) m) none
+      stmt_put p l (empty s) env b v h m = none
+      stmt_put p l (eval s e) env b v h m = both (expr_put _ _ e env b v (front _ _ h) m) none
+      stmt_put p l (step s e y) env b v h m = both (expr_put _ _ e env b v (front _ _ h) m) none
+      stmt_put p l (assign s xs None ys) env b v h m = both (both (all_put _ _ xs env b v (front _ _ (front _ _ h)) (own_front _ _ m)) (all_put _ _ ys env b v (back _ _ (front _ _ h)) (own_back _ _ m))) none
+      stmt_put p l (assign s xs (Some o) ys) env b v h m = both (both (all_put _ _ xs env b v (front _ _ (front _ _ h)) (own_front _ _ m)) (all_put _ _ ys env b v (back _ _ (front _ _ h)) (own_back _ _ m))) none
+      stmt_put p l (define s ns ys) env b v h m = both (all_put _ _ ys env b v (back _ _ (front _ _ h)) (own_back _ _ m)) none
+      stmt_put p l (return_ s xs) env b v h m = both (all_put _ _ xs env b v (front _ _ h) m) none
+      stmt_put p l (break_ s n) env b v h m = none
+      stmt_put p l (continue_ s n) env b v h m = none
+      stmt_put p l (inner s y) env b v h m = both (stmts_put _ y _ b v (front _ _ h) m) none
+      stmt_put p l (if_ s bs z) env b v h m = both (arms_put _ bs _ b v _ (λ e y a. block_put _ z e y a (back _ _ (front _ _ h)) (own_back _ _ m)) (front _ _ (front _ _ h)) (own_front _ _ m)) none
+      stmt_put p l (for_ s i t q z y) env b v h m =
+          let o = own_front _ _ (own_front _ _ (own_front _ _ m)) in
+          let a = further _ v (first_own bc quiet (in_heading true (block p)) i o) in
+          both
+          (both (both (both (first_put _ i _ b v (front _ _ (front _ _ (front _ _ (front _ _ h)))) o) (option_put _ t _ _ a (back _ _ (front _ _ (front _ _ (front _ _ h)))) (own_back _ _ (own_front _ _ (own_front _ _ m))))) (first_put _ q _ _ a (back _ _ (front _ _ (front _ _ h))) (own_back _ _ (own_front _ _ m))))
+          (stmts_put _ y _ _ a (back _ _ (front _ _ h)) (own_back _ _ m))) none
+      stmt_put p l (range_ s y e z d) env b v h m =
+          let o = own_front _ _ (own_front _ _ m) in
+          both (both (both (left_put _ y env b v (front _ _ (front _ _ (front _ _ h))) o) (expr_put _ _ e env b v (back _ _ (front _ _ (front _ _ h))) (own_back _ _ (own_front _ _ m)))) (stmts_put _ d _ _ (further _ v (left_own bc (in_heading true p) y o)) (back _ _ (front _ _ h)) (own_back _ _ m))) none
+      stmt_put p l (switch s i t cs) env b v h m =
+          let o = own_front _ _ (own_front _ _ m) in
+          let a = further _ v (first_own bc quiet (in_heading true (block p)) i o) in
+          both (both (both (first_put _ i _ b v (front _ _ (front _ _ (front _ _ h))) o) (option_put _ t _ _ a (back _ _ (front _ _ (front _ _ h))) (own_back _ _ (own_front _ _ m)))) (cases_put _ cs _ _ a (back _ _ (front _ _ h)) (own_back _ _ m))) none
+      stmt_put p l (defer s e) env b v h m = both (expr_put _ _ e env b v (front _ _ h) m) none
+      stmt_put p l (label s n y) env b v h m = both (stmt_put _ _ y env b v (front _ _ h) m) none
 
-      stmts_put : (p : Place At) (y : Stmts At) (env : Env) (b : List (List ℕ)) → Within b → Led (stmts_seen p y) → Comes (calls_stmts D env b (new_stmts bc p y))
-      stmts_put p no_stmts env b v h = none
-      stmts_put p (stmt_and s ss) env b v h = both (stmt_put _ _ s env b v (front _ _ h)) (stmts_put _ ss _ _ (further _ v) (back _ _ h))
+      stmts_put : (p : Place At) (y : Stmts At) (env : Env) (b : List (List ℕ)) → Within b → Led (stmts_seen p y) → Its (stmts_binders y) → Comes (calls_stmts D env b (new_stmts bc p y))
+      stmts_put p no_stmts env b v h m = none
+      stmts_put p (stmt_and s ss) env b v h m = both (stmt_put _ _ s env b v (front _ _ h) (own_front _ _ m)) (stmts_put _ ss _ _ (further _ v (stmt_own bc quiet env.here (at_stmt p s) true s (own_front _ _ m))) (back _ _ h) (own_back _ _ m))
 
-      first_put : (p : Place At) (i : StmtOption At) (env : Env) (b : List (List ℕ)) → Within b → Led (first_seen p i) → Comes (calls_first D env b (new_first bc p i))
-      first_put p no_stmt env b v h = none
-      first_put p (some_stmt s) env b v h = stmt_put _ _ s env b v h
+      first_put : (p : Place At) (i : StmtOption At) (env : Env) (b : List (List ℕ)) → Within b → Led (first_seen p i) → Its (stmt_option_binders i) → Comes (calls_first D env b (new_first bc p i))
+      first_put p no_stmt env b v h m = none
+      first_put p (some_stmt s) env b v h m = stmt_put _ _ s env b v h m
 
-      block_put : (p : Place At) (z : BlockOption At) (env : Env) (b : List (List ℕ)) → Within b → Led (block_seen p z) → Comes (calls_block D env b (new_block bc p z))
-      block_put p no_block env b v h = none
-      block_put p (some_block s y) env b v h = stmts_put _ y _ b v h
+      block_put : (p : Place At) (z : BlockOption At) (env : Env) (b : List (List ℕ)) → Within b → Led (block_seen p z) → Its (block_option_binders z) → Comes (calls_block D env b (new_block bc p z))
+      block_put p no_block env b v h m = none
+      block_put p (some_block s y) env b v h m = stmts_put _ y _ b v h m
 
-      left_put : (p : Place At) (y : RangeLeft At) (env : Env) (b : List (List ℕ)) → Within b → Led (left_seen p y) → Comes (calls_left D env b (new_left bc p y))
-      left_put p nothing env b v h = none
-      left_put p (assigns es) env b v h = all_put _ _ es env b v h
-      left_put p (defines ns) env b v h = none
+      left_put : (p : Place At) (y : RangeLeft At) (env : Env) (b : List (List ℕ)) → Within b → Led (left_seen p y) → Its (left_binders y) → Comes (calls_left D env b (new_left bc p y))
+      left_put p nothing env b v h m = none
+      left_put p (assigns es) env b v h m = all_put _ _ es env b v h m
+      left_put p (defines ns) env b v h m = none
 
-      arms_put : (p : Place At) (bs : Arms At) (env : Env) (b : List (List ℕ)) → Within b → (last : Env → List (List ℕ) → List MarkRef) → ((e : Env) (y : List (List ℕ)) → Within y → Comes (last e y)) → Led (arms_seen p bs) → Comes (calls_arms D env b last (new_arms bc p bs))
-      arms_put p no_arms env b v last f h = f env b v
-      arms_put p (arm s i t z y r) env b v last f h =
-          both (both (both (first_put _ i env b v (front _ _ (front _ _ (front _ _ h)))) (expr_put _ _ t _ _ (further _ v) (back _ _ (front _ _ (front _ _ h))))) (stmts_put _ y _ _ (further _ v) (back _ _ (front _ _ h)))) (arms_put _ r _ _ (further _ v) last f (back _ _ h))
+      arms_put : (p : Place At) (bs : Arms At) (env : Env) (b : List (List ℕ)) → Within b → (last : Env → List (List ℕ) → List MarkRef) → ((e : Env) (y : List (List ℕ)) → Within y → Comes (last e y)) → Led (arms_seen p bs) → Its (arms_binders bs) → Comes (calls_arms D env b last (new_arms bc p bs))
+      arms_put p no_arms env b v last f h m = f env b v
+      arms_put p (arm s i t z y r) env b v last f h m =
+          let o = own_front _ _ (own_front _ _ (own_front _ _ m)) in
+          let a = further _ v (first_own bc quiet (in_heading true p) i o) in
+          both (both (both (first_put _ i env b v (front _ _ (front _ _ (front _ _ h))) o) (expr_put _ _ t _ _ a (back _ _ (front _ _ (front _ _ h))) (own_back _ _ (own_front _ _ (own_front _ _ m))))) (stmts_put _ y _ _ a (back _ _ (front _ _ h)) (own_back _ _ (own_front _ _ m))))
+          (arms_put _ r _ _ a last f (back _ _ h) (own_back _ _ m))
 
-      cases_put : (p : Place At) (cs : Cases At) (env : Env) (b : List (List ℕ)) → Within b → Led (cases_seen p cs) → Comes (calls_cases D env b (new_cases bc p cs))
-      cases_put p no_cases env b v h = none
-      cases_put p (case s es y cs) env b v h = both (both (all_put _ _ es env b v (front _ _ (front _ _ h))) (stmts_put _ y _ b v (back _ _ (front _ _ h)))) (cases_put _ cs env b v (back _ _ h))
+      cases_put : (p : Place At) (cs : Cases At) (env : Env) (b : List (List ℕ)) → Within b → Led (cases_seen p cs) → Its (cases_binders cs) → Comes (calls_cases D env b (new_cases bc p cs))
+      cases_put p no_cases env b v h m = none
+      cases_put p (case s es y cs) env b v h m = both (both (all_put _ _ es env b v (front _ _ (front _ _ h)) (own_front _ _ (own_front _ _ m))) (stmts_put _ y _ b v (back _ _ (front _ _ h)) (own_back _ _ (own_front _ _ m)))) (cases_put _ cs env b v (back _ _ h) (own_back _ _ m))
 
-      constants_put : (p : Place At) (r : Repeated) (i : ℕ) (ss : ValueSpecs At) (env : Env) (b : List (List ℕ)) → Within b → (q : Repeated) (j : ℕ) → Led (constants_seen p r i ss) → Comes (calls_constants D env b q j (new_constants bc p r i ss))
-      constants_put p r i no_specs env b v q j h = none
-      constants_put p r i (spec s ns t es ss) env b v q j h = both (all_put _ _ es _ b v (back _ _ (front _ _ h))) (constants_put _ _ _ ss _ _ (further _ v) _ _ (back _ _ h))
+      constants_put : (p : Place At) (r : Repeated) (i : ℕ) (ss : ValueSpecs At) (env : Env) (b : List (List ℕ)) → Within b → (q : Repeated) (j : ℕ) → Led (constants_seen p r i ss) → Its (specs_binders ss) → Comes (calls_constants D env b q j (new_constants bc p r i ss))
+      constants_put p r i no_specs env b v q j h m = none
+      constants_put p r i (spec s ns t es ss) env b v q j h m = both (all_put _ _ es _ b v (back _ _ (front _ _ h)) (own_back _ _ (own_front _ _ m))) (constants_put _ _ _ ss _ _ (further _ v (names_own bc ns (own_front _ _ (own_front _ _ m)))) _ _ (back _ _ h) (own_back _ _ m))
 
-      variables_put : (p : Place At) (ss : ValueSpecs At) (env : Env) (b : List (List ℕ)) → Within b → Led (variables_seen p ss) → Comes (calls_variables D env b (new_variables bc p ss))
-      variables_put p no_specs env b v h = none
-      variables_put p (spec s ns t es ss) env b v h = both (all_put _ _ es env b v (back _ _ (front _ _ h))) (variables_put _ ss _ _ (further _ v) (back _ _ h))
+      variables_put : (p : Place At) (ss : ValueSpecs At) (env : Env) (b : List (List ℕ)) → Within b → Led (variables_seen p ss) → Its (specs_binders ss) → Comes (calls_variables D env b (new_variables bc p ss))
+      variables_put p no_specs env b v h m = none
+      variables_put p (spec s ns t es ss) env b v h m = both (all_put _ _ es env b v (back _ _ (front _ _ h)) (own_back _ _ (own_front _ _ m))) (variables_put _ ss _ _ (further _ v (names_own bc ns (own_front _ _ (own_front _ _ m)))) (back _ _ h) (own_back _ _ m))
 
-    pub body_comes : (p : Place At) (y : Stmts At) (env : Env) (b : List (List ℕ)) → Within b → AllCalleesLed commented rs marks x u k (stmts_seen p y) → Comes (calls_stmts D env b (new_stmts bc p y))
-    body_comes p y env b v h = stmts_put p y env b v (record { each = h })
+    pub body_comes : (p : Place At) (y : Stmts At) (env : Env) (b : List (List ℕ)) → Within b → AllCalleesLed commented rs marks x u k (stmts_seen p y) → Its (stmts_binders y) → Comes (calls_stmts D env b (new_stmts bc p y))
+    body_comes p y env b v h m = stmts_put p y env b v (record { each = h }) m

@@ -76,7 +76,7 @@ module _ (commented : ℕ → ℕ → At → Bool) (rs : List (Package At)) (mar
         let plain : written_arg same_here rs c nm ch w g ≡ g.arg = ap (λ t. if t then conversion c.new (new_type_at same_here rs c nm ch (top rs c) g.param.of) g.arg else g.arg) (h.1 w) in
         let inside : is_among_marks (called_among rs marks x.at x.decl (expr_seen q other g.arg)) b ≡ true = sym (ap (λ (z : Expr At). is_among_marks (called_among rs marks x.at x.decl (expr_seen q other z)) b) plain) ∙ e in
         ap (λ (l : List MarkRef). is_among_marks l b) (expr-led rs marks x.at x.decl x.place around refl other u.tree)
-        ∙ f b (sym (ap (λ (l : List MarkRef). is_among_marks l b) (expr-led rs marks x.at x.decl x.place around refl other g.arg)) ∙ calls_inside commented rs marks x u q i g.arg h.0 x.decl b inside)
+        ∙ f b (sym (ap (λ (l : List MarkRef). is_among_marks l b) (expr-led rs marks x.at x.decl x.place around refl other g.arg)) ∙ calls_inside commented rs marks x u q i.0 g.arg h.0 x.decl b inside)
 
     all_led : (gs : List (Given At)) → AllByNames commented rs marks x u gs → AllCalled gs → AllArgumentsLed commented rs marks x u kind gs
     all_led [] h f = tt

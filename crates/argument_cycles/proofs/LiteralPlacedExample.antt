@@ -129,7 +129,7 @@ log_placed = record {
   becomes = log_becomes;
   literal = literal;
   is_literal = refl;
-  callees = (tt, (tt, (tt, (λ q i b e f. println_led q i b e, (tt, (tt, (tt, tt)))))));
+  callees = (tt, (tt, (tt, (λ q i b e f. println_led q i.0 b e, (tt, (tt, (tt, tt)))))));
   arguments = arguments_led no_comments rs marks use_of_log log_use LiteralForm by_names;
 }
 

@@ -34,7 +34,7 @@ use Rattle.argument_cycles.specs.Uses.{is_declared, NamesPackage, CalleeKnown, A
 
 -- ---- names that nothing declares around
 
-declared_is : (t : Bool) (o : Option Target) → is_declared (if t then None else o) ≡ true → (t ≡ false) × (is_declared o ≡ true)
+pub declared_is : (t : Bool) (o : Option Target) → is_declared (if t then None else o) ≡ true → (t ≡ false) × (is_declared o ≡ true)
 declared_is true o e = absurd (grind (arith, e))
 declared_is false o e = (refl, e)
 
@@ -52,7 +52,7 @@ not_found (b ∷ bs) n e = (let r = or_none (bytes_eq n b.name) (is_among n (nam
 
 -- ---- two meanings of a name
 
-both_true : (a b : Bool) → (a && b) ≡ true → (a ≡ true) × (b ≡ true)
+pub both_true : (a b : Bool) → (a && b) ≡ true → (a ≡ true) × (b ≡ true)
 both_true true b e = (refl, e)
 both_true false b e = absurd (grind (arith, e))
 
@@ -109,20 +109,20 @@ module _ (commented : ℕ → ℕ → At → Bool) (rs : List (Package At)) (mar
   abbrev written : Bool → List ℕ → Option Target → Expr At
   written t n o = otherwise (given (if t then None else given o (λ t. given (mark_of t) (λ m. Some (nm K)))) (λ q. Some (selector c.new (ident c.new q) (a_name c.new n)))) (ident c.new n)
 
-  abbrev functions : Option MarkRef → Option MarkRef
+  abbrev pub functions : Option MarkRef → Option MarkRef
   functions o = marked_as rs marks is_free_function o
 
-  member_is : (n : List ℕ) (a b d f : ℕ) → means (outer rs u.home) n ≡ Some (member a b d f) → member_of rs K n ≡ mark_of (member a b d f)
+  pub member_is : (n : List ℕ) (a b d f : ℕ) → means (outer rs u.home) n ≡ Some (member a b d f) → member_of rs K n ≡ mark_of (member a b d f)
   member_is n a b d f e =
       ap (λ o. given o (λ p. members_in K (package_block K p) n)) package_there ∙ ap (λ l. given (means l n) mark_of) (linked_block rs K u.home.of) ∙ ap (λ o. given o mark_of) (member_there rs u.home n a b d f e).in_block
 
-  same_package : (n : List ℕ) (t : Target) → is_declared (Some t) ≡ true → is_taken_plainly rs u.home x.at x.place t ≡ true
+  pub same_package : (n : List ℕ) (t : Target) → is_declared (Some t) ≡ true → is_taken_plainly rs u.home x.at x.place t ≡ true
       → (if is_taken_plainly rs u.home x.at x.place t && not (means_this rs u.home x.at x.place (outer_meaning rs x.at x.place n) t) then Some n else None) ≡ None
       → called_mark rs marks x.at x.place (ident c.new n) ≡ functions (mark_of t)
   same_package n t k i d =
       ap functions (alike (outer_meaning rs x.at x.place n) t k (then_same n (is_taken_plainly rs u.home x.at x.place t) (means_this rs u.home x.at x.place (outer_meaning rs x.at x.place n) t) i d))
 
-  twice_not : (b : Bool) → b ≡ true → not (not b) ≡ true
+  pub twice_not : (b : Bool) → b ≡ true → not (not b) ≡ true
   twice_not b e = ap (λ b. not (not b)) e
 
   by_qualifier : (n : List ℕ) → NamesPackage commented rs marks x u K → called_mark rs marks x.at x.place (selector c.new (ident c.new (nm K)) (a_name c.new n)) ≡ functions (member_of rs K n)

@@ -26,6 +26,7 @@ use Rattle.literal_cycles.proofs.BodyForms.FormsWritten.{apart, conversion_calls
 use Rattle.literal_cycles.proofs.BodyForms.FreeForms.{free_form}
 use Rattle.literal_cycles.proofs.FormCycles.BlockCalls.{of-both}
 use Rattle.literal_cycles.proofs.ThroughLiterals.{only_mark}
+use Rattle.argument_cycles.specs.Stays.{CallGives}
 use Rattle.argument_cycles.specs.Uses.{PlacedArguments}
 use Rattle.argument_cycles.proofs.NamesThere.{names_kept}
 use Rattle.argument_cycles.proofs.ArgumentCalls.{CallingParameter, arguments_called, in_arguments, param_of}
@@ -71,6 +72,18 @@ module _ (commented : ℕ → ℕ → At → Bool) (rs : List (Package At)) (mar
   }
 
   -- ---- what stays
+
+  abbrev gives : CallGives commented rs marks x u
+  gives = record {
+    span = k.span;
+    called = k.called;
+    arguments = k.arguments;
+    rest = k.rest;
+    tree_is = k.tree_is;
+    names_it = k.names_it;
+    receiver = k.receiver;
+    each_given = λ s. k.each_given;
+  }
 
   abbrev value : Use → Expr At
   value w = forms.new_value same_here rs c nm ch w k.value
@@ -130,7 +143,7 @@ module _ (commented : ℕ → ℕ → At → Bool) (rs : List (Package At)) (mar
   still e i b h = go (of-both b old (x.mark ∷ []) (moved b call_calls h))
     where
       go : Has b old ⊎ Has b (x.mark ∷ []) → Has b (E e) ⊎ (b ≡ x.mark)
-      go (inl j) = inl (of_form b (argument_stays b (param_of commented rs marks x u k b (in_arguments commented rs marks x u k b (of-both b (E k.called) (calls_all D x.place.env around k.arguments) j)))) e i)
+      go (inl j) = inl (of_form b (argument_stays b (param_of commented rs marks x u k.each_given b (in_arguments commented rs marks x u gives b (of-both b (E k.called) (calls_all D x.place.env around k.arguments) j)))) e i)
       go (inr j) = inr (only_mark b x.mark j)
 
   pub stays : (e : Expr At) → IsExpression e k.becomes.form → (at : ℕ) (b : MarkRef) → Has b (called_among rs marks x.at at (expr_seen x.place other u.tree)) → Has b (called_among rs marks x.at at (expr_seen x.place other e)) ⊎ (b ≡ x.mark)

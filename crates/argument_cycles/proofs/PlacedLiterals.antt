@@ -9,7 +9,7 @@ use Rattle.pkg_graph.specs.Package.{Package}
 use Rattle.run_rules.specs.Calls.{Given, Call, givens, exprs_of, all_params, spread_call, start_with, bound_from, bound_params, given_params}
 use Rattle.run_rules.specs.Calls as calls
 use Rattle.run_rules.specs.Cycles.{LeadsTo}
-use Rattle.run_rules.specs.FormTrees.{LiteralForm, as_expr, top}
+use Rattle.run_rules.specs.FormTrees.{FormKind, LiteralForm, as_expr, top}
 use Rattle.run_rules.specs.Forms as forms
 use Rattle.run_rules.specs.Forms.{new_body, literal_tree, literal_params, literal_args, bound_arguments}
 use Rattle.run_rules.specs.Naming.{Names}
@@ -30,6 +30,24 @@ use Rattle.argument_cycles.specs.Literals.{PlacedLiteral}
 use Rattle.argument_cycles.proofs.ArgumentCalls.{listed}
 use Rattle.argument_cycles.proofs.GivenCalled.{CalledByIt, AllCalled, args_called, given_called}
 use Rattle.argument_cycles.proofs.BracesPut.{ByCall, Comes, none, both, Within, literal_within, body_comes}
+use Rattle.argument_cycles.proofs.OwnNames.{own_none, literal_own, body_own}
+
+-- the literal that a form of the call has
+module _ (commented : ℕ → ℕ → At → Bool) (rs : List (Package At)) (marks : List MarkRef) (x : Site At) (u : CalledUse same_here commented rs marks x) (form : FormKind) where
+  abbrev its_call : Call At
+  its_call = call_of same_here commented rs marks x u
+
+  abbrev its_chosen : List Bool
+  its_chosen = chosen_of same_here commented rs marks x u
+
+  abbrev its_names : Names
+  its_names = names_for same_here commented rs marks x u form
+
+  abbrev pub signature : Sig At
+  signature = record { params = literal_params same_here rs its_call its_names its_chosen; results = new_params (forms.body_changes same_here rs its_call its_names its_chosen) (top rs its_call) u.callee.sig.results }
+
+  abbrev pub literal_of : Expr At
+  literal_of = call its_call.new (func_lit its_call.new signature its_call.new (new_body same_here rs its_call its_names its_chosen)) (exprs_of (literal_args same_here rs its_call its_names its_chosen)) Plain
 
 module _ (commented : ℕ → ℕ → At → Bool) (rs : List (Package At)) (marks : List MarkRef) (x : Site At) (u : CalledUse same_here commented rs marks x) (k : PlacedLiteral commented rs marks x u) where
   abbrev c : Call At
@@ -87,22 +105,22 @@ module _ (commented : ℕ → ℕ → At → Bool) (rs : List (Package At)) (mar
 
   -- ---- the literal
 
-  abbrev signature : Sig At
-  signature = record { params = literal_params same_here rs c nm ch; results = new_params (forms.body_changes same_here rs c nm ch) (top rs c) u.callee.sig.results }
+  abbrev sig : Sig At
+  sig = signature commented rs marks x u LiteralForm
 
   abbrev tree : Expr At
-  tree = call c.new (func_lit c.new signature c.new (new_body same_here rs c nm ch)) (exprs_of (literal_args same_here rs c nm ch)) Plain
+  tree = literal_of commented rs marks x u LiteralForm
 
   no_more : Within commented rs marks x u LiteralForm around
-  no_more = record { more = []; is = refl }
+  no_more = record { more = []; is = refl; own = own_none }
 
-  body_put : Put (calls_stmts D (env_lit x.place.env signature) (bound_lit x.place.env around signature) (new_body same_here rs c nm ch))
-  body_put = body_comes commented rs marks x u LiteralForm k.arguments (start_with same_here rs c ch) u.callee.body _ _ (literal_within commented rs marks x u LiteralForm x.place.env around signature no_more) k.callees
+  body_put : Put (calls_stmts D (env_lit x.place.env sig) (bound_lit x.place.env around sig) (new_body same_here rs c nm ch))
+  body_put = body_comes commented rs marks x u LiteralForm k.arguments (start_with same_here rs c ch) u.callee.body _ _ (literal_within commented rs marks x u LiteralForm x.place.env around sig no_more (literal_own rs c nm ch)) k.callees (body_own rs c nm ch)
 
   tree_put : Put (E tree)
   tree_put = both commented rs marks x u LiteralForm (both commented rs marks x u LiteralForm (both commented rs marks x u LiteralForm body_put (none commented rs marks x u LiteralForm)) literal_args_put) (none commented rs marks x u LiteralForm)
 
-  literal_is : k.literal ≡ tree
+  pub literal_is : k.literal ≡ tree
   literal_is = sym (ap (expr_in k.literal) (some_same (as_expr tree) k.becomes.form (free_form same_here commented rs marks x u LiteralForm k.becomes).form_is ∙ k.is_literal))
 
   pub literal_comes : (at : ℕ) (b : MarkRef) → is_among_marks (called_among rs marks x.at at (expr_seen x.place other k.literal)) b ≡ true → (is_among_marks (called_among rs marks x.at at (expr_seen x.place other u.tree)) b ≡ true) ⊎ LeadsTo rs marks x.mark b

@@ -8,8 +8,8 @@ use Rattle.pkg_graph.specs.Package.{Package}
 use Rattle.run_rules.specs.Surroundings.{Place}
 use Rattle.run_rules.specs.Programs.{world, top_env}
 use Rattle.run_rules.specs.Naming.{Names}
-use Rattle.run_rules.specs.FormTrees.{ExprForm}
-use Rattle.run_rules.specs.Sites.{MarkRef, Site, imported_by, outer, import_number}
+use Rattle.run_rules.specs.FormTrees.{FormKind}
+use Rattle.run_rules.specs.Sites.{MarkRef, Site, imported_by, outer, import_number, qualifier}
 use Rattle.run_rules.specs.Steps.{At, same_here}
 use Rattle.order_runs.proofs.CycleLaws.Walked.{callees}
 use Rattle.constant_steps.specs.WrittenLiteral.Meant.{Serves}
@@ -19,12 +19,8 @@ use Rattle.literal_cycles.specs.Uses.{place_of_use}
 use Rattle.literal_cycles.specs.BodyForms.Uses.{CalledUse, names_for, LinkedUse}
 use Rattle.literal_cycles.proofs.Along.{NamesAgree}
 use Rattle.literal_cycles.proofs.Agreed.{names_agree}
-use Rattle.argument_cycles.specs.Uses.{NamesPackage}
 
 module _ (commented : ℕ → ℕ → At → Bool) (rs : List (Package At)) (marks : List MarkRef) (x : Site At) (u : CalledUse same_here commented rs marks x) (l : LinkedUse same_here commented rs marks x u) (h : CalledAt rs [] x (place_of_use [] x)) where
-  abbrev nm : Names
-  nm = names_for same_here commented rs marks x u ExprForm
-
   abbrev around : List (List ℕ)
   around = names_of x.place.bound
 
@@ -34,5 +30,9 @@ module _ (commented : ℕ → ℕ → At → Bool) (rs : List (Package At)) (mar
   pub agree : NamesAgree (callees rs marks u.home) (callees rs marks x.at).meaning (callees rs marks x.at).package_of (world rs) u.home.number x.at.number (top_env rs u.home.number u.home.of u.home.source.tree).names x.place.env.names around
   agree = names_agree rs marks l.typed u.home x.at l.home_stands l.there_stands home_there l.package_there x.place x.place.env.names h.outer
 
-  pub served_name : (p : Place At) (k : ℕ) → Serves nm x.place.env.names around p k → NamesPackage commented rs marks x u k
-  served_name p k s = ap (λ t. given (if t then None else means (outer rs x.at) (nm k)) (λ t. given (imported_by t) (import_number rs x.at))) s.not_around ∙ (agree.package_there (nm k) s.not_around ∙ s.of)
+  module _ (form : FormKind) where
+    abbrev nm : Names
+    nm = names_for same_here commented rs marks x u form
+
+    pub served_name : (p : Place At) (k : ℕ) → Serves nm x.place.env.names around p k → qualifier rs x.at x.place (nm k) ≡ Some k
+    served_name p k s = ap (λ t. given (if t then None else means (outer rs x.at) (nm k)) (λ t. given (imported_by t) (import_number rs x.at))) s.not_around ∙ (agree.package_there (nm k) s.not_around ∙ s.of)

@@ -37,7 +37,7 @@ use Rattle.argument_cycles.proofs.ArgumentCalls.{written_calls, all_chosen}
 
 -- ---- a name that something around declares
 
-found_among : {S : Type 0} (bs : List (NameAt S)) (n : List ℕ) → is_some (declared_at bs n) ≡ true → is_among n (names_of bs) ≡ true
+pub found_among : {S : Type 0} (bs : List (NameAt S)) (n : List ℕ) → is_some (declared_at bs n) ≡ true → is_among n (names_of bs) ≡ true
 found_among [] n e = apart e
 found_among (b ∷ bs) n e = go (bytes_eq b.name n) refl e (found_among bs n)
   where
@@ -94,18 +94,18 @@ both_true : (a b : Bool) → (a && b) ≡ true → (a ≡ true) × (b ≡ true)
 both_true true b e = (refl, e)
 both_true false b e = apart e
 
-same_turned : (a b : At) → same_here a b ≡ true → same_here b a ≡ true
+pub same_turned : (a b : At) → same_here a b ≡ true → same_here b a ≡ true
 same_turned a b e =
     let r = both_true (nat_eq a.here.start b.here.start) (nat_eq a.here.end b.here.end) e in
     (λ i. turned_numbers a.here.start b.here.start r.0 i && nat_eq b.here.end a.here.end) ∙ turned_numbers a.here.end b.here.end r.1
 
 -- a name that is the parameter
-record IsParameter (v : At) (q : Place At) (n : List ℕ) : Type 0 where
-  spot : At
-  found : local_at q n ≡ Some spot
-  same : same_here v spot ≡ true
+pub record IsParameter (v : At) (q : Place At) (n : List ℕ) : Type 0 where
+  pub spot : At
+  pub found : local_at q n ≡ Some spot
+  pub same : same_here v spot ≡ true
 
-parameter_named : (v : At) (q : Place At) (n : List ℕ) → meets (local_at q n) (same_here v) ≡ true → IsParameter v q n
+pub parameter_named : (v : At) (q : Place At) (n : List ℕ) → meets (local_at q n) (same_here v) ≡ true → IsParameter v q n
 parameter_named v q n h = go (local_at q n) refl h
   where
     go : (o : Option At) → local_at q n ≡ o → meets o (same_here v) ≡ true → IsParameter v q n

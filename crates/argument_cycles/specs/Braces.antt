@@ -5,7 +5,8 @@ use Rattle.std.specs.Prelude.{◌≡◌, ℕ, ◌⊎◌, Bool, true, false, List
 use Rattle.go_tree.specs.Tree.{Expr, ident, int_lit, rune_lit, str_lit, composite, call, Elems, no_elems, elem, Value}
 use Rattle.go_tree.specs.Tree.{plain, braced, ValueOption, no_value, some_value, Stmt, inner, Stmts}
 use Rattle.go_tree.specs.File.{Func, func}
-use Rattle.go_tree.specs.GoTypes.Answers.{meets}
+use Rattle.go_tree.specs.GoTypes.Answers.{meets, is_among}
+use Rattle.go_tree.specs.ScopeNames.Binders.{func_binders}
 use Rattle.go_tree.specs.ScopeNames.FreeNames.{names_of}
 use Rattle.pkg_graph.specs.Package.{Package}
 use Rattle.run_rules.specs.Calls.{Given, start_with, given_params}
@@ -19,7 +20,7 @@ use Rattle.run_rules.specs.Rewriting.{new_expr}
 use Rattle.run_rules.specs.Run.{Standing, Logged, Next, is_commented}
 use Rattle.run_rules.specs.Sites.{MarkRef, is_among_marks, Site, is_function, inlinable, called_mark}
 use Rattle.run_rules.specs.Steps.{At, same_here}
-use Rattle.run_rules.specs.Surroundings.{Use, called, other, Place, Seen, seen, inner_slot, callee_place}
+use Rattle.run_rules.specs.Surroundings.{Use, called, other, Place, Seen, seen, inner_slot, callee_place, is_local}
 use Rattle.order_runs.specs.CycleLaws.PutCalls.{called_among}
 use Rattle.literal_cycles.specs.FormCycles.Blocks.{Holds}
 use Rattle.literal_cycles.specs.FormCycles.Bodies.{changes_of}
@@ -52,6 +53,13 @@ module _ (commented : ℕ → ℕ → At → Bool) (rs : List (Package At)) (mar
   abbrev pub IsInside : Place At → Type 0
   IsInside q = (more : List (List ℕ)) × (names_of q.bound ≡ more ++ names_of x.place.bound)
 
+  -- and besides nothing but names that the function itself declares, anywhere in it
+  abbrev pub IsWithin : Place At → Type 0
+  IsWithin q =
+      IsInside q
+      × ((n : List ℕ) → is_among n (func_binders u.callee) ≡ false → is_among n (names_of x.place.bound) ≡ false
+      → is_local q n ≡ false)
+
   module _ (k : FormKind) where
     -- what is written for an expression of the body, at this place of it
     abbrev pub written_there : Place At → Use → Expr At → Expr At
@@ -60,11 +68,11 @@ module _ (commented : ℕ → ℕ → At → Bool) (rs : List (Package At)) (mar
         (body_changes same_here rs (call_of same_here commented rs marks x u)
         (names_for same_here commented rs marks x u k) (chosen_of same_here commented rs marks x u)) p w e
 
-    -- What a part of the body calls names, as it is written, at each place inside no marked function, or one that the
+    -- What a part of the body calls names, as it is written, at each place within no marked function, or one that the
     -- function leads to. Keys of composite literals are plain.
     abbrev pub CalleeLed : Seen At → Type 0
     CalleeLed (seen p w (call s f xs r)) =
-        (q : Place At) → IsInside q → (b : MarkRef)
+        (q : Place At) → IsWithin q → (b : MarkRef)
         → called_mark rs marks x.at q
         (written_there (callee_place (inner_slot p.slot (call s f xs r) 7 true false) f p) called f) ≡ Some b
         → meets (inlinable rs b) is_function ≡ true → LeadsTo rs marks x.mark b
@@ -76,10 +84,10 @@ module _ (commented : ℕ → ℕ → At → Bool) (rs : List (Package At)) (mar
     AllCalleesLed [] = Unit {0}
     AllCalleesLed (y ∷ ys) = CalleeLed y × AllCalleesLed ys
 
-    -- an argument, as it is written for its parameter, calls at each place inside what the call does
+    -- an argument, as it is written for its parameter, calls at each place within what the call does
     abbrev pub ArgumentLed : Given At → Type 0
     ArgumentLed g =
-        (w : Use) (q : Place At) → IsInside q → (b : MarkRef)
+        (w : Use) (q : Place At) → IsWithin q → (b : MarkRef)
         → is_among_marks (called_among rs marks x.at x.decl (expr_seen q other
         (written_arg same_here rs (call_of same_here commented rs marks x u)
         (names_for same_here commented rs marks x u k) (chosen_of same_here commented rs marks x u) w g))) b ≡ true

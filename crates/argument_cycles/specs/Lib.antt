@@ -1,7 +1,10 @@
 pub mod Uses
 pub mod Braces
 pub mod Literals
+pub mod Callees
+pub mod Stays
 pub mod NamesAlone
 pub mod Quiet
 pub mod Stands
 pub mod Laws
+pub mod FreeSteps

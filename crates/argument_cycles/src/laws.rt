@@ -1,7 +1,10 @@
 //! Laws of calls whose arguments take the places of parameters.
 
 ghost use Rattle.argument_cycles.specs.Laws as law;
+ghost use Rattle.argument_cycles.specs.Callees as callee;
 ghost use Rattle.argument_cycles.specs.NamesAlone as alone;
+ghost use Rattle.argument_cycles.specs.Stays as stay;
+ghost use Rattle.argument_cycles.specs.FreeSteps as step;
 
 /// Where a call becomes the one expression of its function or method, no obstacle stands in its way: so what
 /// the expression calls by a name, alone or behind a package's name, is at the call the marked function that
@@ -62,9 +65,41 @@ pub fn placed_literal_steps_keep_cycles()
 
 /// Inside, where at least what is declared around the use is declared, a name that is called names what it
 /// does at the use, or nothing; an expression that calls by names alone calls at most what it does there. So
-/// what is asked by names of statements in braces and of literals is asked of such names at the use alone.
+/// what is asked by names of statements in braces and of literals is asked of such names at the use alone; and
+/// where the function declares none of the names, such an argument calls within what it does at the use.
 pub fn names_name_no_more_inside()
     ensures names { alone.NamesInside }
     ensures expressions { alone.ExpressionsInside }
     ensures arguments { alone.ArgumentsByNames }
+    ensures kept { alone.ArgumentsKept }
+{}
+
+/// Where a call becomes a block, a tail, a literal or an expression, no obstacle stands in its way: so what the
+/// body calls by a name, alone or behind a package's name, names within the braces no marked function, or one
+/// that the function leads to. What the form declares there are names that the function itself declares, and
+/// they shadow nothing that they don't shadow in the body. A method that is called is such if the function leads
+/// to each marked declaration of its name, and what is written before its dot is no package.
+pub fn callees_are_led()
+    ensures callees { callee.CalleesAreLed }
+    ensures methods { callee.MethodsAreLed }
+    ensures served { callee.ServedNamesMeanThere }
+{}
+
+/// Where each argument calls within what it does at the call, what the receiver and the arguments call is called
+/// still by the statements in braces or by the literal that the call becomes, or is the function: each argument
+/// is bound in the first statement, or is the literal's own, or stands where the body uses its parameter; where
+/// the body doesn't use it, it calls nothing.
+pub fn arguments_stay()
+    ensures blocks { stay.BlocksKeepArguments }
+    ensures literals { stay.LiteralsKeepArguments }
+{}
+
+/// So a step over an unobstructed call that puts a block, a tail or a literal with arguments in the places of
+/// parameters, and adds no import, keeps which marked functions lie on a cycle: asked is what the body's callees
+/// and the arguments mean, and what is asked of what is around the use.
+pub fn free_steps_keep_cycles()
+    ensures blocks_placed { step.BlocksArePlaced }
+    ensures literals_placed { step.LiteralsArePlaced }
+    ensures blocks { step.FreeBlockStepsKeepCycles }
+    ensures literals { step.FreeLiteralStepsKeepCycles }
 {}

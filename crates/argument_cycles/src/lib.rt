@@ -8,7 +8,8 @@
 mod laws;
 
 pub use laws::{
-    arguments_are_put, names_name_no_more_inside, placed_arguments_call_through,
-    placed_block_steps_keep_cycles, placed_blocks_come_through, placed_literal_steps_keep_cycles,
-    placed_literals_come_through, placed_steps_keep_cycles,
+    arguments_are_put, arguments_stay, callees_are_led, free_steps_keep_cycles,
+    names_name_no_more_inside, placed_arguments_call_through, placed_block_steps_keep_cycles,
+    placed_blocks_come_through, placed_literal_steps_keep_cycles, placed_literals_come_through,
+    placed_steps_keep_cycles,
 };
