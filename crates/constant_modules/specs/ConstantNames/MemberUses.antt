@@ -5,11 +5,11 @@ use Rattle.go_tree.specs.declared.spans.Span.{Span}
 use Rattle.go_tree.specs.Tree.{NameAt, Expr}
 use Rattle.go_tree.specs.ScopeNames.Means.{means, is_blank}
 use Rattle.pkg_graph.specs.Package.{Package}
-use Rattle.go_tree.specs.GoTypes.Entities.{block_of}
+use Rattle.go_tree.specs.GoTypes.Entities.{World, block_of}
 use Rattle.go_tree.specs.GoTypes.Programs.{Headed, Program, headed, file_block, is_init}
-use Rattle.go_tree.specs.GoTypes.Collect.{valued_world}
 use Rattle.typed_in_place.specs.Declared.{FirstWith, HasNumber, ConstantOrRefused}
 use Rattle.typed_in_place.specs.ImportRule.{imports_sound}
+use Rattle.typed_in_place.specs.ProgramReplaced.{ValuesEnd}
 use Rattle.constant_steps.specs.Alone.{ConstantHeader}
 use Rattle.constant_steps.specs.QualifiedSteps.MemberNames.{member_name, NamesMember}
 use Rattle.run_rules.specs.Programs.{linked_imports}
@@ -50,4 +50,6 @@ module _ (rs : List (Package Span)) (ps : Program Span) where
     pub there : Place Span
     pub text_names : NamesMember rs home there text new_mark
     pub same_name : member_name text ≡ member_name new
-    pub known : ConstantOrRefused (means (block_of (valued_world ps (headed ps)).blocks new_mark.«package») (member_name new))
+    pub known :
+        (w : World) → ValuesEnd ps w →
+        ConstantOrRefused (means (block_of w.blocks new_mark.«package») (member_name new))

@@ -1,0 +1,15 @@
+use Rattle.package_blocks.specs.Headers.{header_of}
+use Rattle.collected.proofs.ValueHeaders.RefusalLemmas.{refusal_told, values_told}
+use Rattle.collected.proofs.value_headers.refusals.has_values_in.Goals as goal
+
+pub returns-in-Ok-clause-tells : goal.returns-in-Ok-clause-tells
+returns-in-Ok-clause-tells c =
+    λ e.
+    values_told c.args.tables.now c.header_values.new.tables c.args.blocks.now c.args.file.now (header_of c.args.kind)
+    c.in-Ok.field-0 (c.in-Ok.ensures.gives e)
+
+pub returns-in-Err-NotTyped-clause-tells : goal.returns-in-Err-NotTyped-clause-tells
+returns-in-Err-NotTyped-clause-tells c =
+    λ e.
+    refusal_told c.args.tables.now c.header_values.new.tables c.args.blocks.now c.args.file.now
+    (header_of c.args.kind) (c.in-Err-NotTyped.ensures.gives e)
