@@ -12,20 +12,22 @@ use Rattle.go_tree.specs.GoTypes.Bodies.{no_values, body_ctx, literal_env}
 use Rattle.go_tree.specs.GoTypes.Defined.{under}
 use Rattle.go_tree.specs.GoTypes.Entities.{defined_in}
 use Rattle.go_tree.specs.GoTypes.TypeNames.{type_meant, func_type}
-use Rattle.go_tree.specs.GoTypes.Literals.{is_struct}
+use Rattle.go_tree.specs.GoTypes.Literals.{is_struct, literal_type}
 use Rattle.go_tree.specs.GoTypes.Declarations.{Repeated, nothing_to_repeat}
-use Rattle.run_rules.specs.Surroundings.{Use, stored, updated, called, deferred_call, alone, other, a_slot, Place, Seen, seen, seen_type, seen_stmt, head_use, later_uses, unary_use, elem_use, key_use, Slot, inner_slot, in_slot, callee_place, in_literal, block, after_first, in_constant, before_repeats, repeated_around, elem_closed, is_old}
+use Rattle.run_rules.specs.Surroundings.{Use, stored, updated, called, deferred_call, alone, other, a_slot, Place, Seen, seen, seen_type, seen_stmt, head_use, later_uses, unary_use, elem_use, key_use, into_type, Slot, inner_slot, in_slot, callee_place, in_literal, block, after_first, in_constant, before_repeats, repeated_around, elem_closed, is_old}
 use Rattle.run_rules.specs.Places.{type_seen, written_seen, params_seen, sig_seen, old_seen, expr_seen, all_seen, option_seen, elems_seen, key_seen, value_seen, stmt_seen, stmts_seen, first_seen, block_seen, left_seen, arms_seen, cases_seen, constants_seen, variables_seen}
 use Rattle.run_rules.specs.Places as places
 use Rattle.run_rules.specs.Programs.{top_place, body_place, constants_at_top, variables_at_top, types_at_top, receiver_seen, func_seen, decl_seen}
 use Rattle.run_rules.specs.Sites.{an_expr, a_type_part, named_in, named_in_fields}
-use Rattle.member_uses.specs.PossibleUses.Candidates.{Candidate, plain_part, key_part}
-use Rattle.member_uses.specs.PossibleUses.Parts.{put, put_selector, after_type, after_fields, after_type_option, after_params, after_sig, after_expr, after_exprs, after_expr_option, after_elems, after_key, after_value, after_stmt, after_stmts, after_stmt_option, after_block_option, after_left, after_cases, after_specs, after_types, after_receiver, after_func, after_decl, parts_of}
+use Rattle.member_uses.specs.PossibleUses.Candidates.{Candidate, plain_part}
+use Rattle.member_uses.specs.PossibleUses.Parts.{put, after_type, after_fields, after_type_option, after_params, after_sig, after_expr, after_exprs, after_expr_option, after_elems, after_key, after_value, after_stmt, after_stmts, after_stmt_option, after_block_option, after_left, after_cases, after_specs, after_types, after_receiver, after_func, after_decl, parts_of}
 use Rattle.member_uses.specs.PossibleUses.Parts as gathered
 use Rattle.member_uses.specs.PossibleUses.Among.{may_be_use, ElemsKeyed, KeyKeyed, ValueKeyed, Keyed}
-use Rattle.repeated_parts.specs.Flags.{put_flag, is_repeated, flags_selector, flags_type, flags_fields, flags_type_option, flags_params, flags_sig, flags_expr, flags_exprs, flags_expr_option, flags_elems, flags_key, flags_value, flags_stmt, flags_stmts, flags_stmt_option, flags_block_option, flags_left, flags_arms, flags_cases, flags_group, flags_specs, flags_types, flags_receiver, flags_func, flags_decl}
+use Rattle.repeated_parts.specs.Flags.{put_flag, is_repeated, flags_type, flags_fields, flags_type_option, flags_params, flags_sig, flags_expr, flags_exprs, flags_expr_option, flags_elems, flags_key, flags_value, flags_stmt, flags_stmts, flags_stmt_option, flags_block_option, flags_left, flags_arms, flags_cases, flags_group, flags_specs, flags_types, flags_receiver, flags_func, flags_decl}
 use Rattle.repeated_parts.specs.Along.{is_again, FlagsAlong, at_the_end, past_a_use, past_no_use, past_a_key, past_a_field, past_an_old_name, past_a_type, past_a_statement}
 use Rattle.repeated_parts.specs.Laws.{FlagsAreThoseOfPlaces}
+use Rattle.member_uses.specs.PossibleUses.Written.{has_no_fields, inner_written, keys_written}
+use Rattle.member_uses.proofs.PossibleUses.WrittenTypes.{Told, meant_told, no_struct, inner_told, keys_told}
 
 module _ {S : Type 0} where
   -- a name in a type
@@ -210,23 +212,6 @@ module _ {S : Type 0} where
         by true e h = record { go = λ k. past_an_old_name e (h.go k) }
         by false e h = h
 
-    selector_goes : (p : Place S) (u : Use) (s : S) (b : Expr S) (n : NameAt S) (xs : List (Candidate S)) (ms : List Bool)
-        → Goes xs ms (seen p u (selector s b n) ∷ []) (put_selector b (selector s b n) xs) (flags_selector (is_again p) b ms)
-    selector_goes p u s (ident _ _) n xs ms = one_use refl
-    selector_goes p u s (int_lit _ _) n xs ms = no_use refl
-    selector_goes p u s (rune_lit _ _) n xs ms = no_use refl
-    selector_goes p u s (str_lit _ _) n xs ms = no_use refl
-    selector_goes p u s (composite _ _ _) n xs ms = no_use refl
-    selector_goes p u s (selector _ _ _) n xs ms = no_use refl
-    selector_goes p u s (index _ _ _) n xs ms = no_use refl
-    selector_goes p u s (slice _ _ _ _) n xs ms = no_use refl
-    selector_goes p u s (call _ _ _ _) n xs ms = no_use refl
-    selector_goes p u s (func_lit _ _ _ _) n xs ms = no_use refl
-    selector_goes p u s (type_operand _ _) n xs ms = no_use refl
-    selector_goes p u s (unary _ _ _) n xs ms = no_use refl
-    selector_goes p u s (binary _ _ _ _) n xs ms = no_use refl
-    selector_goes p u s (star _ _) n xs ms = no_use refl
-
     mutual
       expr_goes : (p : Place S) (u : Use) (e : Expr S) (xs : List (Candidate S)) (ms : List Bool) → Goes xs ms (expr_seen p u e) (after_expr e xs) (flags_expr (is_again p) e ms)
       expr_goes p u (ident s n) xs ms = one_use refl
@@ -237,9 +222,9 @@ module _ {S : Type 0} where
           let q : Place S = in_slot (a_slot 1 false false) p in
           let v : Option GoType = given (type_meant p.env t) (λ w. Some (under (defined_in p.env) w)) in
           record {
-            go = λ k. (joined (joined (type_goes p t xs ms) (elems_goes q v 0 es (after_type t xs) (flags_type (is_again p) t ms) (behind (type_seen p t ++ elems_seen q v 0 es) (seen p u (composite s t es) ∷ []) k).0)) (no_use {e = composite s t es} refl)).go k;
+            go = λ k. (joined (joined (type_goes p t xs ms) (elems_goes (Some t) q v 0 es (after_type t xs) (flags_type (is_again p) t ms) (meant_told p.env t) (behind (type_seen p t ++ elems_seen q v 0 es) (seen p u (composite s t es) ∷ []) k).0)) (no_use {e = composite s t es} refl)).go k;
           }
-      expr_goes p u (selector s b n) xs ms = joined (expr_goes _ other b xs ms) (selector_goes p u s b n (after_expr b xs) (flags_expr (is_again p) b ms))
+      expr_goes p u (selector s b n) xs ms = joined (expr_goes _ other b xs ms) (one_use refl)
       expr_goes p u (index s b i) xs ms = joined (joined (expr_goes _ other b xs ms) (expr_goes _ other i (after_expr b xs) (flags_expr (is_again p) b ms))) (no_use refl)
       expr_goes p u (slice s b i j) xs ms = joined (joined (joined (expr_goes _ other b xs ms) (option_goes _ i (after_expr b xs) (flags_expr (is_again p) b ms))) (option_goes _ j (after_expr_option i (after_expr b xs)) (flags_expr_option (is_again p) i (flags_expr (is_again p) b ms)))) (no_use refl)
       expr_goes p u (call s g es r) xs ms =
@@ -262,29 +247,36 @@ module _ {S : Type 0} where
       option_goes p no_expr xs ms = stops
       option_goes p (some_expr e) xs ms = expr_goes p other e xs ms
 
-      elems_goes : (p : Place S) (u : Option GoType) (i : ℕ) (es : Elems S) (xs : List (Candidate S)) (ms : List Bool) → ElemsKeyed p u i es → Goes xs ms (elems_seen p u i es) (after_elems es xs) (flags_elems (is_again p) es ms)
-      elems_goes p u i no_elems xs ms h = stops
-      elems_goes p u i (elem s k v es) xs ms h =
-          joined (joined (key_goes p u k xs ms h.0) (value_goes (record p { slot = a_slot 1 false (elem_closed es) }) (elem_use p.env u i k) v (after_key k xs) (flags_key (is_again p) k ms) h.1.0))
-          (elems_goes p u (suc i) es (after_value v (after_key k xs)) (flags_value (is_again p) v (flags_key (is_again p) k ms)) h.1.1)
+      elems_goes : (h : Option (TypeExpr S)) (p : Place S) (u : Option GoType) (i : ℕ) (es : Elems S) (xs : List (Candidate S)) (ms : List Bool) → Told p.env h u → ElemsKeyed p u i es → Goes xs ms (elems_seen p u i es) (after_elems h es xs) (flags_elems (is_again p) es ms)
+      elems_goes h p u i no_elems xs ms m a = stops
+      elems_goes h p u i (elem s k v es) xs ms m a =
+          joined (joined (key_goes h p u k xs ms m a.0) (value_goes (inner_written h) (record p { slot = a_slot 1 false (elem_closed es) }) (elem_use p.env u i k) v (after_key h k xs) (flags_key (is_again p) k ms) (inner_told p.env h u i k m) a.1.0))
+          (elems_goes h p u (suc i) es (after_value (inner_written h) v (after_key h k xs)) (flags_value (is_again p) v (flags_key (is_again p) k ms)) m a.1.1)
 
-      key_goes : (p : Place S) (u : Option GoType) (k : ValueOption S) (xs : List (Candidate S)) (ms : List Bool) → KeyKeyed p u k → Goes xs ms (key_seen p u k) (after_key k xs) (flags_key (is_again p) k ms)
-      key_goes p u no_value xs ms h = stops
-      key_goes p u (some_value (plain (ident s n))) xs ms h = by (meets u is_struct) refl
+      key_goes : (h : Option (TypeExpr S)) (p : Place S) (u : Option GoType) (k : ValueOption S) (xs : List (Candidate S)) (ms : List Bool) → Told p.env h u → KeyKeyed p u k → Goes xs ms (key_seen p u k) (after_key h k xs) (flags_key (is_again p) k ms)
+      key_goes h p u no_value xs ms m a = stops
+      key_goes h p u (some_value (plain (ident s n))) xs ms m a = by (has_no_fields h) refl (meets u is_struct) refl
         where
-          by : (b : Bool) → meets u is_struct ≡ b → Goes xs ms (if b then [] else seen p (key_use p.env u) (ident s n) ∷ []) (put (key_part (ident s n)) xs) (put_flag (is_again p) ms)
-          by true e = record { go = λ k. past_a_field u s n (is_again p) e at_the_end }
-          by false e = record { go = λ k. past_a_key at_the_end }
-      key_goes p u (some_value v) xs ms h = held (meets u is_struct) h.0 (value_goes p (key_use p.env u) v xs ms h.1)
+          clash : {A : Type 0} {b : Bool} → b ≡ false → b ≡ true → A
+          clash f t = absurd cc
+
+          by : (w : Bool) → has_no_fields h ≡ w → (b : Bool) → meets u is_struct ≡ b
+              → Goes xs ms (if b then [] else seen p (key_use p.env u) (ident s n) ∷ []) (put (record { part = an_expr (ident s n); key = not w }) xs) (put_flag (is_again p) ms)
+          by true f true e = clash (no_struct p.env h u m f) e
+          by true f false e = one_use refl
+          by false f true e = record { go = λ k. past_a_field u s n (is_again p) e at_the_end }
+          by false f false e = record { go = λ k. past_a_key at_the_end }
+      key_goes h p u (some_value v) xs ms m a = held (meets u is_struct) a.0 (value_goes (keys_written h) p (key_use p.env u) v xs ms (keys_told p.env h u m) a.1)
         where
-          held : (b : Bool) → b ≡ false → Goes xs ms (value_seen p (key_use p.env u) v) (after_value v xs) (flags_value (is_again p) v ms)
-              → Goes xs ms (if b then [] else value_seen p (key_use p.env u) v) (after_value v xs) (flags_value (is_again p) v ms)
+          held : (b : Bool) → b ≡ false → Goes xs ms (value_seen p (key_use p.env u) v) (after_value (keys_written h) v xs) (flags_value (is_again p) v ms)
+              → Goes xs ms (if b then [] else value_seen p (key_use p.env u) v) (after_value (keys_written h) v xs) (flags_value (is_again p) v ms)
           held true e g = cc
           held false e g = g
 
-      value_goes : (p : Place S) (u : Use) (v : Value S) (xs : List (Candidate S)) (ms : List Bool) → ValueKeyed p u v → Goes xs ms (value_seen p u v) (after_value v xs) (flags_value (is_again p) v ms)
-      value_goes p u (plain e) xs ms h = expr_goes p u e xs ms
-      value_goes p u (braced s es) xs ms h = elems_goes p _ 0 es xs ms h
+      value_goes : (h : Option (TypeExpr S)) (p : Place S) (u : Use) (v : Value S) (xs : List (Candidate S)) (ms : List Bool) → Told p.env h (given (into_type u) (λ t. Some (under (defined_in p.env) (literal_type (defined_in p.env) t)))) → ValueKeyed p u v
+          → Goes xs ms (value_seen p u v) (after_value h v xs) (flags_value (is_again p) v ms)
+      value_goes h p u (plain e) xs ms m a = expr_goes p u e xs ms
+      value_goes h p u (braced s es) xs ms m a = elems_goes h p _ 0 es xs ms m a
 
       stmt_goes : (p : Place S) (l : Bool) (s : Stmt S) (xs : List (Candidate S)) (ms : List Bool) → Goes xs ms (stmt_seen p l s) (after_stmt s xs) (flags_stmt (is_again p) s ms)
       stmt_goes p l (const_decl s g ss) xs ms = joined (constants_goes _ nothing_to_repeat 0 ss xs ms) one_stmt

@@ -24,11 +24,6 @@ module _ {S : Type 0} where
   is_repeated no_specs = false
   is_repeated (spec _ ns t es ss) = no_values es
 
-  -- a selector is a part where a name stands before its dot
-  abbrev pub flags_selector : Bool → Expr S → List Bool → List Bool
-  flags_selector m (ident _ _) xs = put_flag m xs
-  flags_selector m b xs = xs
-
   abbrev mutual
     -- one flag for each name in a type, behind others
     pub flags_type : Bool → TypeExpr S → List Bool → List Bool
@@ -65,7 +60,7 @@ module _ {S : Type 0} where
     flags_expr m (rune_lit _ _) xs = xs
     flags_expr m (str_lit _ _) xs = xs
     flags_expr m (composite _ t es) xs = flags_elems m es (flags_type m t xs)
-    flags_expr m (selector s b n) xs = flags_selector m b (flags_expr m b xs)
+    flags_expr m (selector s b n) xs = put_flag m (flags_expr m b xs)
     flags_expr m (index _ b i) xs = flags_expr m i (flags_expr m b xs)
     flags_expr m (slice _ b i j) xs = flags_expr_option m j (flags_expr_option m i (flags_expr m b xs))
     flags_expr m (call s f es r) xs = put_flag m (flags_exprs m es (flags_expr m f xs))

@@ -3,23 +3,13 @@
 ghost use Rattle.std.specs.Prelude.{◌≡◌, OnOk};
 ghost use Rattle.go_tree.specs.View.{expr_of, exprs_of, boxed_expr_option_of, plain_expr_option_of, value_of};
 ghost use Rattle.go_tree.specs.View.{held_value_option_of, elems_of};
-ghost use Rattle.repeated_parts.specs.Flags.{flags_selector, flags_expr, flags_exprs, flags_expr_option, flags_value};
+ghost use Rattle.repeated_parts.specs.Flags.{flags_expr, flags_exprs, flags_expr_option, flags_value};
 ghost use Rattle.repeated_parts.specs.Flags.{flags_key, flags_elems};
 
 use crate::groups::put_flag;
 use crate::stmts::stmts_flags;
 use crate::types::{sig_flags, type_flags};
 use go_tree::{ElemList, Expr, ExprList, NoMemory, Value};
-
-/// A selector, where a name stands before its dot.
-fn put_selector(base: &Expr, repeated: bool, flags: &mut Vec<bool>) -> Result<(), NoMemory>
-    ensures { OnOk result (flags.new.items ≡ flags_selector repeated (expr_of base.now) flags.old.items) }
-{
-    if matches!(base, Expr::Ident { .. }) {
-        put_flag(repeated, flags)?;
-    }
-    Ok(())
-}
 
 #[cycle(tree_flags)]
 pub(crate) fn expr_flags(e: &Expr, repeated: bool, flags: &mut Vec<bool>) -> Result<(), NoMemory>
@@ -34,7 +24,7 @@ pub(crate) fn expr_flags(e: &Expr, repeated: bool, flags: &mut Vec<bool>) -> Res
         }
         Expr::Selector { base, .. } => {
             expr_flags(base, repeated, flags)?;
-            put_selector(base, repeated, flags)
+            put_flag(repeated, flags)
         }
         Expr::Index { base, at, .. } => {
             expr_flags(base, repeated, flags)?;

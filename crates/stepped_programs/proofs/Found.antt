@@ -24,22 +24,19 @@ use Rattle.programs.specs.Programs.{IsProgramOf}
 use Rattle.programs.specs.declared.state.Program.{Program}
 use Rattle.run_by_steps.specs.NextPrograms.Made.{NextWith}
 use Rattle.run_rules.specs.FormTrees.{as_expr}
-use Rattle.run_rules.specs.Forms.{is_at}
 use Rattle.run_rules.specs.Programs.{decl_seen}
 use Rattle.run_rules.specs.Run.{Standing, Next, here_of, edits_in, logged}
 use Rattle.run_rules.specs.Sites.{MarkRef, Where, an_expr, inlinable, part_span}
-use Rattle.run_rules.specs.Steps.{At, Found, same_here}
+use Rattle.run_rules.specs.Steps.{At, Found}
 use Rattle.run_rules.specs.Texts.{FileText}
 use Rattle.repeated_parts.specs.UseSearch.UsesOfMarks.Laws.{IsSound, EachSound}
 use Rattle.repeated_parts.specs.UseSearch.UsesOfMarks.Uses.{PlacedMark}
 use Rattle.repeated_parts.specs.UseSearch.Answers.{names_of}
 use Rattle.stepped_programs.specs.SearchedSites.FoundSteps.Laws.{step_of}
 use Rattle.stepped_programs.specs.SearchedSites.OrderedSearches.Found.{IsFoundFirst}
-use Rattle.stepped_programs.specs.SearchedSites.SwappedParts.Swaps.{HasNoDot}
 use Rattle.stepped_programs.proofs.SearchedSites.SettledFiles.Packages.{placed}
-use Rattle.printed_constants.specs.TypedParts.StandingUses.ImportUses.Parts.{EachSeen}
 use Rattle.stepped_programs.specs.Steps.{AreSwapped}
-use Rattle.stepped_programs.specs.Laws.{IsPlaceOf, PutsName, IsOfStep, place_of, IsUndotted, FoundUsesArePut}
+use Rattle.stepped_programs.specs.Laws.{IsPlaceOf, PutsName, IsOfStep, place_of, FoundUsesArePut}
 use Rattle.stepped_programs.proofs.Held.{origins_of_steps}
 
 -- what is asked of each declaration is asked of one
@@ -53,7 +50,7 @@ still_some g None = refl
 still_some g (Some a) = refl
 
 module _ (marks : List MarkRef) (st : Standing) (s : ProgramSources) (k : ℕ) (r : FoundInPackage) (a : IsFoundFirst marks st s k r) (old : FileText) (f : NewFile) (m : NextWith marks st (step_of a) old (text_of f) (file_of f.tree))
-    (e : Expr At) (part : a.site.part ≡ an_expr e) (undotted : IsUndotted st a.site) where
+    (e : Expr At) (part : a.site.part ≡ an_expr e) where
   abbrev n : Next marks st (logged marks st (step_of a) (edits_in marks st old (step_of a))) m.after
   n = m.next
 
@@ -94,9 +91,6 @@ module _ (marks : List MarkRef) (st : Standing) (s : ProgramSources) (k : ℕ) (
         decl_is = nth;
         scoped = subst (λ (y : Found At). AllScoped (decl_seen st.packages y.site.at.number y.site.at.of y.site.at.source.tree d)) (sym same) sound.scoped;
         keyed = subst (λ (y : Found At). Keyed (decl_seen st.packages y.site.at.number y.site.at.of y.site.at.source.tree d)) (sym same) sound.keyed;
-        no_dot =
-            subst (λ (y : Found At). EachSeen (HasNoDot (is_at same_here (part_span y.site.part))) (decl_seen st.packages y.site.at.number y.site.at.of y.site.at.source.tree d)) (sym same)
-            (undotted d nth_there);
         word = r.found.form.name;
         form_is =
             ap (λ (y : Found At). y.form) same
@@ -124,4 +118,4 @@ module _ (marks : List MarkRef) (st : Standing) (s : ProgramSources) (k : ℕ) (
       }
 
 pub found_put : PartsAreAmongAll At → FoundUsesArePut
-found_put among files marks st s k r a old f m p os e is part undotted small h = of_step marks st s k r a old f m e part undotted among files p os is small h
+found_put among files marks st s k r a old f m p os e is part small h = of_step marks st s k r a old f m e part among files p os is small h

@@ -4,3 +4,4 @@ pub mod Marked
 pub mod UsesStay
 pub mod Among
 pub mod Placed
+pub mod Keys

@@ -1,3 +1,4 @@
 pub mod Uses
 pub mod Views
 pub mod Laws
+pub mod Keys

@@ -70,7 +70,7 @@ module _ {S T : Type 0} (to : S → T) where
     abbrev placed : Used × Bool → List FlaggedMark → Option MarkRef → List FlaggedMark
     placed u rest o = elim o [ None ↦ rest | Some m ↦ ((u.0.span, m), u.1) ∷ rest ]
 
-    used_stays : (u : Used) → mark_used (packages_with to ps) marks u ≡ mark_used ps marks u
+    pub used_stays : (u : Used) → mark_used (packages_with to ps) marks u ≡ mark_used ps marks u
     used_stays u = ap (λ (o : Option MarkRef). marked ps marks o) (member_stays ps u.«package» u.name)
 
     -- the marked members among uses

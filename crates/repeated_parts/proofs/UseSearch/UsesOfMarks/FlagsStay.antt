@@ -4,13 +4,9 @@ use Rattle.std.specs.Option.{option_map}
 use Rattle.go_tree.specs.Tree.{TypeExpr, named, pointer, slice_type, map_type, struct_type, Fields, no_fields, field, Param, Sig, Expr, ident, int_lit, rune_lit, str_lit, composite, selector, index, slice, call, func_lit, type_operand, unary, binary, star, Exprs, no_exprs, expr_and, ExprOption, no_expr, some_expr, Elems, no_elems, elem, Value, plain, braced, ValueOption, no_value, some_value, Stmt, const_decl, var_decl, empty, eval, step, assign, define, return_, break_, continue_, inner, if_, for_, range_, switch, defer, label, Stmts, no_stmts, stmt_and, StmtOption, no_stmt, some_stmt, BlockOption, no_block, some_block, RangeLeft, nothing, assigns, defines, Arms, no_arms, arm, Cases, no_cases, case, ValueSpecs, no_specs, spec}
 use Rattle.go_tree.specs.File.{TypeSpec, Receiver, Func, Decl, values, types, func}
 use Rattle.run_rules.specs.Respanned.{type_with, fields_with, param_with, sig_with, expr_with, exprs_with, expr_option_with, elems_with, value_option_with, value_with, stmt_with, stmts_with, stmt_option_with, block_option_with, left_with, arms_with, cases_with, specs_with, type_spec_with, receiver_with, func_with, decl_with}
-use Rattle.repeated_parts.specs.Flags.{put_flag, is_repeated, flags_selector, flags_of, flags_arms, flags_block_option, flags_cases, flags_elems, flags_expr, flags_expr_option, flags_exprs, flags_fields, flags_func, flags_group, flags_key, flags_left, flags_params, flags_receiver, flags_sig, flags_specs, flags_stmt, flags_stmt_option, flags_stmts, flags_type, flags_type_option, flags_types, flags_value}
+use Rattle.repeated_parts.specs.Flags.{put_flag, is_repeated, flags_of, flags_arms, flags_block_option, flags_cases, flags_elems, flags_expr, flags_expr_option, flags_exprs, flags_fields, flags_func, flags_group, flags_key, flags_left, flags_params, flags_receiver, flags_sig, flags_specs, flags_stmt, flags_stmt_option, flags_stmts, flags_type, flags_type_option, flags_types, flags_value}
 
 module _ {S T : Type 0} (to : S → T) where
-  selector-stays : (m : Bool) (b : Expr S) (xs : List Bool) → flags_selector m (expr_with to b) xs ≡ flags_selector m b xs
-  selector-stays m (ident s n) xs = refl
-  selector-stays m b xs = refl
-
   repeated-stays : (ss : ValueSpecs S) → is_repeated (specs_with to ss) ≡ is_repeated ss
   repeated-stays no_specs = refl
   repeated-stays (spec s ns t no_exprs ss) = refl
@@ -46,7 +42,7 @@ module _ {S T : Type 0} (to : S → T) where
     flags_expr-stays m (rune_lit s n) xs = refl
     flags_expr-stays m (str_lit s n) xs = refl
     flags_expr-stays m (composite s t es) xs = ap (λ (ys : List Bool). flags_elems m (elems_with to es) ys) (flags_type-stays m t xs) ∙ flags_elems-stays m es (flags_type m t xs)
-    flags_expr-stays m (selector s b n) xs = ap (λ (ys : List Bool). flags_selector m (expr_with to b) ys) (flags_expr-stays m b xs) ∙ selector-stays m b (flags_expr m b xs)
+    flags_expr-stays m (selector s b n) xs = ap (λ (ys : List Bool). put_flag m ys) (flags_expr-stays m b xs)
     flags_expr-stays m (index s b i) xs = ap (λ (ys : List Bool). flags_expr m (expr_with to i) ys) (flags_expr-stays m b xs) ∙ flags_expr-stays m i (flags_expr m b xs)
     flags_expr-stays m (slice s b i j) xs = ap (λ (ys : List Bool). flags_expr_option m (expr_option_with to j) (flags_expr_option m (expr_option_with to i) ys)) (flags_expr-stays m b xs) ∙ ap (λ (ys : List Bool). flags_expr_option m (expr_option_with to j) ys) (flags_expr_option-stays m i (flags_expr m b xs)) ∙ flags_expr_option-stays m j (flags_expr_option m i (flags_expr m b xs))
     flags_expr-stays m (call s f es r) xs = ap (λ (ys : List Bool). put_flag m (flags_exprs m (exprs_with to es) ys)) (flags_expr-stays m f xs) ∙ ap (λ (ys : List Bool). put_flag m ys) (flags_exprs-stays m es (flags_expr m f xs))

@@ -1,5 +1,6 @@
 //! Laws of the uses of marked constants.
 
+ghost use Rattle.repeated_parts.specs.UseSearch.UsesOfMarks.Keys.{FilesWithoutMarkedKeys};
 ghost use Rattle.repeated_parts.specs.UseSearch.UsesOfMarks.Laws.{MarkedUsesAreSites, UsesArePlaced};
 
 use crate::repeated_uses_are_sites;
@@ -21,3 +22,9 @@ pub fn uses_are_placed()
 {
     repeated_uses_are_sites();
 }
+
+/// Where `marked_keys` finds none in a file, no key of its declarations that may be the name of a field is that of a
+/// marked constant, as the law of its uses asks (Go specification, Composite literals).
+pub fn files_without_marked_keys()
+    ensures { FilesWithoutMarkedKeys }
+{}

@@ -11,7 +11,7 @@ use Rattle.member_uses.specs.Uses.{Used, Names, used, name_alone, type_package, 
 use Rattle.go_tree.specs.GoTypes.Answers.{given}
 use Rattle.pkg_graph.specs.Package.{Package}
 use Rattle.member_uses.specs.PossibleUses.Candidates.{Candidate, plain_part}
-use Rattle.member_uses.specs.PossibleUses.Parts.{put, put_selector, after_expr, after_exprs, after_params, after_receiver, after_sig, after_specs, after_stmts, parts_of}
+use Rattle.member_uses.specs.PossibleUses.Parts.{put, after_expr, after_exprs, after_params, after_receiver, after_sig, after_specs, after_stmts, parts_of}
 use Rattle.run_rules.specs.Run.{Standing, here_of}
 use Rattle.run_rules.specs.Sites.{MarkRef, Where, Part, an_expr, a_type_part}
 use Rattle.run_rules.specs.Steps.{At}
@@ -30,15 +30,10 @@ module _ {S : Type 0} where
   one_more c e [] h = (e, tt)
   one_more c e (x ∷ xs) h = (h.0, one_more c e xs h.1)
 
-  chosen : {b : Expr S} → IsFlat b → (e : Expr S) (xs : List (Candidate S)) → NoKeys xs → NoKeys (put_selector b e xs)
-  chosen a_name e xs h = one_more (plain_part (an_expr e)) refl xs h
-  chosen a_number e xs h = h
-  chosen (a_selection k) e xs h = h
-
   flat : {e : Expr S} → IsFlat e → (xs : List (Candidate S)) → NoKeys xs → NoKeys (after_expr e xs)
   flat (a_name {s = s} {n = n}) xs h = one_more (plain_part (an_expr (ident s n))) refl xs h
   flat a_number xs h = h
-  flat (a_selection {s = s} {b = b} {n = n} k) xs h = chosen k (selector s b n) (after_expr b xs) (flat k xs h)
+  flat (a_selection {s = s} {b = b} {n = n} k) xs h = one_more (plain_part (an_expr (selector s b n))) refl (after_expr b xs) (flat k xs h)
 
   all_flat : {es : Exprs S} → AllFlat es → (xs : List (Candidate S)) → NoKeys xs → NoKeys (after_exprs es xs)
   all_flat no_operands xs h = h
