@@ -13,7 +13,7 @@ use Rattle.order_runs.specs.ImportCodes.PackagesMoved.{ImportsStand}
 use Rattle.order_runs.proofs.ImportCodes.PackagesCode.{beside, number-among}
 use Rattle.order_runs.proofs.ImportCodes.LinkedBeside.{linked-beside}
 use Rattle.order_runs.proofs.ImportSteps.ImportingSteps.{importing-step}
-use Rattle.order_runs.proofs.ImportSteps.Links.{Link, link-then, moved-link, any-number, bare-link, link-typed}
+use Rattle.order_runs.proofs.ImportSteps.Links.{Link, link-then, moved-link, declarations-of, any-number, bare-link, link-typed}
 use Rattle.alias_runs.specs.AliasSteps.AliasSteps.{members_with_form}
 use Rattle.alias_runs.specs.ImportingAliases.{ImportingAliasStep, ImportingNamesRun, no_step, over_constant, over_alias}
 use Rattle.alias_runs.proofs.AliasLinks.{form-link, form-numbers}
@@ -24,7 +24,7 @@ module _ {S : Type 0} (same : S → S → Bool) where
     put = members_with_form same t.packages t.at t.form t.number t.of t.tree t.nth_package t.nth_file t.nth_decl t.added
 
     first : Link (P.members ++ Q) (t.added ++ Q)
-    first = moved-link (P.members ++ Q) (t.added ++ Q) (beside Q P.members t.added t.adds)
+    first = moved-link (P.members ++ Q) (t.added ++ Q) (beside Q P.members t.added t.adds) (declarations-of (P.members ++ Q) w)
 
     distinct : are_distinct (t.added ++ Q) ≡ true
     distinct = sym first.distinct ∙ and_first (are_distinct (P.members ++ Q)) (are_linked [] (P.members ++ Q) && well_typed (sources (P.members ++ Q))) w
@@ -32,10 +32,11 @@ module _ {S : Type 0} (same : S → S → Bool) where
     second : Link (t.added ++ Q) (put ++ Q)
     second = form-link same t.packages t.at t.form t.number t.of t.tree t.nth_package t.nth_file t.nth_decl t.added Q (t.swaps Q w) distinct
 
+    to-read : Link (P.members ++ Q) (t.read ++ Q)
+    to-read = link-then first (link-then second (bare-link (put ++ Q) (t.read ++ Q) (beside-alike put t.read Q t.respans)))
+
     pub step-link : Link (P.members ++ Q) (P'.members ++ Q)
-    step-link =
-        link-then first (link-then second
-        (link-then (bare-link (put ++ Q) (t.read ++ Q) (beside-alike put t.read Q t.respans)) (moved-link (t.read ++ Q) (P'.members ++ Q) (beside Q t.read P'.members t.settles))))
+    step-link = link-then to-read (moved-link (t.read ++ Q) (P'.members ++ Q) (beside Q t.read P'.members t.settles) (sym to-read.typed ∙ declarations-of (P.members ++ Q) w))
 
     numbers : (x : ℕ) → list_any (has_number x) P.members ≡ list_any (has_number x) P'.members
     numbers x =

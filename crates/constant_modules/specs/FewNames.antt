@@ -1,4 +1,3 @@
 -- How few different names a step avoids, in files of any declarations: definitions and laws alone, without code (Go
 -- specification, Identifiers; Import declarations).
-pub mod Fresh
 pub mod Laws

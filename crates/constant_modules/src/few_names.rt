@@ -3,4 +3,4 @@
 
 mod laws;
 
-pub use laws::{few_names_are_fresh, steps_avoid_few_names, steps_keep_look_ups};
+pub use laws::{steps_avoid_few_names, steps_keep_look_ups};

@@ -3,6 +3,9 @@
 -- Definitions and laws alone, without code.
 pub mod HeadersCode
 pub mod NamesImported
+pub mod FreeWithin
+pub mod BodiesBound
+pub mod HeadersDeclare
 pub mod HeadersUnder
 pub mod LinkedBeside
 pub mod PackagesCode

@@ -10,3 +10,8 @@ pub mod ImportRuns
 pub mod SameCodes
 pub mod CycleRuns
 pub mod CycleLaws
+pub mod TypingMarked
+pub mod SmallMarked
+pub mod MentionsMarked
+pub mod HereMarked
+pub mod TranslationMarked

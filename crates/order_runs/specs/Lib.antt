@@ -8,3 +8,4 @@ pub mod ImportRuns
 pub mod SameCodes
 pub mod CycleRuns
 pub mod CycleLaws
+pub mod Marked

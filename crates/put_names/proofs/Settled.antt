@@ -4,7 +4,7 @@ use Rattle.go_tree.specs.FileBare.{bare_file}
 use Rattle.order_runs.specs.CycleRuns.Linked.{WritesFile, SettlesFile}
 use Rattle.splice_laws.specs.ImportSplices.AddedFile.{AreWritable}
 use Rattle.order_runs.specs.CycleRuns.KeptImports.Files.{RemovesNoNames}
-use Rattle.order_runs.specs.CycleRuns.OrderCycles.NewNames.{FewNames}
+use Rattle.order_runs.specs.CycleRuns.OrderCycles.NewNames.{AvoidsFew}
 use Rattle.order_runs.specs.CycleRuns.OrderedSteps.Ranks.{AddsLedTo}
 use Rattle.run_rules.specs.Laws.{file_found}
 use Rattle.run_rules.specs.Naming.{imports_added}
@@ -26,13 +26,13 @@ module _ (marks : List MarkRef) (st : Standing) (l : Logged) (after : Standing) 
   names_write undotted scoped used becomes writable led =
       record { puts = (steps_put marks st l after n reads undotted scoped used becomes).0; writable = writable; led = led }
 
-  settles_by : WritesFile n → FewNames st.packages n.found → RemovesNoNames n → SettlesFile n
+  settles_by : WritesFile n → AvoidsFew st.packages n.found → RemovesNoNames n → SettlesFile n
   settles_by w few removes = record { puts = w.puts; writable = w.writable; led = w.led; few = few; removes = removes }
 
-  pub names_settle : UndottedFile (bare_file (file_found n.found)) → IsScopedAround n → IsUsedByName n → BecomesName n → AreWritable (imports_added n.found.named) → AddsLedTo st.packages n.found → FewNames st.packages n.found → RemovesNoNames n → SettlesFile n
+  pub names_settle : UndottedFile (bare_file (file_found n.found)) → IsScopedAround n → IsUsedByName n → BecomesName n → AreWritable (imports_added n.found.named) → AddsLedTo st.packages n.found → AvoidsFew st.packages n.found → RemovesNoNames n → SettlesFile n
   names_settle undotted scoped used becomes writable led few removes = settles_by (names_write undotted scoped used becomes writable led) few removes
 
-  module _ (writable : PackagesAreWritable st.packages) (undotted : UndottedFile (bare_file (file_found n.found))) (scoped : IsScopedAround n) (used : IsUsedByName n) (led : AddsLedTo st.packages n.found) (few : FewNames st.packages n.found) where
+  module _ (writable : PackagesAreWritable st.packages) (undotted : UndottedFile (bare_file (file_found n.found))) (scoped : IsScopedAround n) (used : IsUsedByName n) (led : AddsLedTo st.packages n.found) (few : AvoidsFew st.packages n.found) where
     write_by : AreOfPackages st.packages n.found.named × (AreNames n.found.named → BecomesName n) → WritesFile n
     write_by h =
         let are : AreNames n.found.named = step_names marks st n.found n.is_first n.old n.stands reads writable.named writable.by_path few h.0 in

@@ -10,7 +10,7 @@ use Rattle.splice_laws.specs.Dots.{UndottedFile}
 use Rattle.order_runs.specs.CycleRuns.Linked.{SettlesFile}
 use Rattle.splice_laws.specs.ImportSplices.AddedFile.{AreWritable}
 use Rattle.order_runs.specs.CycleRuns.KeptImports.Files.{PutsNode, RemovesNoNames}
-use Rattle.order_runs.specs.CycleRuns.OrderCycles.NewNames.{NamesByPath, FewNames}
+use Rattle.order_runs.specs.CycleRuns.OrderCycles.NewNames.{NamesByPath, AvoidsFew}
 use Rattle.order_runs.specs.CycleRuns.OrderedSteps.Ranks.{AddsLedTo}
 use Rattle.run_rules.specs.Naming.{imports_added}
 use Rattle.put_names.specs.ReadImports.PutInText.{PutInText}
@@ -35,7 +35,7 @@ abbrev pub NamesSettleFiles : Type 0
 NamesSettleFiles =
     (marks : List MarkRef) (st : Standing) (l : Logged) (after : Standing) (n : Next marks st l after) → ProgramReads st
     → UndottedFile (bare_file (file_found n.found)) → IsScopedAround n → IsUsedByName n → BecomesName n
-    → AreWritable (imports_added n.found.named) → AddsLedTo st.packages n.found → FewNames st.packages n.found
+    → AreWritable (imports_added n.found.named) → AddsLedTo st.packages n.found → AvoidsFew st.packages n.found
     → RemovesNoNames n → SettlesFile n
 
 -- A constant that is declared as a name becomes a name, if the names that the form has for packages are identifiers;
@@ -66,7 +66,7 @@ abbrev pub ConstantsSettleFiles : Type 0
 ConstantsSettleFiles =
     (marks : List MarkRef) (st : Standing) (l : Logged) (after : Standing) (n : Next marks st l after) → ProgramReads st
     → PackagesAreWritable st.packages → UndottedFile (bare_file (file_found n.found)) → IsScopedAround n
-    → IsUsedByName n → UsesConstant n → AddsLedTo st.packages n.found → FewNames st.packages n.found
+    → IsUsedByName n → UsesConstant n → AddsLedTo st.packages n.found → AvoidsFew st.packages n.found
     → RemovesNoNames n → SettlesFile n
 
 -- The same of an alias of a type's name, used as an expression.
@@ -74,5 +74,5 @@ abbrev pub AliasesSettleFiles : Type 0
 AliasesSettleFiles =
     (marks : List MarkRef) (st : Standing) (l : Logged) (after : Standing) (n : Next marks st l after) → ProgramReads st
     → PackagesAreWritable st.packages → UndottedFile (bare_file (file_found n.found)) → IsScopedAround n
-    → IsUsedByName n → UsesAlias n → AddsLedTo st.packages n.found → FewNames st.packages n.found
+    → IsUsedByName n → UsesAlias n → AddsLedTo st.packages n.found → AvoidsFew st.packages n.found
     → RemovesNoNames n → SettlesFile n

@@ -21,7 +21,7 @@ use Rattle.order_runs.proofs.RunSteps.SpansForgotten.{beside-alike}
 use Rattle.order_runs.specs.ImportCodes.PackagesMoved.{PackagesMoved, ImportsStand}
 use Rattle.order_runs.proofs.ImportCodes.PackagesCode.{beside, number-among, sources-append}
 use Rattle.order_runs.proofs.ImportCodes.LinkedBeside.{linked-beside}
-use Rattle.order_runs.proofs.ImportSteps.Links.{moved-link, bare-link, any-number}
+use Rattle.order_runs.proofs.ImportSteps.Links.{moved-link, declarations-of, bare-link, any-number}
 use Rattle.order_runs.specs.ImportRuns.PathsUnder.{PathsUnder}
 use Rattle.order_runs.proofs.ImportRuns.MembersMoved.{among-moved, same-paths}
 use Rattle.order_runs.specs.SameCodes.Orders.{PackagesReordered}
@@ -100,7 +100,7 @@ module _ (marks : List MarkRef) (st : Standing) (l : Logged) (after : Standing) 
     m2 = beside Q (members_among rs (numbered rs)) (members_among mid (numbered mid)) (numbers-moved rs mid (next.under-added marks st l after n h.names))
 
     k2 : Likened (members_among rs (numbered rs) ++ Q) (members_among mid (numbered mid) ++ Q)
-    k2 = likened-link (moved-link (members_among rs (numbered rs) ++ Q) (members_among mid (numbered mid) ++ Q) m2)
+    k2 = likened-link (moved-link (members_among rs (numbered rs) ++ Q) (members_among mid (numbered mid) ++ Q) m2 (sym k1.typed ∙ declarations-of (members_of rs ++ Q) w))
 
     d2 : are_distinct (members_among mid (numbered mid) ++ Q) ≡ true
     d2 = sym (k1.distinct ∙ k2.distinct) ∙ distinct-of (members_of rs) Q w
@@ -171,11 +171,14 @@ module _ (marks : List MarkRef) (st : Standing) (l : Logged) (after : Standing) 
     k6 : Likened (members_of back ++ Q) (members_among back (numbered back) ++ Q)
     k6 = likened-reordered (members_of back ++ Q) (members_among back (numbered back) ++ Q) d5 r6
 
+    to-back : Likened (members_of rs ++ Q) (members_among back (numbered back) ++ Q)
+    to-back = likened-then k1 (likened-then k2 (likened-then k3 (likened-then k4 (likened-then k5 k6))))
+
     m7 : PackagesMoved (members_among back (numbered back)) (members_among last (numbered last))
     m7 = numbers-moved back last (next.under-last marks st l after n h.names)
 
     k7 : Likened (members_among back (numbered back) ++ Q) (members_among last (numbered last) ++ Q)
-    k7 = likened-link (moved-link (members_among back (numbered back) ++ Q) (members_among last (numbered last) ++ Q) (beside Q (members_among back (numbered back)) (members_among last (numbered last)) m7))
+    k7 = likened-link (moved-link (members_among back (numbered back) ++ Q) (members_among last (numbered last) ++ Q) (beside Q (members_among back (numbered back)) (members_among last (numbered last)) m7) (sym to-back.typed ∙ declarations-of (members_of rs ++ Q) w))
 
     d7 : are_distinct (members_among last (numbered last) ++ Q) ≡ true
     d7 = sym (k6.distinct ∙ k7.distinct) ∙ d5
@@ -187,7 +190,7 @@ module _ (marks : List MarkRef) (st : Standing) (l : Logged) (after : Standing) 
     k8 = likened-reordered (members_among last (numbered last) ++ Q) (members_of last ++ Q) d7 r8
 
     to-last : Likened (members_of rs ++ Q) (members_of last ++ Q)
-    to-last = likened-then k1 (likened-then k2 (likened-then k3 (likened-then k4 (likened-then k5 (likened-then k6 (likened-then k7 k8))))))
+    to-last = likened-then to-back (likened-then k7 k8)
 
     likened : Likened (members_of rs ++ Q) (members_of after.packages ++ Q)
     likened = subst (λ (ps : List (run.Package At)). Likened (members_of rs ++ Q) (members_of ps ++ Q)) (sym n.packages_are) to-last

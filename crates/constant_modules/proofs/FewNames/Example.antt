@@ -12,7 +12,7 @@ use Rattle.go_tree.specs.ScopeNames.Identifiers.{identifiers}
 use Rattle.go_tree.specs.ScopeNames.Means.{predeclared}
 use Rattle.order_runs.proofs.CycleRuns.ImportCycles.FreeIdentifiers.{in-left, in-right, in-either}
 use Rattle.printed_constants.proofs.UsedImports.HeaderUses.{among_in, in_among}
-use Rattle.constant_modules.proofs.FewNames.Each.{taken, taken-so}
+use Rattle.order_runs.proofs.CycleRuns.OrderCycles.FreshNames.{taken, taken-so}
 
 abbrev at : ℕ → Span
 at n = record { start = n; end = n }

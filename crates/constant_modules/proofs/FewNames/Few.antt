@@ -45,9 +45,9 @@ use Rattle.splice_laws.specs.ImportSplices.FormSplices.Laws.{MakesForm}
 use Rattle.splice_laws.specs.RunLaws.Reading.{FileReads, FileAt, ProgramReads, OnePathEach}
 use Rattle.splice_laws.proofs.ImportSplices.FormSplices.FormsFound.{step-makes-form}
 use Rattle.splice_laws.proofs.RunLaws.FoundSpans.{Placed}
-use Rattle.constant_modules.specs.FewNames.Fresh.{AvoidsFew}
+use Rattle.order_runs.specs.CycleRuns.OrderCycles.NewNames.{AvoidsFew}
 use Rattle.constant_modules.proofs.FewNames.Blocks.{of_block, decls-named}
-use Rattle.constant_modules.proofs.FewNames.Each.{taken, taken-so}
+use Rattle.order_runs.proofs.CycleRuns.OrderCycles.FreshNames.{taken, taken-so}
 use Rattle.constant_modules.proofs.FewNames.Words.{identifiers-are-tokens}
 
 -- ---- the packages that a form names

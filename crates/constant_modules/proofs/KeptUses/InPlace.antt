@@ -36,9 +36,9 @@ use Rattle.run_rules.specs.Run.{Standing, Logged, Next, here_of, is_commented}
 use Rattle.run_rules.specs.Sites.{MarkRef, Where, Site, a_constant, an_expr, part_span}
 use Rattle.run_rules.specs.Steps.{At, same_here, spec_for, added_decls, file_between}
 use Rattle.splice_laws.specs.RunLaws.Reading.{ProgramReads}
-use Rattle.constant_modules.specs.FewNames.Fresh.{AvoidsFew, EachFresh}
+use Rattle.order_runs.specs.CycleRuns.OrderCycles.NewNames.{AvoidsFew, EachFresh}
 use Rattle.constant_modules.specs.LookUps.Laws.{NotBeside}
-use Rattle.constant_modules.proofs.FewNames.Each.{step-fresh}
+use Rattle.order_runs.proofs.CycleRuns.OrderCycles.FreshNames.{step-fresh}
 use Rattle.constant_modules.proofs.KeptUses.Added.{added_named, comes_used}
 use Rattle.constant_modules.proofs.LookUps.Imports.{typed_look_up}
 use Rattle.constant_modules.proofs.LookUps.Removed.{stays}

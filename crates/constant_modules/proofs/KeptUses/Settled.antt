@@ -37,7 +37,7 @@ use Rattle.run_rules.specs.Sites.{MarkRef, Where, an_expr}
 use Rattle.run_rules.specs.Steps.{At, same_here, spec_for, added_decls, file_between}
 use Rattle.splice_laws.specs.ImportSplices.SettledFile.{settled_decls}
 use Rattle.splice_laws.specs.RunLaws.Reading.{ProgramReads}
-use Rattle.constant_modules.specs.FewNames.Fresh.{AvoidsFew}
+use Rattle.order_runs.specs.CycleRuns.OrderCycles.NewNames.{AvoidsFew}
 use Rattle.constant_modules.specs.KeptUses.Laws.{UsedInPlace}
 use Rattle.constant_modules.specs.LookUps.Laws.{NotBeside}
 use Rattle.constant_modules.proofs.KeptUses.Added.{added_named}

@@ -2,6 +2,7 @@
 -- comes to it.
 use Rattle.std.proofs.Common.{◌≡◌, ◌∙◌, refl, sym, ap, ℕ, Bool, true, false, not, ◌||◌, if◌then◌else◌, bytes_eq, List, [], ◌∷◌, ◌++◌, Option, Some, None}
 use Rattle.go_tree.specs.Tree.{NameAt, Param, Sig, Expr, Stmt, const_decl, var_decl, empty, eval, step, assign, define, return_, break_, continue_, inner, if_, for_, range_, switch, defer, label, StmtOption, no_stmt, some_stmt, RangeLeft, nothing, assigns, defines, Arms, no_arms, arm, ValueSpecs, no_specs, spec}
+use Rattle.go_tree.specs.File.{Receiver, Func}
 use Rattle.go_tree.specs.ScopeNames.FreeNames.{names_of, name_then, params_names, specs_names, declared, declared_option, arms_declared, defined, sig_names}
 use Rattle.go_tree.specs.ScopeNames.Means.{is_blank}
 use Rattle.go_tree.specs.ScopeNames.Scopes as scopes
@@ -9,9 +10,12 @@ use Rattle.go_tree.specs.ScopeNames.Scopes.{not_blank, specs_declare, with_name,
 use Rattle.go_tree.specs.GoTypes.Answers.{is_among}
 use Rattle.go_tree.specs.GoTypes.Types.{FuncType}
 use Rattle.go_tree.specs.GoTypes.TypeNames.{func_type}
+use Rattle.go_tree.specs.GoTypes.WellTyped.{receiver_names}
+use Rattle.pkg_graph.specs.Package.{Package}
 use Rattle.form_meaning.proofs.FormInPlace.Uses.{among_append}
 use Rattle.run_rules.specs.Surroundings.{Slot, Place, callee_place, after_first, block, in_literal, first_declares, left_declares}
 use Rattle.run_rules.specs.Places.{after_arms}
+use Rattle.run_rules.specs.Programs.{with_receiver, params_of}
 use Rattle.constant_steps.proofs.FormImports.Kept.{neither, both_false, free_both, callee_free, literal_at}
 use Rattle.constant_steps.proofs.WrittenLiteral.ListedHeads.{names_both}
 
@@ -119,6 +123,22 @@ module _ {S : Type 0} (m : List ℕ) where
       by : (o : Option FuncType) → Clear (sig_names g ++ env) (literal_at m p g o).bound
       by None = λ e. c (neither (is_among m (sig_names g)) (is_among m env) (sym (among_append m (sig_names g) env) ∙ e)).1
       by (Some f) = grown (sig_declares g) (sig_names g) env p.bound (sig_free g) c
+
+  -- what a function declares around its body
+  pub body_clear : (ps : List (Package S)) (f : Func S) → Clear (receiver_names f.receiver ++ sig_names f.sig) (not_blank (param_names f.sig.results ++ param_names (params_of ps f)))
+  body_clear ps f e =
+      let q = neither (is_among m (receiver_names f.receiver)) (is_among m (sig_names f.sig)) (sym (among_append m (receiver_names f.receiver) (sig_names f.sig)) ∙ e) in
+      let r = neither (is_among m (params_names f.sig.params)) (is_among m (params_names f.sig.results)) (sym (among_append m (params_names f.sig.params) (params_names f.sig.results)) ∙ q.1) in
+      blank_clear (param_names f.sig.results ++ param_names (params_of ps f))
+      (free_both m (param_names f.sig.results) (param_names (params_of ps f)) (ap (is_among m) (params_named f.sig.results) ∙ r.1) (received f.receiver q.0 (ap (is_among m) (params_named f.sig.params) ∙ r.0)))
+    where
+      received : (o : Option (Receiver S)) → is_among m (receiver_names o) ≡ false → Free (param_names f.sig.params) → Free (param_names (with_receiver ps o f.sig.params))
+      received None a b = b
+      received (Some r) a b = by r.name a
+        where
+          by : (o : Option (NameAt S)) → is_among m (name_then o []) ≡ false → Free (with_name o (param_names f.sig.params))
+          by None c = b
+          by (Some n) c = both_false (bytes_eq m n.name) (is_among m (names_of (param_names f.sig.params))) (neither (bytes_eq m n.name) false c).0 b
 
   pub arms_clear : (env : List (List ℕ)) (p : Place S) (bs : Arms S) → Clear env p.bound → Clear (arms_declared bs ++ env) (after_arms p bs).bound
   arms_clear env p no_arms c = c

@@ -1,23 +1,21 @@
 -- Each name that a declaration looks up stands at a part of it, or beside.
-use Rattle.std.proofs.Common.{◌≡◌, refl, ◌⊎◌, inl, inr, ℕ, suc, Bool, true, false, List, [], ◌∷◌, ◌++◌, Option, Some, None}
+use Rattle.std.proofs.Common.{refl, ◌⊎◌, inl, inr, ℕ, suc, List, [], ◌∷◌, ◌++◌, Option, Some, None}
 use Rattle.go_tree.specs.Tree.{named, const_decl, var_decl, empty, eval, step, assign, define, return_, break_, continue_, inner, if_, for_, range_, switch, defer, label, ValueSpecs, no_specs, spec}
 use Rattle.go_tree.specs.File.{TypeSpec, Receiver, Func, Decl, values, types, func, File}
-use Rattle.go_tree.specs.ScopeNames.FreeNames.{names_of, free_type, free_type_option, free_params, free_exprs, free_stmts}
+use Rattle.go_tree.specs.ScopeNames.FreeNames.{free_type, free_type_option, free_params, free_exprs, free_stmts}
 use Rattle.go_tree.specs.GoTypes.Agreement.{In}
-use Rattle.go_tree.specs.GoTypes.Answers.{is_among}
 use Rattle.pkg_graph.specs.Package.{Package}
-use Rattle.order_runs.specs.CycleRuns.ImportCycles.LookedUp.{specs_looked_up, types_looked_up, receiver_looked_up, decl_looked_up}
+use Rattle.order_runs.specs.CycleRuns.ImportCycles.LookedUp.{specs_looked_up, types_looked_up, receiver_looked_up, names_around, decl_looked_up}
 use Rattle.order_runs.proofs.CycleRuns.ImportCycles.FreeIdentifiers.{in-left, in-right, in-either}
 use Rattle.order_runs.proofs.RunSteps.SeatedUses.{Among}
 use Rattle.printed_constants.proofs.NamedUses.Parts.{contains_of}
-use Rattle.printed_constants.proofs.UsedImports.HeaderUses.{in_among}
 use Rattle.run_rules.specs.Places.{written_seen, params_seen, sig_seen, all_seen, stmts_seen}
 use Rattle.run_rules.specs.Programs.{top_place, body_place, constants_at_top, variables_at_top, types_at_top, receiver_seen, func_seen, decl_seen}
 use Rattle.run_rules.specs.Steps.{At}
 use Rattle.run_rules.specs.Surroundings.{Place, Seen, seen_type, alike, value_use, in_constant}
-use Rattle.constant_modules.specs.LookUps.Beside.{names_over, beside_part, body_names, beside_decl}
+use Rattle.constant_modules.specs.LookUps.Beside.{beside_part, beside_decl}
 use Rattle.constant_modules.specs.LookUps.Laws.{StandsAmong}
-use Rattle.constant_modules.proofs.LookUps.Clear.{Clear}
+use Rattle.constant_modules.proofs.LookUps.Clear.{Clear, body_clear}
 use Rattle.constant_modules.proofs.LookUps.Walk.{over-one, Has, Holds, holds-front, holds-back, Keeps, none, two, type-keeps, written-keeps, params-keep, exprs-keep, stmts-keep}
 
 module _ {S : Type 0} (m : List ℕ) (ps : List (Package S)) where
@@ -45,9 +43,6 @@ module _ {S : Type 0} (m : List ℕ) (ps : List (Package S)) where
 
   -- ---- a declaration
 
-  abbrev Stands : List (Seen S) → List (List ℕ) → Type 0
-  Stands xs ns = Holds m xs ⊎ In m ns
-
   module _ (k : ℕ) (p : Package S) (file : File S) where
     abbrev top : Place S
     top = top_place ps k p file
@@ -55,16 +50,12 @@ module _ {S : Type 0} (m : List ℕ) (ps : List (Package S)) where
     clear-top : Clear m [] top.bound
     clear-top e = refl
 
-    -- a name of a body stands at a part of it, or the function declares it around the body
-    body-stands : (f : Func S) → In m (free_stmts [] f.body) → Stands (stmts_seen (body_place ps k p file f) f.body) (names_of (body_place ps k p file f).bound)
-    body-stands f i = by (is_among m (names_of (body_place ps k p file f).bound)) refl
-      where
-        by : (b : Bool) → is_among m (names_of (body_place ps k p file f).bound) ≡ b → Stands (stmts_seen (body_place ps k p file f) f.body) (names_of (body_place ps k p file f).bound)
-        by true e = inr (in_among m (names_of (body_place ps k p file f).bound) e)
-        by false e = inl ((stmts-keep m [] (body_place ps k p file f) f.body (λ u. e)).go i)
+    -- a name of a body that the function doesn't declare around it stands at a part of it
+    body-stands : (f : Func S) → Keeps m (free_stmts (names_around f) f.body) (stmts_seen (body_place ps k p file f) f.body)
+    body-stands f = stmts-keep m (names_around f) (body_place ps k p file f) f.body (body_clear m ps f)
 
-    func-stands : (f : Func S) → In m (decl_looked_up (func f)) → Stands (func_seen ps k p file f) (body_names ps k p file (func f))
-    func-stands f i = by (in-either m (receiver_looked_up f.receiver ++ free_params [] f.sig.params ++ free_params [] f.sig.results) (free_stmts [] f.body) i)
+    func-stands : (f : Func S) → In m (decl_looked_up (func f)) → Holds m (func_seen ps k p file f)
+    func-stands f i = by (in-either m (receiver_looked_up f.receiver ++ free_params [] f.sig.params ++ free_params [] f.sig.results) (free_stmts (names_around f) f.body) i)
       where
         heads : List (Seen S)
         heads = receiver_seen ps top f.receiver ++ sig_seen top f.sig
@@ -88,17 +79,13 @@ module _ {S : Type 0} (m : List ℕ) (ps : List (Package S)) where
             last (inl a) = first_ (in-either m (receiver_looked_up f.receiver) (free_params [] f.sig.params) a)
             last (inr a) = in-right m (receiver_looked_up f.receiver) (free_params [] f.sig.params ++ free_params [] f.sig.results) (in-right m (free_params [] f.sig.params) (free_params [] f.sig.results) a)
 
-        of-body : Stands bodies (names_of (body_place ps k p file f).bound) → Stands (heads ++ bodies) (names_of (body_place ps k p file f).bound)
-        of-body (inl h) = inl (holds-back m heads h)
-        of-body (inr h) = inr h
+        by : In m (receiver_looked_up f.receiver ++ free_params [] f.sig.params ++ free_params [] f.sig.results) ⊎ In m (free_stmts (names_around f) f.body) → Holds m (heads ++ bodies)
+        by (inl j) = holds-front m bodies (in-heads.go (grouped j))
+        by (inr j) = holds-back m heads ((body-stands f).go j)
 
-        by : In m (receiver_looked_up f.receiver ++ free_params [] f.sig.params ++ free_params [] f.sig.results) ⊎ In m (free_stmts [] f.body) → Stands (heads ++ bodies) (names_of (body_place ps k p file f).bound)
-        by (inl j) = inl (holds-front m bodies (in-heads.go (grouped j)))
-        by (inr j) = of-body (body-stands f j)
-
-    pub decl-stands : (d : Decl S) → In m (decl_looked_up d) → Stands (decl_seen ps k p file d) (body_names ps k p file d)
-    decl-stands (values (const_decl s g ss)) i = inl ((constants-at-top top 0 ss clear-top).go i)
-    decl-stands (values (var_decl s g ss)) i = inl ((variables-at-top top ss clear-top).go i)
+    pub decl-stands : (d : Decl S) → In m (decl_looked_up d) → Holds m (decl_seen ps k p file d)
+    decl-stands (values (const_decl s g ss)) i = (constants-at-top top 0 ss clear-top).go i
+    decl-stands (values (var_decl s g ss)) i = (variables-at-top top ss clear-top).go i
     decl-stands (values (empty s)) i = elim i [ ]
     decl-stands (values (eval s x)) i = elim i [ ]
     decl-stands (values (step s x o)) i = elim i [ ]
@@ -114,17 +101,15 @@ module _ {S : Type 0} (m : List ℕ) (ps : List (Package S)) where
     decl-stands (values (switch s a x cs)) i = elim i [ ]
     decl-stands (values (defer s x)) i = elim i [ ]
     decl-stands (values (label s n x)) i = elim i [ ]
-    decl-stands (types s g ts) i = inl ((types-at-top top ts clear-top).go i)
+    decl-stands (types s g ts) i = (types-at-top top ts clear-top).go i
     decl-stands (func f) i = func-stands f i
 
 -- a name that a declaration looks up stands at a part, or beside
 pub looked-up-stands : (ps : List (Package At)) (k : ℕ) (p : Package At) (file : File At) (d : Decl At) (m : List ℕ) → In m (decl_looked_up d) → StandsAmong m (decl_seen ps k p file d) ⊎ In m (beside_decl ps k p file d)
-looked-up-stands ps k p file d m i = by (decl-stands m ps k p file d i)
+looked-up-stands ps k p file d m i =
+    let h : Holds m (decl_seen ps k p file d) = decl-stands m ps k p file d i in
+    one h.part h.among h.has
   where
     one : (x : Seen At) → Among x (decl_seen ps k p file d) → Has m x → StandsAmong m (decl_seen ps k p file d) ⊎ In m (beside_decl ps k p file d)
     one x a (inl h) = inl (x, (contains_of x (decl_seen ps k p file d) a, h))
-    one x a (inr h) = inr (in-left m (names_over beside_part (decl_seen ps k p file d)) (body_names ps k p file d) (over-one beside_part m a h))
-
-    by : Holds m (decl_seen ps k p file d) ⊎ In m (body_names ps k p file d) → StandsAmong m (decl_seen ps k p file d) ⊎ In m (beside_decl ps k p file d)
-    by (inl h) = one h.part h.among h.has
-    by (inr h) = inr (in-right m (names_over beside_part (decl_seen ps k p file d)) (body_names ps k p file d) h)
+    one x a (inr h) = inr (over-one beside_part m a h)

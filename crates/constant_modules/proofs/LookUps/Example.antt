@@ -1,14 +1,11 @@
--- A parameter with the name of an import: the body looks it up, as import_cycles has it, and it is a name that the function
--- declares around its body; so no part of the body uses an import by it.
+-- A parameter with the name of an import: the body doesn't look it up, since the function declares it around its body.
 --   func f(q int) { println(q) }
 use Rattle.std.proofs.Common.{◌≡◌, refl, ℕ, false, List, [], ◌∷◌, None, Some, codes}
 use Rattle.go_tree.specs.declared.exprs.Rest.TheVariants.{Plain}
 use Rattle.go_tree.specs.declared.spans.Span.{Span}
 use Rattle.go_tree.specs.Tree.{NameAt, named, ident, call, no_exprs, expr_and, eval, no_stmts, stmt_and}
-use Rattle.go_tree.specs.File.{Decl, File, func}
-use Rattle.pkg_graph.specs.Package.{Package}
+use Rattle.go_tree.specs.File.{Decl, func}
 use Rattle.order_runs.specs.CycleRuns.ImportCycles.LookedUp.{decl_looked_up}
-use Rattle.constant_modules.specs.LookUps.Beside.{body_names}
 
 abbrev at : ℕ → Span
 at n = record { start = n; end = n }
@@ -27,14 +24,5 @@ f =
       body = stmt_and (eval (at 6) (call (at 6) (ident (at 7) (codes "println")) (expr_and (ident (at 8) (codes "q")) no_exprs) Plain)) no_stmts;
     })
 
-abbrev file : File Span
-file = record { package_name = name_at 0 (codes "m"); imports = []; decls = f ∷ [] }
-
-abbrev its_package : Package Span
-its_package = record { path = codes "m"; name = codes "m"; files = [] }
-
-looked : decl_looked_up f ≡ codes "int" ∷ codes "println" ∷ codes "q" ∷ []
+looked : decl_looked_up f ≡ codes "int" ∷ codes "println" ∷ []
 looked = refl
-
-beside : body_names [] 0 its_package file f ≡ codes "q" ∷ []
-beside = refl

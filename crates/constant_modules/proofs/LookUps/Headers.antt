@@ -19,7 +19,7 @@ use Rattle.form_meaning.proofs.FormInPlace.Uses.{among_append}
 use Rattle.constant_steps.proofs.FormImports.Kept.{neither, both_false}
 use Rattle.constant_steps.proofs.FormImports.ImportLaws.GraphImports.{map_append}
 use Rattle.constant_steps.proofs.StepLaws.OutsideHolds.{of_either, no_name}
-use Rattle.order_runs.specs.CycleRuns.ImportCycles.LookedUp.{specs_looked_up, types_looked_up, receiver_looked_up, decl_looked_up}
+use Rattle.order_runs.specs.CycleRuns.ImportCycles.LookedUp.{specs_looked_up, types_looked_up, receiver_looked_up, names_around, decl_looked_up}
 use Rattle.order_runs.proofs.CycleRuns.ImportCycles.FreeIdentifiers.{in-left, in-right, in-either}
 use Rattle.printed_constants.specs.UsedImports.Uses.{decls_looked_up}
 use Rattle.constant_modules.proofs.LookUps.Used.{within-without, Outside}
@@ -160,11 +160,11 @@ module _ {S : Type 0} (m : List ℕ) (is_name : is_blank m ≡ false) (w : World
     named_so [] = refl
     named_so (n ∷ ns) = λ v. n ∷ named_so ns v
 
-    body_out : is_among m (receiver_names f.receiver ++ sig_names f.sig) ≡ false → Outside m is_name (body_env w h f) (map at_body (bound_names bound)) []
+    body_out : is_among m (receiver_names f.receiver ++ sig_names f.sig) ≡ false → Outside m is_name (body_env w h f) (map at_body (bound_names bound)) (names_around f)
     body_out e = record {
       sub = λ k i. ap (is_among k) (named_so (bound_names bound)) ∙ of_either k (bound_names bound) [] (λ j. j) (λ j. no_name k j) i;
       free = ap (is_among m) (named_so (bound_names bound)) ∙ body_free h f e (func_type (in_block (env_of w h None)) f.sig);
-      out = refl;
+      out = e;
     }
 
     func_in : In m (function_uses w h f) → In m (decl_looked_up (func f))
@@ -177,11 +177,11 @@ module _ {S : Type 0} (m : List ℕ) (is_name : is_blank m ≡ false) (w : World
         sides (inl j) = in-left m (receiver_looked_up f.receiver ++ free_params [] f.sig.params) (free_params [] f.sig.results) (in-right m (receiver_looked_up f.receiver) (free_params [] f.sig.params) j)
         sides (inr j) = in-right m (receiver_looked_up f.receiver ++ free_params [] f.sig.params) (free_params [] f.sig.results) j
 
-        by : In m (free_params [] f.sig.params ++ free_params [] f.sig.results) ⊎ In m (without (receiver_names f.receiver ++ sig_names f.sig) (used_stmts (body_env w h f) f.body)) → In m (fronts ++ free_stmts [] f.body)
-        by (inl j) = in-left m fronts (free_stmts [] f.body) (sides (in-either m (free_params [] f.sig.params) (free_params [] f.sig.results) j))
+        by : In m (free_params [] f.sig.params ++ free_params [] f.sig.results) ⊎ In m (without (receiver_names f.receiver ++ sig_names f.sig) (used_stmts (body_env w h f) f.body)) → In m (fronts ++ free_stmts (names_around f) f.body)
+        by (inl j) = in-left m fronts (free_stmts (names_around f) f.body) (sides (in-either m (free_params [] f.sig.params) (free_params [] f.sig.results) j))
         by (inr j) =
             let q = within-without m (receiver_names f.receiver ++ sig_names f.sig) (used_stmts (body_env w h f) f.body) j in
-            in-right m fronts (free_stmts [] f.body) ((stmts_below m is_name (body_env w h f) (map at_body (bound_names bound)) [] f.body (body_out q.1)).go q.0)
+            in-right m fronts (free_stmts (names_around f) f.body) ((stmts_below m is_name (body_env w h f) (map at_body (bound_names bound)) (names_around f) f.body (body_out q.1)).go q.0)
 
   -- ---- a declaration
 

@@ -30,7 +30,7 @@ use Rattle.order_runs.proofs.RunSteps.PackageStands.{distinct-front}
 use Rattle.order_runs.specs.ImportCodes.PackagesMoved.{PackagesMoved}
 use Rattle.order_runs.proofs.ImportCodes.PackagesCode.{beside, number-among}
 use Rattle.order_runs.proofs.ImportSteps.TypedUnder.{AllTyped, typed-under}
-use Rattle.order_runs.proofs.ImportSteps.Links.{moved-link}
+use Rattle.order_runs.proofs.ImportSteps.Links.{moved-link, declarations-of}
 use Rattle.order_runs.specs.ImportRuns.PathsUnder.{PathUnder, PathsUnder}
 use Rattle.order_runs.proofs.ImportRuns.MembersMoved.{among-moved, same-paths}
 use Rattle.order_runs.specs.SameCodes.Orders.{PackagesReordered}
@@ -110,7 +110,7 @@ module _ (marks : List MarkRef) (st : Standing) (l : Logged) (after : Standing) 
     m2 = beside Q (members_among rs (numbered rs)) (members_among mid (numbered mid)) (numbers-moved rs mid under-added)
 
     k2 : Likened (members_among rs (numbered rs) ++ Q) (members_among mid (numbered mid) ++ Q)
-    k2 = likened-link (moved-link (members_among rs (numbered rs) ++ Q) (members_among mid (numbered mid) ++ Q) m2)
+    k2 = likened-link (moved-link (members_among rs (numbered rs) ++ Q) (members_among mid (numbered mid) ++ Q) m2 (sym k1.typed ∙ declarations-of (members_of rs ++ Q) w))
 
     d2 : are_distinct (members_among mid (numbered mid) ++ Q) ≡ true
     d2 = sym (k1.distinct ∙ k2.distinct) ∙ distinct-of (members_of rs) Q w

@@ -24,7 +24,7 @@ use Rattle.order_runs.specs.ImportCodes.PackagesMoved.{PackagesMoved, ImportsSta
 use Rattle.order_runs.proofs.ImportCodes.PackagesCode.{beside, number-among, sources-append}
 use Rattle.order_runs.proofs.ImportCodes.LinkedBeside.{linked-beside}
 use Rattle.order_runs.proofs.ImportSteps.TypedUnder.{AllTyped}
-use Rattle.order_runs.proofs.ImportSteps.Links.{moved-link, bare-link, put-link, any-number}
+use Rattle.order_runs.proofs.ImportSteps.Links.{moved-link, declarations-of, bare-link, put-link, any-number}
 use Rattle.order_runs.proofs.ImportSteps.ImportingSteps.{put-numbers}
 use Rattle.constant_steps.specs.Alone.{PackageAt}
 use Rattle.constant_steps.specs.PlainUse.{linked_at}
@@ -112,11 +112,14 @@ module _ (marks : List MarkRef) (st : Standing) (l : Logged) (after : Standing) 
     k6 : Likened (members_of back ++ Q) (members_among back (numbered back) ++ Q)
     k6 = likened-reordered (members_of back ++ Q) (members_among back (numbered back) ++ Q) d5 r6
 
+    to-back : Likened (members_of rs ++ Q) (members_among back (numbered back) ++ Q)
+    to-back = likened-then (added.added-likened marks st l after n h.names Q w) (likened-then k4 (likened-then k5 k6))
+
     m7 : PackagesMoved (members_among back (numbered back)) (members_among last (numbered last))
     m7 = numbers-moved back last (next.under-last marks st l after n h)
 
     k7 : Likened (members_among back (numbered back) ++ Q) (members_among last (numbered last) ++ Q)
-    k7 = likened-link (moved-link (members_among back (numbered back) ++ Q) (members_among last (numbered last) ++ Q) (beside Q (members_among back (numbered back)) (members_among last (numbered last)) m7))
+    k7 = likened-link (moved-link (members_among back (numbered back) ++ Q) (members_among last (numbered last) ++ Q) (beside Q (members_among back (numbered back)) (members_among last (numbered last)) m7) (sym to-back.typed ∙ declarations-of (members_of rs ++ Q) w))
 
     d7 : are_distinct (members_among last (numbered last) ++ Q) ≡ true
     d7 = sym (k6.distinct ∙ k7.distinct) ∙ d5
@@ -128,7 +131,7 @@ module _ (marks : List MarkRef) (st : Standing) (l : Logged) (after : Standing) 
     k8 = likened-reordered (members_among last (numbered last) ++ Q) (members_of last ++ Q) d7 r8
 
     to-last : Likened (members_of rs ++ Q) (members_of last ++ Q)
-    to-last = likened-then (added.added-likened marks st l after n h.names Q w) (likened-then k4 (likened-then k5 (likened-then k6 (likened-then k7 k8))))
+    to-last = likened-then to-back (likened-then k7 k8)
 
     pub likened : Likened (members_of rs ++ Q) (members_of after.packages ++ Q)
     likened = subst (λ (ps : List (run.Package At)). Likened (members_of rs ++ Q) (members_of ps ++ Q)) (sym n.packages_are) to-last

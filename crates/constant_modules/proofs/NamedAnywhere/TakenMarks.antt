@@ -14,7 +14,7 @@ use Rattle.order_runs.specs.RunSteps.RunPackages.{members_of}
 use Rattle.printed_constants.specs.TypedParts.MarkedRuns.NamedMarks.Named.{AllNamed}
 use Rattle.printed_constants.specs.TypedParts.MarkedRuns.SettledConstants.Programs.{IsReady}
 use Rattle.order_runs.specs.CycleRuns.OrderCycles.Steps.{KeepsImportLookUps}
-use Rattle.order_runs.specs.CycleRuns.OrderCycles.NewNames.{NamesByPath, FewNames}
+use Rattle.order_runs.specs.CycleRuns.OrderCycles.NewNames.{NamesByPath, AvoidsFew}
 use Rattle.order_runs.proofs.CycleRuns.Runs.{linked-names}
 use Rattle.go_tree.specs.declared.spans.Span.{Span}
 use Rattle.pkg_graph.specs.Package.{SourceTree, Package}
@@ -43,7 +43,7 @@ use Rattle.constant_modules.specs.NamedAnywhere.MarkedLaws.{StepsAnywhereStayRea
 use Rattle.constant_modules.specs.NamedAnywhere.Use.{NamedUseAnywhere}
 use Rattle.constant_modules.proofs.NamedAnywhere.AddedParts.{added-parts}
 
-module _ (sound : AddedImportsMayBeDeclared) (marks : List MarkRef) (st : Standing) (l : Logged) (after : Standing) (n : Next marks st l after) (ready : IsReady st) (files : HaveFiles st.packages) (typed : are_well_typed (members_of st.packages) ≡ true) (few : FewNames st.packages n.found) (names : KeepsImportLookUps n) (h : StandsAnywhere n) where
+module _ (sound : AddedImportsMayBeDeclared) (marks : List MarkRef) (st : Standing) (l : Logged) (after : Standing) (n : Next marks st l after) (ready : IsReady st) (files : HaveFiles st.packages) (typed : are_well_typed (members_of st.packages) ≡ true) (few : AvoidsFew st.packages n.found) (names : KeepsImportLookUps n) (h : StandsAnywhere n) where
   abbrev w : Where At
   w = n.found.site.at
 

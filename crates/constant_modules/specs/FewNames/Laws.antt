@@ -8,38 +8,15 @@ use Rattle.go_tree.specs.File.{File}
 use Rattle.go_tree.specs.Tree.{Expr}
 use Rattle.go_tree.specs.GoTypes.Agreement.{In}
 use Rattle.go_tree.specs.ScopeNames.Identifiers.{identifiers}
-use Rattle.constant_steps.specs.FormImports.ImportLaws.Steps.{binders_of}
-use Rattle.order_runs.specs.CycleRuns.ImportCycles.ImportSteps.{AddsNewNames}
-use Rattle.order_runs.specs.CycleRuns.KeptImports.Files.{RemovesNoLookUps}
 use Rattle.order_runs.specs.CycleRuns.Linked.{Linked, WritesFile}
-use Rattle.order_runs.specs.CycleRuns.OrderCycles.NewNames.{FewNames, NamesByPath}
+use Rattle.order_runs.specs.CycleRuns.OrderCycles.NewNames.{AvoidsFew}
 use Rattle.order_runs.specs.CycleRuns.OrderCycles.Steps.{KeepsImportLookUps}
-use Rattle.pkg_graph.specs.Package.{Package}
 use Rattle.printed_constants.specs.TypedParts.MarkedRuns.NamedMarks.Named.{AllNamed}
 use Rattle.run_rules.specs.Run.{Standing, Logged, Next, texts_size, the_limits}
 use Rattle.run_rules.specs.Sites.{MarkRef, an_expr}
-use Rattle.run_rules.specs.Steps.{At, Found}
+use Rattle.run_rules.specs.Steps.{At}
 use Rattle.splice_laws.specs.RunLaws.Reading.{ProgramReads, OnePathEach}
-use Rattle.constant_modules.specs.FewNames.Fresh.{AvoidsFew, EachFresh}
 use Rattle.constant_modules.specs.LookUps.Laws.{RemovesNoneBeside}
-
--- Where few names are avoided, each import that a step adds has the first new name for its package.
-abbrev pub FewNamesAreFresh : Type 0
-FewNamesAreFresh =
-    (marks : List MarkRef) (st : Standing) (l : Logged) (after : Standing) (n : Next marks st l after)
-    → AvoidsFew st.packages n.found
-    → EachFresh st.packages n.found.site.at (binders_of st.packages n.found.site.mark) n.found.named
-
--- So none has the name of an identifier of a declaration of the file (import_cycles' `AddsNewNames`), as order_cycles
--- has it where all names to avoid, each as often as it stands, are fewer than 2^64.
-abbrev pub StepsAddNewNames : Type 0
-StepsAddNewNames =
-    (marks : List MarkRef) (st : Standing) (l : Logged) (after : Standing) (n : Next marks st l after)
-    → AvoidsFew st.packages n.found → NamesByPath st.packages → AddsNewNames st.packages n.found
-
--- Where these are fewer than 2^64, few names are avoided.
-abbrev pub ListedNamesAreFew : Type 0
-ListedNamesAreFew = (ps : List (Package At)) (f : Found At) → FewNames ps f → AvoidsFew ps f
 
 -- The identifiers of a file that tokens spell stand among so many names as there are tokens.
 abbrev pub IdentifiersAreTokens : Type 0
@@ -56,15 +33,9 @@ SmallTextsTakeFewNames =
     → n.found.site.part ≡ an_expr e → ProgramReads st → OnePathEach st.packages → AllNamed st.packages marks
     → texts_size st.texts ≤ the_limits.total → AvoidsFew st.packages n.found
 
--- So a step that writes its file, in linked packages, where few names are avoided, and which removes no import whose
--- name is looked up, keeps the names of imports that are looked up, as order_cycles has it.
-abbrev pub FewNamesKeepLookUps : Type 0
-FewNamesKeepLookUps =
-    (marks : List MarkRef) (st : Standing) (l : Logged) (after : Standing) (n : Next marks st l after)
-    → Linked st.packages → WritesFile n → AvoidsFew st.packages n.found → RemovesNoLookUps n → KeepsImportLookUps n
-
--- So does one over a constant that is declared as a name, where the texts are within the limit of a run, and no import
--- that goes has a name that stands beside (look_ups' `RemovesNoneBeside`): whatever the files declare.
+-- So a step over a constant that is declared as a name, which writes its file, in linked packages, keeps the names of
+-- imports that are looked up, as order_cycles has it, where the texts are within the limit of a run, and no import that
+-- goes has a name that stands beside (look_ups' `RemovesNoneBeside`): whatever the files declare.
 abbrev pub ConstantStepsKeepLookUps : Type 0
 ConstantStepsKeepLookUps =
     (marks : List MarkRef) (st : Standing) (l : Logged) (after : Standing) (n : Next marks st l after) (e : Expr At)

@@ -23,7 +23,7 @@ use Rattle.run_rules.specs.Run.{Standing, Logged, Next, here_of, is_commented, t
 use Rattle.run_rules.specs.Sites.{MarkRef, an_expr}
 use Rattle.run_rules.specs.Steps.{At, same_here, Found, file_between}
 use Rattle.splice_laws.specs.RunLaws.Reading.{ProgramReads, OnePathEach}
-use Rattle.constant_modules.specs.FewNames.Fresh.{AvoidsFew}
+use Rattle.order_runs.specs.CycleRuns.OrderCycles.NewNames.{AvoidsFew}
 use Rattle.constant_modules.specs.LookUps.Laws.{NotBeside}
 
 -- Each import that a step over a constant adds is used with the form in its place, where few names are avoided, by its

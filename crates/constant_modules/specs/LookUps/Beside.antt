@@ -1,11 +1,9 @@
--- Names that stand in a declaration and are none of imports of its file: a field that a key names, the name of a type
--- without that of a package before it, and a name that a function declares around its body, as a parameter (Go
--- specification, Composite literals; Types; Declarations and scope).
+-- Names that stand in a declaration and are none of imports of its file: a field that a key names, and the name of a
+-- type without that of a package before it (Go specification, Composite literals; Types; Declarations and scope).
 use Rattle.std.specs.Prelude.{◌≡◌, ℕ, suc, false, List, [], ◌∷◌, ◌++◌, Option, Some, None, if◌then◌else◌}
 use Rattle.go_tree.specs.Tree.{TypeExpr, named, ident, composite}
 use Rattle.go_tree.specs.Tree.{Elems, no_elems, elem, Value, plain, braced, ValueOption, no_value, some_value}
-use Rattle.go_tree.specs.File.{Decl, func, File}
-use Rattle.go_tree.specs.ScopeNames.FreeNames.{names_of}
+use Rattle.go_tree.specs.File.{Decl, File}
 use Rattle.go_tree.specs.ScopeNames.Identifiers.{value_identifiers}
 use Rattle.go_tree.specs.GoTypes.Agreement.{In}
 use Rattle.go_tree.specs.GoTypes.Answers.{given, meets}
@@ -15,7 +13,7 @@ use Rattle.go_tree.specs.GoTypes.Entities.{Env, defined_in}
 use Rattle.go_tree.specs.GoTypes.TypeNames.{type_meant}
 use Rattle.go_tree.specs.GoTypes.Literals.{is_struct, literal_type}
 use Rattle.pkg_graph.specs.Package.{Package}
-use Rattle.run_rules.specs.Programs.{body_place, decl_seen}
+use Rattle.run_rules.specs.Programs.{decl_seen}
 use Rattle.run_rules.specs.Sites.{named_in}
 use Rattle.run_rules.specs.Surroundings.{Use, Seen, seen, seen_type, seen_stmt, into_type, elem_use, key_use}
 use Rattle.run_rules.specs.Surroundings.{is_local}
@@ -63,14 +61,9 @@ module _ {S : Type 0} where
   beside_part (seen_type p t) = names_over type_alone (named_in t)
   beside_part (seen_stmt p s) = []
 
-  -- the names that a function declares around its body: its receiver, its parameters and its results
-  abbrev pub body_names : List (Package S) → ℕ → Package S → File S → Decl S → List (List ℕ)
-  body_names ps k p file (func f) = names_of (body_place ps k p file f).bound
-  body_names ps k p file d = []
-
   -- The names beside imports in a declaration of a file.
   abbrev pub beside_decl : List (Package S) → ℕ → Package S → File S → Decl S → List (List ℕ)
-  beside_decl ps k p file d = names_over beside_part (decl_seen ps k p file d) ++ body_names ps k p file d
+  beside_decl ps k p file d = names_over beside_part (decl_seen ps k p file d)
 
   -- A name stands at a part where nothing declares it: it is the identifier, or stands before a dot in the type.
   abbrev pub StandsAt : List ℕ → Seen S → Type 0

@@ -19,7 +19,7 @@ use Rattle.run_rules.specs.Inlining.{ModuleReads, standing_as_read}
 use Rattle.constant_steps.specs.WrittenLiteral.UnspreadForms.UnspreadForms.{UnspreadPackages}
 use Rattle.order_runs.specs.RunSteps.RunPackages.{packages_of}
 use Rattle.order_runs.specs.CycleRuns.Linked.{WritesFile}
-use Rattle.order_runs.specs.CycleRuns.OrderCycles.NewNames.{FewNames}
+use Rattle.order_runs.specs.CycleRuns.OrderCycles.NewNames.{AvoidsFew}
 use Rattle.order_runs.specs.CycleRuns.OrderCycles.Steps.{KeepsImportLookUps}
 use Rattle.printed_constants.specs.InlinedFiles.Files.{AllWrite}
 use Rattle.printed_constants.specs.InlinedFiles.InlinedModules.Modules.{IsInlinedModule}
@@ -72,7 +72,7 @@ RunsAnywhereInline =
 abbrev pub StepsOverMarksTake : Type 0
 StepsOverMarksTake =
     (marks : List MarkRef) (st : Standing) (l : Logged) (after : Standing) (n : Next marks st l after) → IsReady st
-    → HaveFiles st.packages → WellTyped (packages_of st.packages []) → FewNames st.packages n.found
+    → HaveFiles st.packages → WellTyped (packages_of st.packages []) → AvoidsFew st.packages n.found
     → KeepsImportLookUps n → StandsAnywhere n → TakesNameAnywhere n
 
 -- A run over marked constants from a module that reads, is well typed, and whose marks are all of constants, keeps

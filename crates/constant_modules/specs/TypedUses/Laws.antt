@@ -6,7 +6,7 @@ use Rattle.go_translation.specs.SameMeaning.{WellTyped}
 use Rattle.constant_steps.specs.FormImports.OwnNames.{AllOwn}
 use Rattle.constant_steps.specs.QualifiedSteps.MemberNames.{NamesMember}
 use Rattle.order_runs.specs.CycleRuns.KeptImports.Files.{RemovesNoLookUps}
-use Rattle.order_runs.specs.CycleRuns.OrderCycles.NewNames.{FewNames}
+use Rattle.order_runs.specs.CycleRuns.OrderCycles.NewNames.{AvoidsFew}
 use Rattle.order_runs.specs.RunSteps.RunPackages.{packages_of}
 use Rattle.printed_constants.specs.TypedParts.MarkedRuns.KeptMarks.Over.{IsOverName}
 use Rattle.printed_constants.specs.TypedParts.MarkedRuns.NamedMarks.Named.{AllNamed}
@@ -42,7 +42,7 @@ abbrev pub FirstUsesUseConstants : Type 0
 FirstUsesUseConstants =
     (marks : List MarkRef) (st : Standing) (f : Found At) (old : FileText) → IsReady st
     → WellTyped (packages_of st.packages []) → AllNamed st.packages marks → IsFirstUse marks st f old
-    → FewNames st.packages f → UsesNamedConstant st f old
+    → AvoidsFew st.packages f → UsesNamedConstant st f old
 
 -- And a step is over a marked constant as kept_marks asks, where besides no import that goes has a name that is looked
 -- up in the file as it is read again, and each package has a name of its own.
@@ -50,7 +50,7 @@ abbrev pub StepsAreOverNames : Type 0
 StepsAreOverNames =
     (marks : List MarkRef) (st : Standing) (l : Logged) (after : Standing) (n : Next marks st l after) → IsReady st
     → WellTyped (packages_of st.packages []) → AllOwn st.packages → AllNamed st.packages marks
-    → FewNames st.packages n.found → RemovesNoLookUps n → IsOverName n
+    → AvoidsFew st.packages n.found → RemovesNoLookUps n → IsOverName n
 
 -- And the use of a step is, at its place, a name of the marked constant, exported where the name of a package stands
 -- before it, as qualified_steps asks of uses.

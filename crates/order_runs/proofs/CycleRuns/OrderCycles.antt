@@ -10,5 +10,6 @@ pub mod PutsDecl
 pub mod StepAdded
 pub mod StepSettled
 pub mod ConstantSteps
+pub mod FreshNames
 pub mod NamesAdded
 pub mod Example

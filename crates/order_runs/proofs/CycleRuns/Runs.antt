@@ -28,7 +28,7 @@ use Rattle.order_runs.proofs.CycleRuns.ImportCycles.LeadAlike.{same-beside}
 use Rattle.order_runs.proofs.CycleRuns.ImportCycles.NamesReadAlike.{identifiers-read-alike}
 use Rattle.order_runs.proofs.CycleRuns.OrderCycles.StepAdded.{added-declare}
 use Rattle.order_runs.specs.CycleRuns.OrderCycles.Orders.{AllOrdered}
-use Rattle.order_runs.specs.CycleRuns.OrderCycles.NewNames.{NamesByPath, FewNames}
+use Rattle.order_runs.specs.CycleRuns.OrderCycles.NewNames.{NamesByPath, AvoidsFew}
 use Rattle.order_runs.specs.CycleRuns.OrderCycles.Steps.{site_added, KeepsImportNames, KeepsImportLookUps}
 use Rattle.order_runs.proofs.CycleRuns.OrderCycles.NamesAdded.{adds-new-names}
 use Rattle.order_runs.proofs.CycleRuns.OrderCycles.StepSettled.{step-keeps}
@@ -71,7 +71,7 @@ module _ (marks : List MarkRef) (st : Standing) (l : Logged) (after : Standing) 
     ordered = both-written.1;
   }
 
-  pub step-look-ups : FewNames st.packages n.found → RemovesNoLookUps n → KeepsImportLookUps n
+  pub step-look-ups : AvoidsFew st.packages n.found → RemovesNoLookUps n → KeepsImportLookUps n
   step-look-ups few removes = record {
     new_names = adds-new-names marks st l after n few (linked-names st.packages h);
     kept_names = keeps-look-ups marks st l after n written-so few (linked-names st.packages h) removes;

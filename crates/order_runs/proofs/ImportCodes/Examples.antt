@@ -46,7 +46,7 @@ moved = and_more (record { path = refl; number = refl; name = refl; files = and_
 
 -- the package is the same in the kernel
 same_code : codes_of (package_with []) ≡ codes_of (package_with (an_import (codes "a") 0 ∷ []))
-same_code = codes-moved (package_with []) (package_with (an_import (codes "a") 0 ∷ [])) moved
+same_code = codes-moved (package_with []) (package_with (an_import (codes "a") 0 ∷ [])) moved refl
 
 -- ---- `const E = a`, of which the import would take the name
 

@@ -9,28 +9,29 @@ use Rattle.go_tree.specs.GoTypes.Answers.{given, only_if, otherwise}
 use Rattle.go_tree.specs.GoTypes.Types.{named_type, type_name_of, base_of}
 use Rattle.go_tree.specs.GoTypes.Defined.{under}
 use Rattle.go_tree.specs.GoTypes.Entities.{Entity, World, type_of_name, Binds, block_of, universe}
-use Rattle.go_tree.specs.GoTypes.TypeNames.{func_type}
 use Rattle.go_tree.specs.GoTypes.Statements.{body_binds, no_values}
+use Rattle.go_tree.specs.GoTypes.MethodDeclarations.{MethodName}
 use Rattle.go_tree.specs.GoTypes.Programs.{Header, constants, variables, a_type_spec, a_func, Headed, at_member, constant_headers, variable_headers, headers, all_headers, header_names, header_sound, headed_file, file_env}
-use Rattle.go_tree.specs.GoTypes.Collect.{env_of, receiver_binds}
-use Rattle.go_tree.specs.GoTypes.WellTyped.{receiver_of, body_env}
+use Rattle.go_tree.specs.GoTypes.Collect.{DeclaredTypes, env_of, receiver_binds}
+use Rattle.go_tree.specs.GoTypes.WellTyped.{receiver_of, body_env, header_ok}
 use Rattle.go_tree.specs.GoTypes.Agreement.{On, Agrees}
 use Rattle.typed_in_place.specs.ProgramsAlike.{OneByOne, no_more, and_more}
 use Rattle.typed_in_place.specs.ProgramReplaced.{All, all_of_none, all_and}
 use Rattle.typed_in_place.specs.ImportsMoved.{under_imports, file_names, MovedReceiver, nothing_received, received, MovedIn, moved_func, Moved, MovedBody, moved_body, constants_moved, variables_moved, type_moved}
 use Rattle.typed_in_place.proofs.ImportsMoved.{func_type-moved}
-use Rattle.go_translation.proofs.SmallAlike.{kept}
 use Rattle.constant_steps.proofs.StepLaws.FurtherApart.{both-all}
-use Rattle.order_runs.specs.CycleRuns.ImportCycles.LookedUp.{receiver_looked_up, decl_looked_up}
+use Rattle.order_runs.specs.CycleRuns.ImportCycles.LookedUp.{receiver_looked_up, names_around, decl_looked_up}
 use Rattle.order_runs.proofs.CycleRuns.ImportCycles.FreeIdentifiers.{in-right}
 use Rattle.order_runs.proofs.CycleRuns.ImportCycles.HeadersMoved.{AllMean, HeaderReads, decls-all}
+use Rattle.order_runs.proofs.ImportCodes.BodiesBound.{BoundWith, ok_in, func-bound, bound_in, body-same}
 
--- the second header is the first under other imports, under which each name means what it meant
+-- the second header is the first under other imports, under which each name means what it meant, also in the body, where
+-- the header declares something, or is a method that may stand there
 pub record WholeMoved {S : Type 0} (h k : Headed S) : Type 0 where
   pub imports : Environment Entity
   pub same : k ≡ under_imports imports h
   pub moved : (w : World) → Moved w imports h
-  pub body : (w : World) → MovedBody w imports h h.header
+  pub body : (w : World) (ds : DeclaredTypes) (before : List MethodName) → header_ok ds w before h ≡ true → MovedBody w imports h h.header
 
 apart : {A : Type 0} → false ≡ true → A
 apart e = grind (arith, e)
@@ -44,28 +45,25 @@ module _ {S : Type 0} (w : World) (is : Environment Entity) (h : Headed S) (r : 
   agrees : Agrees [] (env_of w h None) m
   agrees = record { bound = λ n e. apart e; here = λ n e. apart e; blank = r.blank }
 
-  abbrev bound_in : Func S → Headed S → Binds
-  bound_in f x = otherwise (given (func_type (env_of w x None) f.sig) (body_binds (receiver_of w x f.receiver) f.sig)) []
-
   receiver_moved : {q : Option (Receiver S)} → MovedReceiver (env_of w h None) m q → receiver_of w h q ≡ receiver_of w (under_imports is h) q
   receiver_moved nothing_received = refl
   receiver_moved (received {r = q} s) = λ x. elim (given (type_of_name (s x)) (λ t. given (type_name_of t) (λ q. only_if (nat_eq q.0 h.home && is_none (base_of (under w.defined t))) (Some q.1)))) as (λ r. Binds) [ None ↦ [] | Some n ↦ receiver_binds q (named_type h.home n) ]
 
-  bound_moved : (f : Func S) → MovedReceiver (env_of w h None) m f.receiver → On (free_params [] f.sig.params) (env_of w h None) m → On (free_params [] f.sig.results) (env_of w h None) m → bound_in f h ≡ bound_in f (under_imports is h)
+  bound_moved : (f : Func S) → MovedReceiver (env_of w h None) m f.receiver → On (free_params [] f.sig.params) (env_of w h None) m → On (free_params [] f.sig.results) (env_of w h None) m → bound_in w h f ≡ bound_in w (under_imports is h) f
   bound_moved f q p s = λ x. otherwise (given (func_type-moved (env_of w h None) m [] agrees f.sig p s x) (body_binds (receiver_moved q x) f.sig)) []
 
-  body_on : (f : Func S) → MovedIn (env_of w h) m (a_func f) → On (free_stmts [] f.body) (env_of w h None) m → MovedBody w is h (a_func f)
-  body_on f (moved_func q p s) o = moved_body (subst (λ (bs : Binds). On (free_stmts [] f.body) (body_env w h f) (bs ++ m)) (bound_moved f q p s) (kept (free_stmts [] f.body) (bound_in f h) (env_of w h None) m o))
+  body_on : (f : Func S) → MovedIn (env_of w h) m (a_func f) → BoundWith w h f f.receiver → On (free_stmts (names_around f) f.body) (env_of w h None) m → MovedBody w is h (a_func f)
+  body_on f (moved_func q p s) k o = moved_body (subst (λ (bs : Binds). On (free_stmts [] f.body) (body_env w h f) (bs ++ m)) (bound_moved f q p s) (body-same w h m agrees f k o))
 
 -- ---- the headers of a file
 
 module _ (home : ℕ) (is js : Environment Entity) where
-  -- each name in the body means the same
+  -- each name in the body that the function doesn't declare around it means the same
   abbrev BodyMeans : {S : Type 0} → Header S → Type 0
   BodyMeans (constants ns t es i) = Unit {0}
   BodyMeans (variables ns t es) = Unit {0}
   BodyMeans (a_type_spec t) = Unit {0}
-  BodyMeans (a_func f) = AllMean home is js (free_stmts [] f.body)
+  BodyMeans (a_func f) = AllMean home is js (free_stmts (names_around f) f.body)
 
   module _ {S : Type 0} where
     abbrev BodyReads : S × Header S → Type 0
@@ -108,23 +106,23 @@ module _ (home : ℕ) (is js : Environment Entity) where
     decl-bodies (values (label _ _ _)) h = all_of_none
     decl-bodies (types s g ts) h = type-bodies g s ts
     decl-bodies (func f) h =
-        all_and (λ n j. h n (in-right n (receiver_looked_up f.receiver ++ free_params [] f.sig.params ++ free_params [] f.sig.results) (free_stmts [] f.body) j)) all_of_none
+        all_and (λ n j. h n (in-right n (receiver_looked_up f.receiver ++ free_params [] f.sig.params ++ free_params [] f.sig.results) (free_stmts (names_around f) f.body) j)) all_of_none
 
     decls-bodies : (ds : List (Decl S)) → ((k : ℕ) (d : Decl S) → slice_get ds k ≡ Some d → AllMean home is js (decl_looked_up d)) → All BodyReads (all_headers ds)
     decls-bodies [] h = all_of_none
     decls-bodies (d ∷ ds) h = both-all (decl-bodies d (h 0 d refl)) (decls-bodies ds (λ k e g. h (suc k) e g))
 
-    whole : (h : Headed S) → h.imports ≡ is → h.home ≡ home → (r : (w : World) → Moved w js h) → BodyMeans h.header → (w : World) → MovedBody w js h h.header
-    whole h a b r o w = by (r w).tree o
+    whole : (h : Headed S) → h.imports ≡ is → h.home ≡ home → (r : (w : World) → Moved w js h) → BodyMeans h.header → (w : World) (ds : DeclaredTypes) (before : List MethodName) → header_ok ds w before h ≡ true → MovedBody w js h h.header
+    whole h a b r o w ds before e = by (r w).tree o e
       where
         at_top : (ns : List (List ℕ)) → AllMean home is js ns → On ns (env_of w h None) (file_names w h js)
         at_top ns f n i = (λ z. means (a z ++ block_of w.blocks (b z) ++ universe) n) ∙ f n i w ∙ sym (λ z. means (js ++ block_of w.blocks (b z) ++ universe) n)
 
-        by : {x : Header S} → MovedIn (env_of w h) (file_names w h js) x → BodyMeans x → MovedBody w js h x
-        by {x = constants ns t es i} d o = constants_moved
-        by {x = variables ns t es} d o = variables_moved
-        by {x = a_type_spec t} d o = type_moved
-        by {x = a_func f} d o = body_on w js h (r w) f d (at_top (free_stmts [] f.body) o)
+        by : {x : Header S} → MovedIn (env_of w h) (file_names w h js) x → BodyMeans x → ok_in w h ds before x ≡ true → MovedBody w js h x
+        by {x = constants ns t es i} d o e = constants_moved
+        by {x = variables ns t es} d o e = variables_moved
+        by {x = a_type_spec t} d o e = type_moved
+        by {x = a_func f} d o e = body_on w js h (r w) f d (func-bound w h ds before f e) (at_top (free_stmts (names_around f) f.body) o)
 
     module _ (blank : (n : List ℕ) → is_blank n ≡ true → (w : World) → means (is ++ block_of w.blocks home ++ universe) n ≡ means (js ++ block_of w.blocks home ++ universe) n) where
       moved-there : (x : Headed S) → x.imports ≡ is → x.home ≡ home → ((w : World) → MovedIn (λ i. file_env w home is i) (js ++ block_of w.blocks home ++ universe) x.header) → (w : World) → Moved w js x

@@ -1,30 +1,32 @@
 -- Packages of the same declarations under other imports declare the same, are typed alike, and have the same code.
-use Rattle.std.specs.Prelude.{◌≡◌, refl, ℕ, suc, Bool, true, not, ◌&&◌, ◌||◌, List, [], ◌∷◌, ◌++◌, map, bytes_eq, codes, nat_eq}
-use Rattle.std.specs.List.{list_all, list_any}
+use Rattle.std.specs.Prelude.{◌≡◌, refl, ℕ, suc, Bool, true, false, not, ◌&&◌, ◌||◌, List, [], ◌∷◌, ◌++◌, map, bytes_eq, codes, nat_eq, slice_get}
+use Rattle.std.specs.List.{list_any}
 use mathlib.Core.Path.{ap, ap₂, sym, ◌∙◌, subst}
 use Rattle.go_tree.specs.File.{Decl}
 use Rattle.go_tree.specs.GoTypes.Entities.{World, block_of, universe}
-use Rattle.go_tree.specs.GoTypes.Programs.{SourceFile, all_headers, names_in, block_names, file_block, Headed, headed_file, headed_files, headed_package, headed}
-use Rattle.go_tree.specs.GoTypes.Collect.{collected}
-use Rattle.go_tree.specs.GoTypes.WellTyped.{well_typed, body_ok}
-use Rattle.typed_in_place.specs.ProgramsAlike.{OneByOne, no_more, and_more, AliasesStand, TypesStand, ValuesStand}
-use Rattle.typed_in_place.specs.ImportRule.{SamePackage, declarations_ok, package_imports}
-use Rattle.typed_in_place.specs.ProgramReplaced.{InPlace, InPlaceBeside}
-use Rattle.typed_in_place.proofs.Rising.{and_first, and_second, both_true}
+use Rattle.go_tree.specs.GoTypes.Programs.{SourceFile, Program, all_headers, names_in, block_names, file_block, Headed, headed_file, headed_files, headed_package, headed}
+use Rattle.go_tree.specs.GoTypes.Collect.{DeclaredTypes, types_declared, aliased_world, typed_world, valued_world, collected}
+use Rattle.go_tree.specs.GoTypes.WellTyped.{body_ok}
+use Rattle.typed_in_place.specs.ProgramsAlike.{OneByOne, no_more, and_more, AliasesStand, TypesStand, ValuesStand, DeclareAlike}
+use Rattle.typed_in_place.specs.ImportRule.{SamePackage, declarations_ok}
+use Rattle.typed_in_place.specs.ProgramReplaced.{All, all_of_none, all_and, InPlace}
+use Rattle.typed_in_place.proofs.Collected.{same_collected}
 use Rattle.typed_in_place.proofs.ImportsMoved.{body-moved}
-use Rattle.typed_in_place.proofs.ProgramsReplaced.{one_by_one, each_one, append_one, moved_aliases_stand, moved_types_stand, moved_values_stand, declares_the_same, declarations_as_before, stays_well_typed_beside}
+use Rattle.typed_in_place.proofs.ProgramsReplaced.{one_by_one, each_one, append_one, moved_aliases_stand, moved_types_stand, moved_values_stand, declarations_as_before}
 use Rattle.go_kernel.specs.Kernel.{ImportPath, Let, same_text}
-use Rattle.go_translation.specs.Packages.{Package, sources, paths_in, header_functions, header_initial, headers_functions, headers_initial, package_code, codes_of, has_path, has_number, are_distinct, are_linked, are_well_typed}
-use Rattle.go_translation.specs.SameMeaning.{Packages, WellTyped, with_further}
-use Rattle.constant_steps.proofs.StepLaws.FurtherApart.{further-apart}
-use Rattle.order_runs.specs.RunSteps.SameCode.{SameCode}
-use Rattle.order_runs.specs.ImportCodes.PackagesMoved.{FileMoved, PackageMoved, PackagesMoved, ImportsStand}
+use Rattle.go_translation.specs.Packages.{Package, sources, paths_in, header_functions, header_initial, headers_functions, headers_initial, package_code, codes_of, has_path, has_number, are_distinct}
+use Rattle.constant_steps.proofs.StepLaws.PartsTyped.{all-behind}
+use Rattle.order_runs.specs.ImportCodes.PackagesMoved.{FileMoved, PackageMoved, PackagesMoved}
 use Rattle.order_runs.proofs.ImportCodes.NamesImported.{name-means, blank-means}
 use Rattle.order_runs.proofs.ImportCodes.HeadersUnder.{WholeMoved, file-moved}
-use Rattle.order_runs.proofs.ImportCodes.LinkedBeside.{linked-beside}
+use Rattle.order_runs.proofs.ImportCodes.HeadersDeclare.{Declares, all-front, headers-declare}
 use Rattle.order_runs.proofs.ImportCodes.HeadersCode.{functions-moved, initial-moved}
 
 -- ---- headers one by one
+
+each-back : {A : Type 0} {R Q : A → A → Type 0} → ((a b : A) → R a b → Q b a) → {xs ys : List A} → OneByOne R xs ys → OneByOne Q ys xs
+each-back f no_more = no_more
+each-back f (and_more {a = a} {b = b} r rs) = and_more (f a b r) (each-back f rs)
 
 module _ {S : Type 0} where
   module _ (home : ℕ) (in_main : Bool) (held : List (List ℕ)) where
@@ -72,27 +74,59 @@ module _ {S : Type 0} where
   abbrev SameBody : World → Headed S → Headed S → Type 0
   SameBody w h k = body_ok w h ≡ body_ok w k
 
-  bodies : (w : World) {hs ks : List (Headed S)} → OneByOne WholeMoved hs ks → OneByOne (SameBody w) hs ks
-  bodies w r = one_by_one {R = WholeMoved} {Q = SameBody w} (λ h k s. subst (λ z. SameBody w h z) (sym s.same) (body-moved w s.imports h (s.moved w) (s.body w))) r
+  -- bodies of headers that declare something
+  bodies : (ds : DeclaredTypes) (w : World) {hs ks : List (Headed S)} → OneByOne WholeMoved hs ks → All (Declares ds w) hs → OneByOne (SameBody w) hs ks
+  bodies ds w no_more all_of_none = no_more
+  bodies ds w (and_more {a = h} {b = k} s ss) (all_and t ts) = and_more (subst (λ z. SameBody w h z) (sym s.same) (body-moved w s.imports h (s.moved w) (s.body w ds t.0 t.1))) (bodies ds w ss ts)
+
+  -- what is moved may be moved back
+  file-back : (f g : SourceFile S) → FileMoved f g → FileMoved g f
+  file-back f g r = record { decls = sym r.decls; imports = λ k d e n i. sym (r.imports k d ((λ z. slice_get (sym r.decls z) k) ∙ e) n i) }
+
+  package-back : (p q : Package S) → PackageMoved p q → PackageMoved q p
+  package-back p q r = record { path = sym r.path; number = sym r.number; name = sym r.name; files = each-back file-back r.files }
+
+  moved-back : {ps qs : List (Package S)} → PackagesMoved ps qs → PackagesMoved qs ps
+  moved-back r = each-back package-back r
 
   module _ (ps qs : List (Package S)) (r : PackagesMoved ps qs) where
-    pub in-place : InPlace (sources ps) (sources qs)
-    in-place = record {
+    abbrev old : Program S
+    old = sources ps
+
+    abbrev new : Program S
+    new = sources qs
+
+    pub alike : DeclareAlike old new
+    alike = record {
+      numbers = one_by_one (λ p q a. a.number) (all-same r);
+      headers = one_by_one (λ h k a. a.header) (aliases (aliased_world old (headed old)) (all-moved r));
+      aliases_before = one_by_one (λ h k a. a.alias) (aliases (aliased_world old (headed old)) (all-moved r));
+      aliases_after = one_by_one (λ h k a. a.alias) (aliases (aliased_world new (headed new)) (all-moved r));
+      defined = one_by_one (λ h k a. a.defined) (aliases (aliased_world old (headed old)) (all-moved r));
+      good_before = one_by_one (λ h k a. a.good (types_declared old (headed old))) (types (typed_world old (headed old)) (all-moved r));
+      good_after = one_by_one (λ h k a. a.good (types_declared new (headed new))) (types (typed_world new (headed new)) (all-moved r));
+      declared_before = one_by_one (λ h k a. a.declared (types_declared old (headed old))) (values (valued_world old (headed old)) (all-moved r));
+      declared_after = one_by_one (λ h k a. a.declared (types_declared new (headed new))) (values (valued_world new (headed new)) (all-moved r));
+      methods = one_by_one (λ h k a. a.method) (values (valued_world old (headed old)) (all-moved r));
+    }
+
+    pub declared-moved : collected (sources ps) ≡ collected (sources qs)
+    declared-moved = same_collected old new alike
+
+    in-place : declarations_ok old ≡ true → InPlace old new
+    in-place e = record {
       aliases_before = aliases _ (all-moved r);
       aliases_after = aliases _ (all-moved r);
       types_before = types _ (all-moved r);
       types_after = types _ (all-moved r);
       before = λ w e. values w (all-moved r);
       after = λ w e. values w (all-moved r);
-      bodies = bodies _ (all-moved r);
+      bodies = bodies (types_declared old (headed old)) (collected old) (all-moved r) (headers-declare old e);
       packages = all-same r;
     }
 
-    pub declared-moved : collected (sources ps) ≡ collected (sources qs)
-    declared-moved = declares_the_same (sources ps) (sources qs) in-place
-
-    pub declarations-moved : declarations_ok (sources ps) ≡ declarations_ok (sources qs)
-    declarations-moved = declarations_as_before (sources ps) (sources qs) in-place
+    stay-typed : declarations_ok old ≡ true → declarations_ok new ≡ true
+    stay-typed e = sym (declarations_as_before old new (in-place e)) ∙ e
 
     paths-moved : paths_in ps ≡ paths_in qs
     paths-moved = by r
@@ -101,23 +135,35 @@ module _ {S : Type 0} where
         by no_more = refl
         by (and_more s ss) = λ z. (sym s.number z, sym s.path z) ∷ by ss z
 
+  pub declarations-moved : (ps qs : List (Package S)) → PackagesMoved ps qs → declarations_ok (sources ps) ≡ declarations_ok (sources qs)
+  declarations-moved ps qs r = by (declarations_ok (sources ps)) (declarations_ok (sources qs)) refl refl
+    where
+      by : (a b : Bool) → declarations_ok (sources ps) ≡ a → declarations_ok (sources qs) ≡ b → declarations_ok (sources ps) ≡ declarations_ok (sources qs)
+      by true b e f = e ∙ sym (stay-typed ps qs r e)
+      by false true e f = stay-typed qs ps (moved-back r) f ∙ sym f
+      by false false e f = e ∙ sym f
+
   -- ---- code
 
-  module _ (paths : List (ℕ × ImportPath)) (w : World) where
-    functions-of : {hs ks : List (Headed S)} → OneByOne WholeMoved hs ks → headers_functions paths w hs ≡ headers_functions paths w ks
-    functions-of no_more = refl
-    functions-of (and_more {a = h} {b = k} s ss) = λ z. (functions-moved paths w s.imports h (s.moved w) (s.body w) ∙ ap (header_functions paths w) (sym s.same)) z ++ functions-of ss z
+  module _ (paths : List (ℕ × ImportPath)) (ds : DeclaredTypes) (w : World) where
+    functions-of : {hs ks : List (Headed S)} → OneByOne WholeMoved hs ks → All (Declares ds w) hs → headers_functions paths w hs ≡ headers_functions paths w ks
+    functions-of no_more all_of_none = refl
+    functions-of (and_more {a = h} {b = k} s ss) (all_and t ts) = λ z. (functions-moved paths w s.imports h (s.moved w) (s.body w ds t.0 t.1) ∙ ap (header_functions paths w) (sym s.same)) z ++ functions-of ss ts z
 
     initial-of : {hs ks : List (Headed S)} → OneByOne WholeMoved hs ks → headers_initial paths w hs ≡ headers_initial paths w ks
     initial-of no_more = refl
     initial-of (and_more {a = h} {b = k} s ss) = λ z. Let [] ((initial-moved paths w s.imports h (s.moved w) ∙ ap (header_initial paths w) (sym s.same)) z) (initial-of ss z)
 
-    codes-by : {ps qs : List (Package S)} → PackagesMoved ps qs → map (package_code paths w) ps ≡ map (package_code paths w) qs
-    codes-by no_more = refl
-    codes-by (and_more {a = p} {b = q} r rs) = λ z. record { path = sym r.path z; initial = initial-of (package-moved p q r) z; functions = functions-of (package-moved p q r) z } ∷ codes-by rs z
+    codes-by : {ps qs : List (Package S)} → PackagesMoved ps qs → All (Declares ds w) (headed (sources ps)) → map (package_code paths w) ps ≡ map (package_code paths w) qs
+    codes-by no_more a = refl
+    codes-by (and_more {a = p} {b = q} {xs = ps} r rs) a =
+        λ z. record { path = sym r.path z; initial = initial-of (package-moved p q r) z; functions = functions-of (package-moved p q r) (all-front (headed_package p.source) (headed (sources ps)) a) z }
+        ∷ codes-by rs (all-behind (headed_package p.source) (headed (sources ps)) a) z
 
-  pub codes-moved : (ps qs : List (Package S)) → PackagesMoved ps qs → codes_of ps ≡ codes_of qs
-  codes-moved ps qs r = codes-by (paths_in ps) (collected (sources ps)) r ∙ ap₂ (λ paths w. map (package_code paths w) qs) (paths-moved ps qs r) (declared-moved ps qs r)
+  pub codes-moved : (ps qs : List (Package S)) → PackagesMoved ps qs → declarations_ok (sources ps) ≡ true → codes_of ps ≡ codes_of qs
+  codes-moved ps qs r e =
+      codes-by (paths_in ps) (types_declared (sources ps) (headed (sources ps))) (collected (sources ps)) r (headers-declare (sources ps) e)
+      ∙ ap₂ (λ paths w. map (package_code paths w) qs) (paths-moved ps qs r) (declared-moved ps qs r)
 
   -- ---- beside further packages
 
@@ -147,34 +193,3 @@ module _ {S : Type 0} where
   distinct-moved (and_more {a = p} {b = q} {xs = ps} {ys = qs} r rs) =
       (λ z. not (path-among p.path rs z || number-among p.source.number rs z) && distinct-moved rs z)
       ∙ (λ z. not (list_any (has_path (sym r.path z)) qs || list_any (has_number (sym r.number z)) qs) && are_distinct qs)
-
-  module _ (more ps qs : List (Package S)) (r : PackagesMoved ps qs) where
-    in-place-beside : are_distinct (ps ++ more) ≡ true → InPlaceBeside (sources more) (sources ps) (sources qs)
-    in-place-beside d = record {
-      aliases_before = aliases _ (all-moved r);
-      aliases_after = aliases _ (all-moved r);
-      types_before = types _ (all-moved r);
-      types_after = types _ (all-moved r);
-      before = λ w e. values w (all-moved r);
-      after = λ w e. values w (all-moved r);
-      bodies = bodies _ (all-moved r);
-      packages = all-same r;
-      apart = further-apart ps more d;
-    }
-
-    pub typed-moved : ImportsStand more qs → are_well_typed (ps ++ more) ≡ true → are_well_typed (qs ++ more) ≡ true
-    typed-moved s e =
-        let d : Bool = are_distinct (ps ++ more) in
-        let l : Bool = are_linked [] (ps ++ more) in
-        let t : Bool = well_typed (sources (ps ++ more)) in
-        let distinct : are_distinct (ps ++ more) ≡ true = and_first d (l && t) e in
-        let old : well_typed (sources ps ++ sources more) ≡ true = sym (ap well_typed (sources-append ps more)) ∙ and_second l t (and_second d (l && t) e) in
-        let right : list_all (package_imports (collected (sources qs ++ sources more)) (headed (sources qs ++ sources more))) (sources qs) ≡ true = subst (λ x. list_all (package_imports (collected x) (headed x)) (sources qs) ≡ true) (sources-append qs more) s.right in
-        let now : well_typed (sources qs ++ sources more) ≡ true = stays_well_typed_beside (sources more) (sources ps) (sources qs) (in-place-beside distinct) old right in
-        both_true (sym (distinct-moved (beside more ps qs r)) ∙ distinct) (both_true (linked-beside ps qs more (λ x. number-among x r) s.linked (and_first l t (and_second d (l && t) e))) (ap well_typed (sources-append qs more) ∙ now))
-
-  pub same-code : (P P' : Packages S) → PackagesMoved P.members P'.members → ((Q : List (Package S)) → WellTyped (with_further P Q) → ImportsStand Q P'.members) → SameCode P P'
-  same-code P P' r s = record {
-    typed = λ Q t. typed-moved Q P.members P'.members r (s Q t) t;
-    codes = λ Q t. codes-moved (P.members ++ Q) (P'.members ++ Q) (beside Q P.members P'.members r);
-  }

@@ -26,7 +26,7 @@ use Rattle.order_runs.proofs.ImportCodes.LinkedBeside.{linked-beside}
 use Rattle.order_runs.specs.ImportSteps.ImportingSteps.{ImportingStep, ImportingRun, no_step, and_step}
 use Rattle.order_runs.proofs.ImportSteps.TypedUnder.{typed-under}
 use Rattle.order_runs.proofs.ImportSteps.NamedThere.{named-there}
-use Rattle.order_runs.proofs.ImportSteps.Links.{Link, link-then, moved-link, any-number, bare-link, put-link, link-typed}
+use Rattle.order_runs.proofs.ImportSteps.Links.{Link, link-then, moved-link, declarations-of, any-number, bare-link, put-link, link-typed}
 
 -- a step changes no package's number
 pub put-numbers : {S : Type 0} (same : S → S → Bool) (rs : List (run.Package S)) (z : S) (e : Expr S) (number : ℕ) (pk : run.Package S) (tree : File S) (k m n x : ℕ) (ms : List (Package S)) → list_any (has_number x) ms ≡ list_any (has_number x) (members_put same rs z e number pk tree k m n ms)
@@ -46,7 +46,7 @@ module _ {S : Type 0} (same : S → S → Bool) where
     there = sources t.added ++ sources Q
 
     first : Link (P.members ++ Q) (t.added ++ Q)
-    first = moved-link (P.members ++ Q) (t.added ++ Q) (beside Q P.members t.added t.adds)
+    first = moved-link (P.members ++ Q) (t.added ++ Q) (beside Q P.members t.added t.adds) (declarations-of (P.members ++ Q) w)
 
     distinct : are_distinct (t.added ++ Q) ≡ true
     distinct = sym first.distinct ∙ and_first (are_distinct (P.members ++ Q)) (are_linked [] (P.members ++ Q) && well_typed (sources (P.members ++ Q))) w
@@ -61,10 +61,11 @@ module _ {S : Type 0} (same : S → S → Bool) where
     second : Link (t.added ++ Q) (put ++ Q)
     second = put-link same t.packages (part_span t.site.part) t.use_.new t.site.at.number t.site.at.of t.site.at.source.tree k t.site.at.file_number t.site.decl t.added Q distinct typed swaps
 
+    to-read : Link (P.members ++ Q) (t.read ++ Q)
+    to-read = link-then first (link-then second (bare-link (put ++ Q) (t.read ++ Q) (beside-alike put t.read Q t.respans)))
+
     pub step-link : Link (P.members ++ Q) (P'.members ++ Q)
-    step-link =
-        link-then first (link-then second
-        (link-then (bare-link (put ++ Q) (t.read ++ Q) (beside-alike put t.read Q t.respans)) (moved-link (t.read ++ Q) (P'.members ++ Q) (beside Q t.read P'.members t.settles))))
+    step-link = link-then to-read (moved-link (t.read ++ Q) (P'.members ++ Q) (beside Q t.read P'.members t.settles) (sym to-read.typed ∙ declarations-of (P.members ++ Q) w))
 
     numbers : (x : ℕ) → list_any (has_number x) P.members ≡ list_any (has_number x) P'.members
     numbers x =

@@ -20,6 +20,7 @@ use Rattle.typed_in_place.proofs.ImportRule.{well_typed_apart}
 use Rattle.typed_in_place.proofs.ProgramsReplaced.{one_by_one, declares_the_same, declarations_as_before, declares_the_same_beside, declarations_as_before_beside}
 use Rattle.typed_in_place.proofs.SpansAside.{types_spans_aside, aliases_spans_aside, values_spans_aside, bodies_spans_aside}
 use Rattle.go_translation.specs.Packages.{Package, sources, codes_of, has_path, has_number, are_distinct, are_linked, are_well_typed}
+use Rattle.go_translation.specs.SameMeaning.{Packages, WellTyped, with_further}
 use Rattle.go_translation.specs.SpansAside.{bare_headed}
 use Rattle.constant_steps.specs.StepLaws.DeclStands.{changed}
 use Rattle.constant_steps.specs.StepLaws.PartsTyped.{HeaderTyped}
@@ -33,8 +34,10 @@ use Rattle.constant_steps.proofs.StepLaws.SwapProgram.{constant-codes, sources-a
 use Rattle.order_runs.specs.RunSteps.Bared.{bare_source, bare_package, bare_members}
 use Rattle.order_runs.proofs.RunSteps.HeadersBared.{program_bared, program-bare}
 use Rattle.order_runs.proofs.RunSteps.SpansForgotten.{one-by-view, codes-alike}
-use Rattle.order_runs.specs.ImportCodes.PackagesMoved.{PackagesMoved}
-use Rattle.order_runs.proofs.ImportCodes.PackagesCode.{codes-moved, declared-moved, declarations-moved, distinct-moved, sources-append}
+use Rattle.order_runs.specs.RunSteps.SameCode.{SameCode}
+use Rattle.order_runs.specs.ImportCodes.PackagesMoved.{PackagesMoved, ImportsStand}
+use Rattle.order_runs.proofs.ImportCodes.LinkedBeside.{linked-beside}
+use Rattle.order_runs.proofs.ImportCodes.PackagesCode.{beside, codes-moved, declared-moved, declarations-moved, distinct-moved, number-among as moved-number, sources-append}
 use Rattle.order_runs.proofs.ImportSteps.SwapsThere.{swaps-there}
 
 -- what is the same of two lists of packages
@@ -50,8 +53,14 @@ module _ {S : Type 0} where
 
   -- ---- under other imports
 
-  pub moved-link : (ps qs : List (Package S)) → PackagesMoved ps qs → Link ps qs
-  moved-link ps qs r = record { distinct = distinct-moved r; declare = declared-moved ps qs r; typed = declarations-moved ps qs r; codes = codes-moved ps qs r }
+  pub moved-link : (ps qs : List (Package S)) → PackagesMoved ps qs → declarations_ok (sources ps) ≡ true → Link ps qs
+  moved-link ps qs r e = record { distinct = distinct-moved r; declare = declared-moved ps qs r; typed = declarations-moved ps qs r; codes = codes-moved ps qs r e }
+
+  -- the declarations of well-typed packages are typed
+  pub declarations-of : (ps : List (Package S)) → are_well_typed ps ≡ true → declarations_ok (sources ps) ≡ true
+  declarations-of ps e =
+      and_first (declarations_ok (sources ps)) (imports_ok (sources ps))
+      (sym (well_typed_apart (sources ps)) ∙ and_second (are_linked [] ps) (well_typed (sources ps)) (and_second (are_distinct ps) (are_linked [] ps && well_typed (sources ps)) e))
 
   -- ---- with other spans
 
@@ -208,3 +217,16 @@ module _ {S : Type 0} where
       let typed : well_typed (sources (qs ++ more)) ≡ true =
       well_typed_apart (sources (qs ++ more)) ∙ both_true (sym k.typed ∙ and_first (declarations_ok (sources (ps ++ more))) (imports_ok (sources (ps ++ more))) both) (all-right qs more ∙ both_true right further) in
       both_true d' (both_true linked typed)
+
+  -- ---- under other imports, beside further packages
+
+  pub typed-moved : (more ps qs : List (Package S)) → PackagesMoved ps qs → ImportsStand more qs → are_well_typed (ps ++ more) ≡ true → are_well_typed (qs ++ more) ≡ true
+  typed-moved more ps qs r s e =
+      link-typed ps qs more (moved-link (ps ++ more) (qs ++ more) (beside more ps qs r) (declarations-of (ps ++ more) e))
+      (linked-beside ps qs more (λ x. moved-number x r) s.linked (and_first (are_linked [] (ps ++ more)) (well_typed (sources (ps ++ more))) (and_second (are_distinct (ps ++ more)) (are_linked [] (ps ++ more) && well_typed (sources (ps ++ more))) e))) s.right e
+
+  pub moved-code : (P P' : Packages S) → PackagesMoved P.members P'.members → ((Q : List (Package S)) → WellTyped (with_further P Q) → ImportsStand Q P'.members) → SameCode P P'
+  moved-code P P' r s = record {
+    typed = λ Q t. typed-moved Q P.members P'.members r (s Q t) t;
+    codes = λ Q t. codes-moved (P.members ++ Q) (P'.members ++ Q) (beside Q P.members P'.members r) (declarations-of (P.members ++ Q) t);
+  }

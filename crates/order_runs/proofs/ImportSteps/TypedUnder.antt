@@ -13,14 +13,13 @@ use Rattle.typed_in_place.specs.ProgramsAlike.{OneByOne, no_more, and_more}
 use Rattle.typed_in_place.specs.ProgramReplaced.{All, all_of_none, all_and}
 use Rattle.typed_in_place.proofs.Collected.{same_types_declared}
 use Rattle.typed_in_place.proofs.ImportsMoved.{declared-moved, method-moved, body-moved}
-use Rattle.typed_in_place.proofs.ProgramsReplaced.{declare_alike}
 use Rattle.go_translation.specs.Packages.{Package, sources}
 use Rattle.constant_steps.specs.StepLaws.PartsTyped.{HeaderTyped}
 use Rattle.constant_steps.proofs.StepLaws.PartsTyped.{headers-typed}
 use Rattle.order_runs.specs.ImportCodes.PackagesMoved.{PackagesMoved}
 use Rattle.order_runs.proofs.ImportCodes.HeadersUnder.{WholeMoved}
 use Rattle.order_runs.proofs.ImportCodes.PackagesCode as moved
-use Rattle.order_runs.proofs.ImportCodes.PackagesCode.{all-moved, in-place}
+use Rattle.order_runs.proofs.ImportCodes.PackagesCode.{all-moved}
 
 module _ {S : Type 0} where
   -- all headers of a program are typed
@@ -35,7 +34,7 @@ module _ {S : Type 0} where
     one-typed h k s t = subst (HeaderTyped ds w) (sym s.same) (record {
       before = t.before;
       declares = sym (ok-moved s.imports h (s.moved w) t.before) ∙ t.declares;
-      body = sym (body-moved w s.imports h (s.moved w) (s.body w)) ∙ t.body;
+      body = sym (body-moved w s.imports h (s.moved w) (s.body w ds t.before t.declares)) ∙ t.body;
     })
 
     all-typed : {hs ks : List (Headed S)} → OneByOne WholeMoved hs ks → All (HeaderTyped ds w) hs → All (HeaderTyped ds w) ks
@@ -45,6 +44,6 @@ module _ {S : Type 0} where
   -- so in packages whose files have other imports, used or not
   pub typed-under : (ps qs : List (Package S)) → PackagesMoved ps qs → well_typed (sources ps) ≡ true → AllTyped qs
   typed-under ps qs r e =
-      subst (λ (ds : DeclaredTypes). All (HeaderTyped ds (collected (sources qs))) (headed (sources qs))) (same_types_declared (sources ps) (sources qs) (declare_alike (sources ps) (sources qs) (in-place ps qs r)))
+      subst (λ (ds : DeclaredTypes). All (HeaderTyped ds (collected (sources qs))) (headed (sources qs))) (same_types_declared (sources ps) (sources qs) (moved.alike ps qs r))
       (subst (λ (w : World). All (HeaderTyped (types_declared (sources ps) (headed (sources ps))) w) (headed (sources qs))) (moved.declared-moved ps qs r)
       (all-typed (types_declared (sources ps) (headed (sources ps))) (collected (sources ps)) (all-moved r) (headers-typed (sources ps) e)))

@@ -16,7 +16,7 @@ use Rattle.run_rules.specs.Inlining.{ModuleReads, standing_as_read}
 use Rattle.order_runs.specs.CycleLaws.ConstantCycles.Laws.{NamesFor, TypesFor}
 use Rattle.order_runs.specs.CycleRuns.StepCycles.Steps.{StandsAtEnds, UsesAtEnds}
 use Rattle.order_runs.specs.CycleRuns.ImportCycles.ImportSteps.{packages_added}
-use Rattle.order_runs.specs.CycleRuns.OrderCycles.NewNames.{NamesByPath, FewNames}
+use Rattle.order_runs.specs.CycleRuns.OrderCycles.NewNames.{NamesByPath, AvoidsFew}
 use Rattle.order_runs.specs.CycleRuns.KeptImports.Files.{RemovesNoLookUps}
 use Rattle.order_runs.specs.CycleRuns.OrderCycles.Steps.{site_added, KeepsImportNames, KeepsImportLookUps}
 use Rattle.order_runs.specs.CycleRuns.Linked.{Linked, WritesFile, SettlesFile, PutsWhatStood, CallsWhatStood, AllPut}
@@ -48,7 +48,7 @@ StepsKeepImportNames =
 abbrev pub StepsKeepImportLookUps : Type 0
 StepsKeepImportLookUps =
     (marks : List MarkRef) (st : Standing) (l : Logged) (after : Standing) (n : Next marks st l after)
-    → Linked st.packages → WritesFile n → FewNames st.packages n.found → RemovesNoLookUps n → KeepsImportLookUps n
+    → Linked st.packages → WritesFile n → AvoidsFew st.packages n.found → RemovesNoLookUps n → KeepsImportLookUps n
 
 -- ---- cycles
 

@@ -15,7 +15,7 @@ use Rattle.order_runs.specs.CycleRuns.StepCycles.Steps.{StandsAtEnds}
 use Rattle.order_runs.specs.CycleRuns.StepCycles.Calls.{AllPutCallThrough}
 use Rattle.order_runs.specs.CycleRuns.ImportCycles.ImportSteps.{file_added, packages_added, where_added}
 use Rattle.order_runs.specs.CycleRuns.OrderCycles.Orders.{AllOrdered}
-use Rattle.order_runs.specs.CycleRuns.OrderCycles.NewNames.{FewNames}
+use Rattle.order_runs.specs.CycleRuns.OrderCycles.NewNames.{AvoidsFew}
 use Rattle.order_runs.specs.CycleRuns.OrderCycles.Steps.{site_added}
 use Rattle.order_runs.specs.CycleRuns.OrderedSteps.Ranks.{OwnPaths, AddsLedTo}
 use Rattle.order_runs.specs.CycleRuns.KeptImports.Files.{PutsNode, RemovesNoNames}
@@ -40,7 +40,7 @@ pub record SettlesFile {marks : List MarkRef} {st : Standing} {l : Logged} {afte
   pub puts : PutsNode n
   pub writable : AreWritable (imports_added n.found.named)
   pub led : AddsLedTo st.packages n.found
-  pub few : FewNames st.packages n.found
+  pub few : AvoidsFew st.packages n.found
   pub removes : RemovesNoNames n
 
 -- With its imports added the form has the facts of what stood there, replaces no statement, and calls what stood there,

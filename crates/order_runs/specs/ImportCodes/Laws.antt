@@ -43,9 +43,12 @@ HeadersKeepTheirCode =
     → (header_functions paths w h ≡ header_functions paths w (under_imports is h))
     × (header_initial paths w h ≡ header_initial paths w (under_imports is h))
 
--- So the packages are the same in the kernel.
+-- So the packages are the same in the kernel, if the declarations of the first are typed: a function whose receiver,
+-- parameters or results are refused binds none of them in its body.
 abbrev pub PackagesKeepTheirCode : Type 0
-PackagesKeepTheirCode = (ps qs : List (Package Span)) → PackagesMoved ps qs → codes_of ps ≡ codes_of qs
+PackagesKeepTheirCode =
+    (ps qs : List (Package Span)) → PackagesMoved ps qs → declarations_ok (sources ps) ≡ true
+    → codes_of ps ≡ codes_of qs
 
 -- So they keep their kernel program beside all further packages, where their imports are right again.
 abbrev pub ImportedCodeStays : Type 0

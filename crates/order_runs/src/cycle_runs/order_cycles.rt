@@ -1,6 +1,7 @@
 //! Laws of steps that add and remove imports.
 
 ghost use Rattle.order_runs.specs.CycleRuns.OrderCycles.Laws.{AliasStepsKeepCycles, ConstantStepsKeepCycles};
+ghost use Rattle.order_runs.specs.CycleRuns.OrderCycles.Laws.{FewNamesAreFresh, ListedNamesAreFew};
 ghost use Rattle.order_runs.specs.CycleRuns.OrderCycles.Laws.{OrdersDeclareTheSame, RunsKeepCycles, StepsAddNewNames};
 ghost use Rattle.order_runs.specs.CycleRuns.OrderCycles.Laws.{StepsKeepCycles, StepsPutTheSame, StepsSettleImports};
 
@@ -11,9 +12,13 @@ pub fn orders_declare_the_same()
     ensures { OrdersDeclareTheSame }
 {}
 
-/// The imports that a step adds have names that no identifier of its file has; so its form is put
-/// where it is put with them added.
+/// Where the names that a step avoids stand among few, each counted once, the imports that it adds
+/// have the first names that are new (`fresh`), so it is where the names to avoid are few as they
+/// are listed, each as often as it stands (`listed`). So they have names that no identifier of its
+/// file has; so its form is put where it is put with them added.
 pub fn steps_add_new_names()
+    ensures fresh { FewNamesAreFresh }
+    ensures listed { ListedNamesAreFew }
     ensures added { StepsAddNewNames }
     ensures same { StepsPutTheSame }
 {}

@@ -35,7 +35,8 @@ use Rattle.constant_steps.proofs.FormImports.ImportLaws.IdentifiersWith.{identif
 use Rattle.splice_laws.specs.ImportSplices.FormSplices.Laws.{MakesForm}
 use Rattle.splice_laws.proofs.ImportSplices.FormSplices.FormsFound.{step-makes-form}
 use Rattle.order_runs.proofs.RunSteps.SeatedUses.{Seated}
-use Rattle.order_runs.specs.CycleRuns.OrderCycles.NewNames.{FewNames}
+use Rattle.order_runs.specs.CycleRuns.OrderCycles.NewNames.{AvoidsFew}
+use Rattle.order_runs.proofs.CycleRuns.OrderCycles.FreshNames.{listed-few}
 use Rattle.order_runs.proofs.CycleRuns.ImportCycles.ImportStep.{placed}
 use Rattle.put_names.specs.Uses.{IsDeclaredAsName, as_name, as_member, UsesConstant}
 use Rattle.put_names.proofs.Forms.{IsFormBy, by_obstacle, reduced_is}
@@ -272,7 +273,7 @@ module _ (marks : List MarkRef) (st : Standing) (f : Found At) (its : MakesForm 
     none_bound : length (binders_of st.packages f.site.mark) ≡ 0
     none_bound = ap (λ (o : Option (Inlinable At)). length (elim o as (λ r. List (List ℕ)) [ None ↦ [] | Some d ↦ binders_in d ])) declared
 
-    pub few_by : texts_size st.texts ≤ the_limits.total → FewNames st.packages f
+    pub few_by : texts_size st.texts ≤ the_limits.total → AvoidsFew st.packages f
     few_by small =
         let within : texts_size st.texts ≤ 16777216 = small in
         let file : FileAt st.packages w.number w.file_number w.source = record { of = w.of; package_is = here.package_is; file_is = here.file_is } in
@@ -283,11 +284,11 @@ module _ (marks : List MarkRef) (st : Standing) (f : Found At) (its : MakesForm 
         let a = length-map (names_here st.packages w).imports (λ i. i.name) in
         let b : length (names_here st.packages w).imports ≡ length (import_specs w.source.tree) = length-map (import_specs w.source.tree) (λ s. name_of_import s) in
         let c = length-map (package_block 0 w.of) (λ x. x.0) in
-        subst (λ (k : ℕ). suc (length (identifiers w.source.tree ++ ((map (λ i. i.name) (names_here st.packages w).imports ++ map (λ x. x.0) (package_block 0 w.of) ++ binders_of st.packages f.site.mark) ++ (keyword_spellings ++ predeclared)))) + length f.named < k) two_to_64
+        listed-few st.packages f (subst (λ (k : ℕ). suc (length (identifiers w.source.tree ++ ((map (λ i. i.name) (names_here st.packages w).imports ++ map (λ x. x.0) (package_block 0 w.of) ++ binders_of st.packages f.site.mark) ++ (keyword_spellings ++ predeclared)))) + length f.named < k) two_to_64
         (lists_few (identifiers w.source.tree) (map (λ i. i.name) (names_here st.packages w).imports) (map (λ x. x.0) (package_block 0 w.of)) (binders_of st.packages f.site.mark) (keyword_spellings ++ predeclared) (length f.named) (texts_size st.texts + texts_size st.texts)
-        (omega (arith, own, one)) (omega (arith, a, b, specs, one)) (omega (arith, block, c)) none_bound words_few named_few (omega (arith, within)))
+        (omega (arith, own, one)) (omega (arith, a, b, specs, one)) (omega (arith, block, c)) none_bound words_few named_few (omega (arith, within))))
 
-pub avoided_few : (marks : List MarkRef) (st : Standing) (l : Logged) (after : Standing) (n : Next marks st l after) → ProgramReads st → OnePathEach st.packages → ArePrinted st.packages → AllNamed st.packages marks → texts_size st.texts ≤ the_limits.total → FewNames st.packages n.found
+pub avoided_few : (marks : List MarkRef) (st : Standing) (l : Logged) (after : Standing) (n : Next marks st l after) → ProgramReads st → OnePathEach st.packages → ArePrinted st.packages → AllNamed st.packages marks → texts_size st.texts ≤ the_limits.total → AvoidsFew st.packages n.found
 avoided_few marks st l after n reads paths printed named small =
     let e = site_expression st.packages marks printed n.found.site (step-makes-form marks st l after n).is_use in
     let u : UsesConstant n = named-used marks st l after n e.0 e.1 named in

@@ -1,16 +1,14 @@
 -- The names that a form has for packages aren't `_`.
-use Rattle.std.proofs.Common.{◌≡◌, ◌∙◌, refl, sym, ap, subst, ℕ, zero, suc, ◌+◌, ◌<◌, ◌^◌, Bool, true, false, not, ◌&&◌, if◌then◌else◌, bytes_eq, nat_eq, List, [], ◌∷◌, ◌++◌, map, length, Option, Some, None, arith}
+use Rattle.std.proofs.Common.{◌≡◌, ◌∙◌, refl, sym, ap, subst, ℕ, zero, suc, ◌+◌, Bool, true, false, not, ◌&&◌, if◌then◌else◌, bytes_eq, nat_eq, List, [], ◌∷◌, ◌++◌, map, Option, Some, None}
 use Rattle.std.specs.Prelude.{codes, decimal, slice_get}
-use Rattle.std.proofs.lemmas.List.{length-append}
 use Rattle.std.proofs.lemmas.Option.{same_Some}
 use Rattle.std.proofs.lemmas.Slice.Eq.{bytes_eq-Decides}
-use Rattle.go_tree.specs.GoWords.Tokens.Pieces.{is_among, keyword_spellings}
+use Rattle.go_tree.specs.GoWords.Tokens.Pieces.{is_among}
 use Rattle.go_tree.specs.declared.scope_names.names.Entity.{Entity}
 use Rattle.go_tree.specs.declared.scope_names.names.Entity.TheVariants as entity
 use Rattle.go_tree.specs.declared.scope_names.names.ImportName.{ImportName}
-use Rattle.go_tree.specs.ScopeNames.Fresh.{candidate}
+use Rattle.go_tree.specs.ScopeNames.Fresh.{candidate, IsFresh}
 use Rattle.go_tree.specs.ScopeNames.FreeNames.{names_of}
-use Rattle.go_tree.specs.ScopeNames.Identifiers.{identifiers}
 use Rattle.go_tree.specs.ScopeNames.Means.{Environment, means, is_blank, numbered, predeclared, outermost}
 use Rattle.go_tree.specs.ScopeNames.Occurrences.{means_import}
 use Rattle.constant_steps.specs.FormImports.OwnNames.{AllOwn}
@@ -20,13 +18,13 @@ use Rattle.pkg_graph.specs.Package.{Package}
 use Rattle.typed_in_place.proofs.Rising.{and_first, and_second}
 use Rattle.run_rules.specs.Surroundings.{Place}
 use Rattle.run_rules.specs.Sites.{MarkRef, Where}
-use Rattle.run_rules.specs.Naming.{Named, no_span, fuel_for, fresh_name, names_by, package_path, own_name, names_here, environment_here, added_import, named_packages, name_added}
+use Rattle.run_rules.specs.Naming.{Named, no_span, fresh_name, names_by, package_path, own_name, names_here, environment_here, added_import, named_packages, name_added}
 use Rattle.run_rules.specs.Steps.{At}
 use Rattle.run_rules.specs.Run.{Standing, Logged, Next, is_commented}
-use Rattle.run_rules.proofs.NamesFound.{found_is_fresh}
 use Rattle.constant_steps.specs.FormImports.ImportLaws.Steps.{binders_of}
 use Rattle.constant_steps.proofs.FormImports.ImportLaws.StepNames.{FoundWell, found_well}
-use Rattle.order_runs.specs.CycleRuns.OrderCycles.NewNames.{FewNames}
+use Rattle.order_runs.specs.CycleRuns.OrderCycles.NewNames.{AvoidsFew, EachFresh}
+use Rattle.order_runs.proofs.CycleRuns.OrderCycles.FreshNames.{step-fresh}
 use Rattle.put_names.specs.WrittenNames.NamedPackages.{AreOfPackages}
 
 -- ---- `_` is the name of no import
@@ -132,9 +130,6 @@ module _ (ps : List (Package At)) (w : Where At) (p : Place At) (own : AllOwn ps
   EachNotBlank [] = Unit {0}
   EachNotBlank (n ∷ ns) = (is_blank n.name ≡ false) × EachNotBlank ns
 
-  abbrev fuel : List (List ℕ) → ℕ
-  fuel bound = fuel_for w.source.tree (avoided (names_here ps w) bound)
-
   abbrev by_option : List (List ℕ) → ℕ → Option (List ℕ) → Named
   by_option bound q o =
       elim o [
@@ -145,38 +140,23 @@ module _ (ps : List (Package At)) (w : Where At) (p : Place At) (own : AllOwn ps
   abbrev listed : List (List ℕ) → ℕ → List ℕ → Option (List ℕ) → List Named
   listed bound q qs s = by_option bound q s ∷ named_packages ps w p (name_added (by_option bound q s) ++ bound) qs
 
-  -- one more name to avoid
-  fuel_grows : (bound : List (List ℕ)) (n : List ℕ) (k : ℕ) → fuel bound + suc k < 2 ^ 64 → fuel (n ∷ bound) + k < 2 ^ 64
-  fuel_grows bound n k h =
-      let ids : List (List ℕ) = identifiers w.source.tree in
-      let blocks : List (List ℕ) = map (λ i. i.name) (names_here ps w).imports ++ (names_here ps w).«package» in
-      let rest : List (List ℕ) = keyword_spellings ++ predeclared in
-      let a : length (ids ++ ((blocks ++ bound) ++ rest)) ≡ length ids + length ((blocks ++ bound) ++ rest) = length-append ids ((blocks ++ bound) ++ rest) in
-      let b : length ((blocks ++ bound) ++ rest) ≡ length (blocks ++ bound) + length rest = length-append (blocks ++ bound) rest in
-      let c : length (blocks ++ bound) ≡ length blocks + length bound = length-append blocks bound in
-      let d : length (ids ++ ((blocks ++ n ∷ bound) ++ rest)) ≡ length ids + length ((blocks ++ n ∷ bound) ++ rest) = length-append ids ((blocks ++ n ∷ bound) ++ rest) in
-      let e : length ((blocks ++ n ∷ bound) ++ rest) ≡ length (blocks ++ n ∷ bound) + length rest = length-append (blocks ++ n ∷ bound) rest in
-      let f : length (blocks ++ n ∷ bound) ≡ length blocks + length (n ∷ bound) = length-append blocks (n ∷ bound) in
-      omega (arith, a, b, c, d, e, f, h)
-
-  fresh_not_blank : (bound : List (List ℕ)) (q : ℕ) (r : Package At) → slice_get ps q ≡ Some r → fuel bound < 2 ^ 64 → is_blank (fresh_name w.source.tree (avoided (names_here ps w) bound) (own_name ps q)) ≡ false
-  fresh_not_blank bound q r there few =
+  fresh_not_blank : (bound : List (List ℕ)) (q : ℕ) (r : Package At) → slice_get ps q ≡ Some r → IsFresh (own_name ps q) w.source.tree (avoided (names_here ps w) bound) (fresh_name w.source.tree (avoided (names_here ps w) bound) (own_name ps q)) → is_blank (fresh_name w.source.tree (avoided (names_here ps w) bound) (own_name ps q)) ≡ false
+  fresh_not_blank bound q r there is =
       let same : own_name ps q ≡ r.name = ap (λ (o : Option (Package At)). elim o [ None ↦ [] | Some p ↦ p.name ]) there in
-      let is = found_is_fresh w.source.tree (avoided (names_here ps w) bound) (own_name ps q) few in
       ap is_blank is.is
       ∙ candidate_not_blank (own_name ps q) (subst (λ (v : List ℕ). IsOwnName v) (sym same) (its_name ps own q r there)) is.number
 
-  each_not_blank : (bound : List (List ℕ)) (qs : List ℕ) → fuel bound + length (named_packages ps w p bound qs) < 2 ^ 64 → AreOfPackages ps (named_packages ps w p bound qs) → EachNotBlank (named_packages ps w p bound qs)
+  each_not_blank : (bound : List (List ℕ)) (qs : List ℕ) → EachFresh ps w bound (named_packages ps w p bound qs) → AreOfPackages ps (named_packages ps w p bound qs) → EachNotBlank (named_packages ps w p bound qs)
   each_not_blank bound [] h of = tt
   each_not_blank bound (q ∷ qs) h of = by (serving (environment_here ps w p) bound (package_path ps q) (names_here ps w).imports) refl (λ b few k. each_not_blank b qs few k) h of
     where
       by : (s : Option (List ℕ)) → serving (environment_here ps w p) bound (package_path ps q) (names_here ps w).imports ≡ s
-          → ((b : List (List ℕ)) → fuel b + length (named_packages ps w p b qs) < 2 ^ 64 → AreOfPackages ps (named_packages ps w p b qs) → EachNotBlank (named_packages ps w p b qs))
-          → fuel bound + length (listed bound q qs s) < 2 ^ 64 → AreOfPackages ps (listed bound q qs s) → EachNotBlank (listed bound q qs s)
-      by (Some n) e later h of = (served ps w p bound (package_path ps q) 0 (names_here ps w).imports n e, later bound (omega (arith, h)) of.1)
+          → ((b : List (List ℕ)) → EachFresh ps w b (named_packages ps w p b qs) → AreOfPackages ps (named_packages ps w p b qs) → EachNotBlank (named_packages ps w p b qs))
+          → EachFresh ps w bound (listed bound q qs s) → AreOfPackages ps (listed bound q qs s) → EachNotBlank (listed bound q qs s)
+      by (Some n) e later h of = (served ps w p bound (package_path ps q) 0 (names_here ps w).imports n e, later bound h.1 of.1)
       by None e later h of =
           let m : List ℕ = fresh_name w.source.tree (avoided (names_here ps w) bound) (own_name ps q) in
-          (fresh_not_blank bound q of.0.0 of.0.1 (omega (arith, h)), later (m ∷ bound) (fuel_grows bound m (length (named_packages ps w p (m ∷ bound) qs)) h) of.1)
+          (fresh_not_blank bound q of.0.0 of.0.1 h.0.1, later (m ∷ bound) h.1 of.1)
 
   pub by_not_blank : (ns : List Named) → EachNotBlank ns → (k : ℕ) → is_blank (names_by ns k) ≡ false
   by_not_blank [] h k = refl
@@ -186,13 +166,13 @@ module _ (ps : List (Package At)) (w : Where At) (p : Place At) (own : AllOwn ps
       by true r = h.0
       by false r = r
 
-pub form_not_blank : (marks : List MarkRef) (st : Standing) (l : Logged) (after : Standing) (n : Next marks st l after) → AllOwn st.packages → FewNames st.packages n.found → AreOfPackages st.packages n.found.named
+pub form_not_blank : (marks : List MarkRef) (st : Standing) (l : Logged) (after : Standing) (n : Next marks st l after) → AllOwn st.packages → AvoidsFew st.packages n.found → AreOfPackages st.packages n.found.named
     → (k : ℕ) → is_blank (names_by n.found.named k) ≡ false
 form_not_blank marks st l after n own few of k =
     by_not_blank st.packages n.found.site.at n.found.site.place own n.found.named
     (subst (λ (ns : List Named). EachNotBlank st.packages n.found.site.at n.found.site.place own ns) (sym well.names)
     (each_not_blank st.packages n.found.site.at n.found.site.place own (binders_of st.packages n.found.site.mark) well.packages
-    (subst (λ (ns : List Named). fuel st.packages n.found.site.at n.found.site.place own (binders_of st.packages n.found.site.mark) + length ns < 2 ^ 64) well.names few)
+    (subst (EachFresh st.packages n.found.site.at (binders_of st.packages n.found.site.mark)) well.names (step-fresh marks st l after n few))
     (subst (λ (ns : List Named). AreOfPackages st.packages ns) well.names of))) k
   where
     well : FoundWell st.packages marks (is_commented st) n.found

@@ -1,6 +1,6 @@
 -- With the imports of a step's form added, the name that the form has for a package is that of an import that serves; and
 -- names of the file, and of its package's block, mean what they meant.
-use Rattle.std.proofs.Common.{◌≡◌, ◌∙◌, refl, sym, subst, ℕ, zero, suc, ◌+◌, ◌<◌, ◌^◌, Bool, true, false, not, ◌&&◌, ◌||◌, if◌then◌else◌, bytes_eq, nat_eq, List, [], ◌∷◌, ◌++◌, map, length, Option, Some, None, arith}
+use Rattle.std.proofs.Common.{◌≡◌, ◌∙◌, refl, sym, subst, ℕ, zero, suc, ◌+◌, Bool, true, false, not, ◌&&◌, ◌||◌, if◌then◌else◌, bytes_eq, nat_eq, List, [], ◌∷◌, ◌++◌, map, length, Option, Some, None, arith}
 use Rattle.std.specs.Prelude.{codes, slice_get}
 use Rattle.std.specs.List.{list_any}
 use Rattle.std.proofs.lemmas.Bool.Decides.{nat_tests}
@@ -14,6 +14,7 @@ use Rattle.go_tree.specs.declared.scope_names.names.Entity.{Entity}
 use Rattle.go_tree.specs.declared.scope_names.names.Entity.TheVariants as entity
 use Rattle.go_tree.specs.declared.scope_names.names.ImportName.{ImportName}
 use Rattle.go_tree.specs.ScopeNames.FreeNames.{names_of}
+use Rattle.go_tree.specs.ScopeNames.Fresh.{IsFresh}
 use Rattle.go_tree.specs.ScopeNames.Identifiers.{identifiers, decl_identifiers}
 use Rattle.go_tree.specs.ScopeNames.Means.{Environment, means, is_blank, numbered, predeclared, outermost}
 use Rattle.go_tree.specs.ScopeNames.Occurrences.{means_import}
@@ -23,15 +24,15 @@ use Rattle.pkg_graph.specs.Package.{SourceTree, Package, specs_in, import_specs}
 use Rattle.pkg_graph.specs.Members.{Target, member, package_name, name_or, import_name, block_names, items_from, decls_from, files_from, package_block}
 use Rattle.go_tree.specs.GoTypes.Agreement.{In}
 use Rattle.splice_laws.proofs.RunLaws.FoundSpans.{Placed}
-use Rattle.run_rules.proofs.NamesFound.{found_is_fresh}
-use Rattle.run_rules.specs.Naming.{Named, no_span, fuel_for, imports_added, names_by, fresh_name, package_path, own_name, names_here, environment_here, added_import, named_package}
+use Rattle.run_rules.specs.Naming.{Named, no_span, imports_added, names_by, fresh_name, package_path, own_name, names_here, environment_here, added_import, named_package}
 use Rattle.run_rules.specs.Run.{Standing, Logged, Next, here_of}
 use Rattle.run_rules.specs.Sites.{MarkRef, Where}
 use Rattle.run_rules.specs.Steps.{At, change_nth, added_decls, spec_for}
 use Rattle.run_rules.specs.Surroundings.{Place}
 use Rattle.constant_steps.specs.FormImports.ImportLaws.Steps.{binders_of}
 use Rattle.order_runs.specs.CycleRuns.ImportCycles.ImportSteps.{file_added, packages_added, where_added}
-use Rattle.order_runs.specs.CycleRuns.OrderCycles.NewNames.{NamesByPath, FewNames}
+use Rattle.order_runs.specs.CycleRuns.OrderCycles.NewNames.{NamesByPath, AvoidsFew}
+use Rattle.order_runs.proofs.CycleRuns.OrderCycles.FreshNames.{fresh-there}
 use Rattle.order_runs.proofs.CycleRuns.ImportCycles.ImportStep.{placed}
 use Rattle.order_runs.proofs.CycleRuns.OrderCycles.NamesAdded.{adds-new-names}
 use Rattle.printed_constants.proofs.TypedParts.MarkedRuns.KeptMarks.Changed.{name-stays}
@@ -190,7 +191,7 @@ new_facts true b c d e h = absurd cc
 new_facts false true c d e h = absurd cc
 new_facts false false c d e h = refl
 
-module _ (marks : List MarkRef) (st : Standing) (l : Logged) (after : Standing) (n : Next marks st l after) (few : FewNames st.packages n.found) (paths : NamesByPath st.packages) where
+module _ (marks : List MarkRef) (st : Standing) (l : Logged) (after : Standing) (n : Next marks st l after) (few : AvoidsFew st.packages n.found) (paths : NamesByPath st.packages) where
   abbrev w : Where At
   w = n.found.site.at
 
@@ -243,15 +244,16 @@ module _ (marks : List MarkRef) (st : Standing) (l : Logged) (after : Standing) 
     abbrev by_option : Option (List ℕ) → Named
     by_option o = elim o [ Some q ↦ record { of = k; name = q; added = None } | None ↦ record { of = k; name = fresh; added = Some (added_import st.packages k fresh) } ]
 
-    fuel_few : fuel_for w.source.tree (avoided (names_here st.packages w) []) < 2 ^ 64
-    fuel_few =
-        let h : fuel_for w.source.tree (avoided (names_here st.packages w) []) + length n.found.named < 2 ^ 64 = subst (λ (ns : List (List ℕ)). fuel_for w.source.tree (avoided (names_here st.packages w) ns) + length n.found.named < 2 ^ 64) binders few in omega (arith, h)
+    is_fresh : IsFresh (own_name st.packages k) w.source.tree (avoided (names_here st.packages w) []) fresh
+    is_fresh =
+        subst (λ (ns : List (List ℕ)). IsFresh (own_name st.packages k) w.source.tree (avoided (names_here st.packages w) ns) (fresh_name w.source.tree (avoided (names_here st.packages w) ns) (own_name st.packages k))) binders
+        (fresh-there st.packages n.found few k)
 
     not_avoided : list_any (bytes_eq fresh) (map (λ (i : ImportName). i.name) (names_here st.packages w).imports ++ (names_here st.packages w).«package») ≡ false
     not_avoided =
         (λ z. list_any (bytes_eq fresh) (sym (nothing_behind (map (λ (i : ImportName). i.name) (names_here st.packages w).imports ++ (names_here st.packages w).«package»)) z))
         ∙ new_facts (is_among (identifiers w.source.tree) fresh) (is_among (avoided (names_here st.packages w) []) fresh) (is_among keyword_spellings fresh) (is_among predeclared fresh) (bytes_eq fresh (codes "init"))
-        ((found_is_fresh w.source.tree (avoided (names_here st.packages w) []) (own_name st.packages k) fuel_few).new)
+        is_fresh.new
 
     two_avoided : (list_any (bytes_eq fresh) (map (λ (i : ImportName). i.name) (names_here st.packages w).imports) ≡ false) × (list_any (bytes_eq fresh) (names_here st.packages w).«package» ≡ false)
     two_avoided =

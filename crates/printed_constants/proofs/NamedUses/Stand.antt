@@ -36,7 +36,7 @@ use Rattle.constant_steps.specs.QualifiedSteps.NamedUse.{NamedUse}
 use Rattle.constant_steps.proofs.MarksFound.{member_of_mark, named_member, marked_so, both_none, StandsThere, stands_there, DeclaredThere, declared_there}
 use Rattle.order_runs.specs.CycleRuns.ImportCycles.ImportSteps.{file_added, packages_added, where_added}
 use Rattle.order_runs.specs.CycleRuns.ImportCycles.LookedUp.{specs_looked_up, decl_looked_up}
-use Rattle.order_runs.specs.CycleRuns.OrderCycles.NewNames.{NamesByPath, FewNames}
+use Rattle.order_runs.specs.CycleRuns.OrderCycles.NewNames.{NamesByPath, AvoidsFew}
 use Rattle.order_runs.proofs.CycleRuns.ImportCycles.FreeIdentifiers.{in-left, in-right, looked-up-within}
 use Rattle.order_runs.proofs.CycleRuns.ImportCycles.ImportStep.{placed}
 use Rattle.order_runs.proofs.CycleRuns.Runs.{linked-names}
@@ -163,7 +163,7 @@ pub data FormNamed (marks : List MarkRef) (st : Standing) (l : Logged) (after : 
   form_member : (k : ℕ) (q : Package At) (m : List ℕ) → slice_get st.packages k ≡ Some q → n.found.named ≡ named_package st.packages n.found.site.at n.found.site.place [] k ∷ []
       → n.found.form ≡ member_at (is_commented st) st.packages marks n.found.site (names_by n.found.named k) m → IsConstantOf st.packages k m → is_exported m ≡ true → FormNamed marks st l after n
 
-module _ (members : ConstantsNameMembers) (marks : List MarkRef) (st : Standing) (l : Logged) (after : Standing) (n : Next marks st l after) (ready : IsReady st) (typed : are_well_typed (members_of st.packages) ≡ true) (printed : ArePrinted st.packages) (uses : UsesConstant n) (used_by : IsUsedByName n) (spelled : NoneUnnamed (expr_identifiers uses.value)) (few : FewNames st.packages n.found)
+module _ (members : ConstantsNameMembers) (marks : List MarkRef) (st : Standing) (l : Logged) (after : Standing) (n : Next marks st l after) (ready : IsReady st) (typed : are_well_typed (members_of st.packages) ≡ true) (printed : ArePrinted st.packages) (uses : UsesConstant n) (used_by : IsUsedByName n) (spelled : NoneUnnamed (expr_identifiers uses.value)) (few : AvoidsFew st.packages n.found)
     (not_blank : (k : ℕ) → is_blank (names_by n.found.named k) ≡ false) (exported : IsExportedUse used_by.old) where
   abbrev x : Site At
   x = n.found.site

@@ -11,7 +11,7 @@ use Rattle.constant_steps.specs.PlainUse.{AllSimple}
 use Rattle.order_runs.specs.CycleRuns.ImportCycles.ImportSteps.{file_added, packages_added, where_added}
 use Rattle.order_runs.proofs.CycleRuns.ImportCycles.ImportStep.{placed}
 use Rattle.order_runs.specs.CycleRuns.Linked.{WritesFile}
-use Rattle.order_runs.specs.CycleRuns.OrderCycles.NewNames.{FewNames}
+use Rattle.order_runs.specs.CycleRuns.OrderCycles.NewNames.{AvoidsFew}
 use Rattle.printed_constants.specs.TypedParts.MarkedRuns.KeptMarks.Over.{IsOverName}
 use Rattle.printed_constants.specs.TypedParts.MarkedRuns.Marked.{StandsAdded, decl_there}
 use Rattle.printed_constants.specs.TypedParts.MarkedRuns.LinkedMembers.Laws.{HaveFiles, ImportsUsed}
@@ -63,7 +63,7 @@ module _ (marks : List MarkRef) (st : Standing) (l : Logged) (after : Standing) 
       parts_simple (decl_there n d)
       (decl_parts rs n.found.site.at.number (where_added n.found).of (file_added n.found) (printed n.found.site.at here.package_is here.file_is n.found.site.decl d e))
 
-  pub stands_added : IsReady st → are_well_typed (members_of st.packages) ≡ true → HaveFiles st.packages → FewNames st.packages n.found → WritesFile n → ((more : List (translated.Package At)) → ImportsUsed more (members_of after.packages)) → IsNamedThere n → StandsAdded n
+  pub stands_added : IsReady st → are_well_typed (members_of st.packages) ≡ true → HaveFiles st.packages → AvoidsFew st.packages n.found → WritesFile n → ((more : List (translated.Package At)) → ImportsUsed more (members_of after.packages)) → IsNamedThere n → StandsAdded n
   stands_added ready typed files few write used named = record {
     place = named.place;
     use_ = named.use_;

@@ -4,12 +4,13 @@ use Rattle.std.proofs.Common.{◌≡◌, ◌∙◌, refl, sym, subst, ◌⊎◌,
 use Rattle.std.specs.Option.{option_map}
 use Rattle.go_tree.specs.declared.exprs.Rest.TheVariants.{Plain}
 use Rattle.go_tree.specs.Tree.{Expr, ident, selector, call, Exprs, no_exprs, expr_and, eval, Stmts, ValueSpecs}
-use Rattle.go_tree.specs.File.{Decl, func, File}
-use Rattle.go_tree.specs.ScopeNames.FreeNames.{free_params, free_expr, free_exprs, free_stmts}
+use Rattle.go_tree.specs.File.{Func, Decl, func, File}
+use Rattle.go_tree.specs.ScopeNames.FreeNames.{params_names, free_params, free_expr, free_exprs, free_stmts}
 use Rattle.pkg_graph.specs.Package.{Package}
 use Rattle.go_tree.specs.GoTypes.Agreement.{In, head, tail}
 use Rattle.go_tree.specs.GoTypes.Typing.{parts, all_parts}
-use Rattle.order_runs.specs.CycleRuns.ImportCycles.LookedUp.{specs_looked_up, receiver_looked_up, decl_looked_up}
+use Rattle.go_tree.specs.GoTypes.WellTyped.{receiver_names}
+use Rattle.order_runs.specs.CycleRuns.ImportCycles.LookedUp.{specs_looked_up, receiver_looked_up, names_around, decl_looked_up}
 use Rattle.order_runs.proofs.CycleRuns.ImportCycles.FreeIdentifiers.{in-either}
 use Rattle.order_runs.proofs.RunSteps.SeatedUses.{Among, first, later}
 use Rattle.run_rules.specs.Places.{expr_seen, all_seen, stmt_seen, stmts_seen, sig_seen}
@@ -26,6 +27,10 @@ among_front ys (later h) = later (among_front ys h)
 among_back : {A : Type 0} {a : A} (xs : List A) {ys : List A} → Among a ys → Among a (xs ++ ys)
 among_back [] h = h
 among_back (x ∷ xs) h = later (among_back xs h)
+
+-- a function without a receiver, parameters and results declares nothing around its body
+pub none-around : {S : Type 0} (f : Func S) → f.receiver ≡ None → f.sig.params ≡ [] → f.sig.results ≡ [] → names_around f ≡ []
+none-around f r xs ys = λ v. receiver_names (r v) ++ (params_names (xs v) ++ params_names (ys v))
 
 -- ---- parts
 
@@ -105,14 +110,14 @@ module _ {S : Type 0} (m : List ℕ) where
     -- each name that a declaration looks up is such a part of it
     pub decl_looks : (k : ℕ) (p : Package S) (file : File S) {d : Decl S} → IsPrinted d → In m (decl_looked_up d) → SeenIn (decl_seen ps k p file d)
     decl_looks k p file (some_constants h) i = constants_seen (top_place ps k p file) 0 h refl i
-    decl_looks k p file (a_function {f = f} r xs ys h) i = by (in-either m (receiver_looked_up f.receiver ++ free_params [] f.sig.params ++ free_params [] f.sig.results) (free_stmts [] f.body) i)
+    decl_looks k p file (a_function {f = f} r xs ys h) i = by (in-either m (receiver_looked_up f.receiver ++ free_params [] f.sig.params ++ free_params [] f.sig.results) (free_stmts (names_around f) f.body) i)
       where
         none : receiver_looked_up f.receiver ++ free_params [] f.sig.params ++ free_params [] f.sig.results ≡ []
         none = λ v. receiver_looked_up (r v) ++ free_params [] (xs v) ++ free_params [] (ys v)
 
-        by : In m (receiver_looked_up f.receiver ++ free_params [] f.sig.params ++ free_params [] f.sig.results) ⊎ In m (free_stmts [] f.body) → SeenIn (decl_seen ps k p file (func f))
+        by : In m (receiver_looked_up f.receiver ++ free_params [] f.sig.params ++ free_params [] f.sig.results) ⊎ In m (free_stmts (names_around f) f.body) → SeenIn (decl_seen ps k p file (func f))
         by (inl j) = let e : In m [] = subst (λ (ns : List (List ℕ)). In m ns) none j in elim e [ ]
-        by (inr j) = seen_back (receiver_seen ps (top_place ps k p file) f.receiver ++ sig_seen (top_place ps k p file) f.sig) (prints_seen (body_place ps k p file f) h (body_bound ps k p file f r xs ys) j)
+        by (inr j) = seen_back (receiver_seen ps (top_place ps k p file) f.receiver ++ sig_seen (top_place ps k p file) f.sig) (prints_seen (body_place ps k p file f) h (body_bound ps k p file f r xs ys) (subst (λ (ns : List (List ℕ)). In m (free_stmts ns f.body)) (none-around f r xs ys) j))
 
 -- ---- other spans
 
@@ -141,5 +146,7 @@ module _ {S T : Type 0} (to : S → T) where
   pub decl_same : {d : Decl S} → IsPrinted d → decl_looked_up (decl_with to d) ≡ decl_looked_up d
   decl_same (some_constants h) = constants_same h
   decl_same (a_function {f = f} r xs ys h) =
-      (λ v. receiver_looked_up (option_map (receiver_with to) (r v)) ++ free_params [] (map (param_with to) (xs v)) ++ free_params [] (map (param_with to) (ys v)) ++ prints_same h v)
-      ∙ sym (λ v. receiver_looked_up (r v) ++ free_params [] (xs v) ++ free_params [] (ys v) ++ free_stmts [] f.body)
+      (λ v. receiver_looked_up (option_map (receiver_with to) (r v)) ++ free_params [] (map (param_with to) (xs v)) ++ free_params [] (map (param_with to) (ys v))
+          ++ free_stmts (receiver_names (option_map (receiver_with to) (r v)) ++ (params_names (map (param_with to) (xs v)) ++ params_names (map (param_with to) (ys v)))) (stmts_with to f.body))
+      ∙ prints_same h
+      ∙ sym (λ v. receiver_looked_up (r v) ++ free_params [] (xs v) ++ free_params [] (ys v) ++ free_stmts (none-around f r xs ys v) f.body)

@@ -35,7 +35,7 @@ use Rattle.run_rules.specs.Steps.{At, same_here, change_nth, changes_for, Found,
 use Rattle.run_rules.specs.Texts.{FileText}
 use Rattle.splice_laws.proofs.RunLaws.FoundSpans.{Placed}
 use Rattle.order_runs.proofs.RunSteps.SeatedUses.{Among, first, later, Seated}
-use Rattle.order_runs.specs.CycleRuns.OrderCycles.NewNames.{FewNames}
+use Rattle.order_runs.specs.CycleRuns.OrderCycles.NewNames.{AvoidsFew}
 use Rattle.order_runs.proofs.CycleRuns.OrderCycles.NamesAdded.{adds-new-names}
 use Rattle.order_runs.proofs.CycleRuns.Runs.{linked-names}
 use Rattle.printed_constants.proofs.TypedParts.MarkedRuns.KeptMarks.Changed.{name-stays}
@@ -258,7 +258,7 @@ module _ (have_next : FirstUsesHaveNext) (marks : List MarkRef) (st : Standing) 
   pub new_names_added : AddsNewNames st.packages f
   new_names_added =
       subst (λ (g : Found At). AddsNewNames st.packages g) same_found
-      (adds-new-names marks st (logged marks st f (edits_in marks st old f)) with_next.after with_next.next (subst (λ (g : Found At). FewNames st.packages g) (sym same_found) c.few) (linked-names st.packages ready.links))
+      (adds-new-names marks st (logged marks st f (edits_in marks st old f)) with_next.after with_next.next (subst (λ (g : Found At). AvoidsFew st.packages g) (sym same_found) c.few) (linked-names st.packages ready.links))
 
 pub first_typed : FirstUsesHaveNext → ConstantsNameMembers → WellTypedFilesStand → FirstUsesAreTyped
 first_typed have_next members stand marks st f old form ready typed printed is c becomes =

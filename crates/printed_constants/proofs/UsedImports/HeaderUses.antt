@@ -76,7 +76,7 @@ module _ {S : Type 0} where
   func_uses w h f r xs ys p =
       (λ v. free_params [] (xs v) ++ free_params [] (ys v) ++ without (receiver_names (r v) ++ (params_names (xs v) ++ params_names (ys v))) (used_stmts (body_env w h f) f.body))
       ∙ without_none (used_stmts (body_env w h f) f.body) ∙ prints_use (body_env w h f) p
-      ∙ sym (λ v. receiver_looked_up (r v) ++ free_params [] (xs v) ++ free_params [] (ys v) ++ free_stmts [] f.body)
+      ∙ sym (λ v. receiver_looked_up (r v) ++ free_params [] (xs v) ++ free_params [] (ys v) ++ free_stmts (receiver_names (r v) ++ (params_names (xs v) ++ params_names (ys v))) f.body)
 
 -- ---- headers of a file
 

@@ -9,7 +9,7 @@ use Rattle.go_tree.specs.ScopeNames.FreeNames.{free_params, free_expr, free_expr
 use Rattle.pkg_graph.specs.Package.{Package}
 use Rattle.go_tree.specs.GoTypes.Agreement.{In}
 use Rattle.go_tree.specs.GoTypes.Typing.{parts, all_parts}
-use Rattle.order_runs.specs.CycleRuns.ImportCycles.LookedUp.{specs_looked_up, receiver_looked_up, decl_looked_up}
+use Rattle.order_runs.specs.CycleRuns.ImportCycles.LookedUp.{specs_looked_up, receiver_looked_up, names_around, decl_looked_up}
 use Rattle.order_runs.proofs.CycleRuns.ImportCycles.FreeIdentifiers.{in-left, in-right, in-either}
 use Rattle.order_runs.proofs.RunSteps.SeatedUses.{Among, first, later}
 use Rattle.run_rules.specs.Surroundings.{Use, other, called, alone, a_slot, Place, Seen, seen, seen_stmt, alike, head_use, later_uses, arg_uses, value_use, inner_slot, in_slot, callee_place, comma_slot, after_stmt, at_stmt, in_constant}
@@ -148,6 +148,6 @@ module _ {S : Type 0} (q : Place S) (t : Use) (y : Expr S) (m : List ℕ) (free 
         nothing : Stands [] → ⊥
         nothing j = elim j [ ]
 
-        by : Stands (receiver_seen ps (top_place ps k p file) f.receiver ++ sig_seen (top_place ps k p file) f.sig) ⊎ Stands (stmts_seen (body_place ps k p file f) f.body) → In m (heads ++ free_stmts [] f.body)
+        by : Stands (receiver_seen ps (top_place ps k p file) f.receiver ++ sig_seen (top_place ps k p file) f.sig) ⊎ Stands (stmts_seen (body_place ps k p file f) f.body) → In m (heads ++ free_stmts (names_around f) f.body)
         by (inl j) = absurd (nothing (subst (λ (ss : List (Seen S)). Stands ss) none j))
-        by (inr j) = in-right m heads (free_stmts [] f.body) (prints_looked (body_place ps k p file f) g j)
+        by (inr j) = in-right m heads (free_stmts (names_around f) f.body) (subst (λ (ns : List (List ℕ)). In m (free_stmts ns f.body)) (sym (none-around f r xs ys)) (prints_looked (body_place ps k p file f) g j))

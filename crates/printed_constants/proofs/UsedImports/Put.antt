@@ -3,11 +3,12 @@ use Rattle.std.proofs.Common.{◌≡◌, ◌∙◌, ◌⊎◌, inl, inr, refl, s
 use Rattle.go_tree.specs.declared.exprs.Rest.TheVariants.{Plain}
 use Rattle.go_tree.specs.Tree.{Expr, ident, int_lit, selector, call, Exprs, no_exprs, expr_and, eval, Stmts, ValueSpecs}
 use Rattle.go_tree.specs.File.{Decl, File}
-use Rattle.go_tree.specs.ScopeNames.FreeNames.{free_params, free_expr, free_exprs, free_stmts}
+use Rattle.go_tree.specs.ScopeNames.FreeNames.{params_names, sig_names, free_params, free_expr, free_exprs, free_stmts}
 use Rattle.pkg_graph.specs.Package.{Package}
 use Rattle.go_tree.specs.GoTypes.Agreement.{In}
 use Rattle.go_tree.specs.GoTypes.Answers.{otherwise}
 use Rattle.go_tree.specs.GoTypes.Typing.{parts, all_parts}
+use Rattle.go_tree.specs.GoTypes.WellTyped.{receiver_names}
 use Rattle.order_runs.specs.CycleRuns.ImportCycles.LookedUp.{specs_looked_up, receiver_looked_up, decl_looked_up}
 use Rattle.order_runs.proofs.CycleRuns.ImportCycles.FreeIdentifiers.{in-left, in-right}
 use Rattle.order_runs.proofs.RunSteps.SeatedUses.{Among, first, later}
@@ -15,7 +16,7 @@ use Rattle.printed_constants.proofs.TypedParts.StandingUses.ImportUses.Stays.{ch
 use Rattle.run_rules.specs.Surroundings.{Use, other, called, alone, a_slot, Place, Seen, seen, seen_stmt, alike, head_use, later_uses, arg_uses, value_use, inner_slot, in_slot, callee_place, comma_slot, after_stmt, at_stmt, in_constant}
 use Rattle.run_rules.specs.Places.{expr_seen, all_seen, stmt_seen, stmts_seen, params_seen, sig_seen}
 use Rattle.run_rules.specs.Programs.{top_place, body_place, constants_at_top, receiver_seen, decl_seen}
-use Rattle.run_rules.specs.Rewriting.{Changes, new_expr, new_all, new_stmts, new_sig}
+use Rattle.run_rules.specs.Rewriting.{Changes, new_expr, new_all, new_stmts, new_params, new_sig}
 use Rattle.run_rules.specs.Steps.{At, same_here, new_constants, new_receiver_option, new_decl}
 use Rattle.run_rules.specs.Printed.{IsFlat, a_name, a_number, a_selection, AllFlat, no_operands, and_operand, IsPrint, an_operand, a_call, PrintStmts, no_prints, and_print, FlatConstants, no_constants, and_constant, IsPrinted, some_constants, a_function}
 
@@ -177,6 +178,12 @@ module _ (hits : Expr At → Bool) (new : Expr At) (m : List ℕ) (named : In m 
         heads : List (List ℕ)
         heads = receiver_looked_up (new_receiver_option same_here ps c (top_place ps k p file) f.receiver) ++ free_params [] (new_sig c (top_place ps k p file) f.sig).params ++ free_params [] (new_sig c (top_place ps k p file) f.sig).results
 
-        by : Hit (receiver_seen ps (top_place ps k p file) f.receiver ++ sig_seen (top_place ps k p file) f.sig) ⊎ Hit (stmts_seen (body_place ps k p file f) f.body) → In m (heads ++ free_stmts [] body_new)
+        around : List (List ℕ)
+        around = receiver_names (new_receiver_option same_here ps c (top_place ps k p file) f.receiver) ++ sig_names (new_sig c (top_place ps k p file) f.sig)
+
+        nothing-around : around ≡ []
+        nothing-around = λ v. receiver_names (new_receiver_option same_here ps c (top_place ps k p file) (r v)) ++ (params_names (new_params c (top_place ps k p file) (xs v)) ++ params_names (new_params c (top_place ps k p file) (ys v)))
+
+        by : Hit (receiver_seen ps (top_place ps k p file) f.receiver ++ sig_seen (top_place ps k p file) f.sig) ⊎ Hit (stmts_seen (body_place ps k p file f) f.body) → In m (heads ++ free_stmts around body_new)
         by (inl j) = absurd (hit_none (subst (λ (ss : List (Seen At)). Hit ss) none j))
-        by (inr j) = in-right m heads (free_stmts [] body_new) (stmts_put (body_place ps k p file f) (body_place ps k p file f) g j)
+        by (inr j) = in-right m heads (free_stmts around body_new) (subst (λ (ns : List (List ℕ)). In m (free_stmts ns body_new)) (sym nothing-around) (stmts_put (body_place ps k p file f) (body_place ps k p file f) g j))

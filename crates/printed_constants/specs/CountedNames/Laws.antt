@@ -8,7 +8,7 @@ use Rattle.go_tree.specs.declared.tokens.Token.{Token}
 use Rattle.go_tree.specs.declared.tokens.Comment.{Comment}
 use Rattle.go_tree.specs.File.{Decl, File}
 use Rattle.go_tree.specs.GoWords.Tokens.{TokensOf}
-use Rattle.order_runs.specs.CycleRuns.OrderCycles.NewNames.{FewNames}
+use Rattle.order_runs.specs.CycleRuns.OrderCycles.NewNames.{AvoidsFew}
 use Rattle.pkg_graph.specs.Reads.{Source}
 use Rattle.splice_laws.specs.RunLaws.Reading.{ProgramReads, OnePathEach}
 use Rattle.run_rules.specs.Run.{Standing, Logged, Next, module_file_size, texts_size, the_limits, passed}
@@ -41,7 +41,7 @@ abbrev pub SmallTextsHaveFewNames : Type 0
 SmallTextsHaveFewNames =
     (marks : List MarkRef) (st : Standing) (l : Logged) (after : Standing) (n : Next marks st l after)
     → ProgramReads st → OnePathEach st.packages → ArePrinted st.packages → AllNamed st.packages marks
-    → texts_size st.texts ≤ the_limits.total → FewNames st.packages n.found
+    → texts_size st.texts ≤ the_limits.total → AvoidsFew st.packages n.found
 
 -- So are those that a search avoids in each of its files.
 abbrev pub SmallFilesHaveFewNames : Type 0

@@ -2,7 +2,7 @@
 -- Import declarations; Blank identifier).
 use Rattle.std.specs.Prelude.{◌≡◌, ℕ, false, List}
 use Rattle.constant_steps.specs.FormImports.OwnNames.{AllOwn}
-use Rattle.order_runs.specs.CycleRuns.OrderCycles.NewNames.{FewNames}
+use Rattle.order_runs.specs.CycleRuns.OrderCycles.NewNames.{AvoidsFew}
 use Rattle.run_rules.specs.Naming.{names_by}
 use Rattle.run_rules.specs.Run.{Standing, Logged, Next}
 use Rattle.run_rules.specs.Sites.{MarkRef}
@@ -14,5 +14,5 @@ use Rattle.put_names.specs.WrittenNames.NamedPackages.{AreOfPackages}
 abbrev pub FormNamesAreNotBlank : Type 0
 FormNamesAreNotBlank =
     (marks : List MarkRef) (st : Standing) (l : Logged) (after : Standing) (n : Next marks st l after)
-    → AllOwn st.packages → FewNames st.packages n.found → AreOfPackages st.packages n.found.named → (k : ℕ)
+    → AllOwn st.packages → AvoidsFew st.packages n.found → AreOfPackages st.packages n.found.named → (k : ℕ)
     → is_blank (names_by n.found.named k) ≡ false

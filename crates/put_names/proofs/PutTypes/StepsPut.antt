@@ -9,7 +9,7 @@ use Rattle.go_tree.specs.FileBare.{bare_file}
 use Rattle.order_runs.specs.CycleRuns.Linked.{SettlesFile}
 use Rattle.splice_laws.specs.ImportSplices.AddedFile.{AreWritable}
 use Rattle.order_runs.specs.CycleRuns.KeptImports.Files.{PutsNode, RemovesNoNames}
-use Rattle.order_runs.specs.CycleRuns.OrderCycles.NewNames.{FewNames}
+use Rattle.order_runs.specs.CycleRuns.OrderCycles.NewNames.{AvoidsFew}
 use Rattle.order_runs.specs.CycleRuns.OrderedSteps.Ranks.{AddsLedTo}
 use Rattle.put_names.specs.ReadImports.PutInText.{PutInText}
 use Rattle.run_rules.specs.FormTrees.{Form, as_type}
@@ -74,5 +74,5 @@ module _ (marks : List MarkRef) (st : Standing) (l : Logged) (after : Standing) 
     pub steps-put : PutsNode n × PutInText n
     steps-put = (puts-node, put-in-text)
 
-    pub names-settle : AreWritable (imports_added n.found.named) → AddsLedTo st.packages n.found → FewNames st.packages n.found → RemovesNoNames n → SettlesFile n
+    pub names-settle : AreWritable (imports_added n.found.named) → AddsLedTo st.packages n.found → AvoidsFew st.packages n.found → RemovesNoNames n → SettlesFile n
     names-settle writable led few removes = record { puts = puts-node; writable = writable; led = led; few = few; removes = removes }

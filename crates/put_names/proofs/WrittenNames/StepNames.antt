@@ -1,8 +1,7 @@
 -- The names that a step writes for packages are identifiers.
-use Rattle.std.proofs.Common.{◌≡◌, ℕ, suc, ◌+◌, ◌<◌, ◌^◌, Bool, true, false, not, ◌&&◌, bytes_eq, List, [], ◌∷◌, ◌++◌, map, length, Option, Some, None, refl, sym, ap, subst, ◌∙◌, arith}
+use Rattle.std.proofs.Common.{◌≡◌, ℕ, suc, ◌+◌, Bool, true, false, not, ◌&&◌, bytes_eq, List, [], ◌∷◌, ◌++◌, map, Option, Some, None, refl, sym, ap, subst, ◌∙◌}
 use Rattle.std.specs.Prelude.{codes, slice_get, if◌then◌else◌}
 use Rattle.std.specs.Str.{chars}
-use Rattle.std.proofs.lemmas.List.{length-append}
 use Rattle.std.proofs.lemmas.Option.{same_Some}
 use Rattle.std.proofs.lemmas.Slice.Eq.{bytes_eq-Decides}
 use Rattle.std.proofs.lemmas.Str.{encodes-chars, scalars-chars}
@@ -14,7 +13,7 @@ use Rattle.go_tree.specs.GoWords.Tokens.Pieces.{keyword_spellings, is_among}
 use Rattle.go_layout.specs.LayoutLaws.Formed.{FormedName, IsName}
 use Rattle.go_tree.specs.declared.scope_names.names.Entity.{Entity}
 use Rattle.go_tree.specs.declared.scope_names.names.ImportName.{ImportName}
-use Rattle.go_tree.specs.ScopeNames.Fresh.{is_new}
+use Rattle.go_tree.specs.ScopeNames.Fresh.{is_new, IsFresh}
 use Rattle.go_tree.specs.ScopeNames.Identifiers.{identifiers}
 use Rattle.go_tree.specs.ScopeNames.Means.{Environment, predeclared}
 use Rattle.pkg_graph.specs.Package.{Package, import_specs}
@@ -25,17 +24,17 @@ use Rattle.splice_laws.specs.ImportSplices.AddedFile as added
 use Rattle.splice_laws.specs.ImportSplices.AddedFile.{is_byte, AreWritable}
 use Rattle.constant_steps.specs.FormImports.ImportLaws.Steps.{binders_of}
 use Rattle.constant_steps.proofs.FormImports.ImportLaws.StepNames.{FoundWell, found_well}
-use Rattle.order_runs.specs.CycleRuns.OrderCycles.NewNames.{NamesByPath, FewNames}
+use Rattle.order_runs.specs.CycleRuns.OrderCycles.NewNames.{NamesByPath, AvoidsFew, EachFresh}
+use Rattle.order_runs.proofs.CycleRuns.OrderCycles.FreshNames.{found-fresh}
 use Rattle.run_rules.specs.Surroundings.{Place}
 use Rattle.run_rules.specs.Sites.{MarkRef, Where}
-use Rattle.run_rules.specs.Naming.{Named, no_span, fuel_for, fresh_name, package_path, own_name, names_here, environment_here, added_import, named_packages, name_added, imports_added}
+use Rattle.run_rules.specs.Naming.{Named, no_span, fresh_name, package_path, own_name, names_here, environment_here, added_import, named_packages, name_added, imports_added}
 use Rattle.run_rules.specs.Steps.{At, same_here, Found}
 use Rattle.run_rules.specs.Run.{Standing, here_of, is_commented, step_in}
 use Rattle.run_rules.specs.Marks.{text_at}
 use Rattle.run_rules.specs.Inlining.{ReadsAs}
 use Rattle.run_rules.specs.Laws.{file_found}
 use Rattle.run_rules.specs.Texts.{FileText}
-use Rattle.run_rules.proofs.NamesFound.{found_is_fresh}
 use Rattle.splice_laws.specs.RunLaws.Reading.{FileReads, FileAt, ProgramReads}
 use Rattle.splice_laws.proofs.RunLaws.FoundSpans.{Placed, FoundIn, found_in}
 use Rattle.put_nodes.specs.SpelledNames.{AreNames}
@@ -44,9 +43,6 @@ use Rattle.put_names.proofs.WrittenNames.Candidates.{candidate_is_name}
 use Rattle.put_names.proofs.WrittenNames.ImportNames.{SpecsNamed, names_of_imports}
 
 module _ (ps : List (Package At)) (w : Where At) (p : Place At) (named : PackagesAreNamed ps) (paths : NamesByPath ps) (specs : SpecsNamed (import_specs w.source.tree)) where
-  abbrev fuel : List (List ℕ) → ℕ
-  fuel bound = fuel_for w.source.tree (avoided (names_here ps w) bound)
-
   own_is_name : (q : ℕ) → (r : Package At) × (slice_get ps q ≡ Some r) → IsName (own_name ps q)
   own_is_name q r = subst (λ (o : Option (Package At)). IsName (elim o [ None ↦ [] | Some p ↦ p.name ])) (sym r.1) (named q r.0 r.1)
 
@@ -88,25 +84,11 @@ module _ (ps : List (Package At)) (w : Where At) (p : Place At) (named : Package
       by false false true e = absurd cc
       by false false false e = refl
 
-  fresh_is_name : (bound : List (List ℕ)) (q : ℕ) → (r : Package At) × (slice_get ps q ≡ Some r) → fuel bound < 2 ^ 64 → IsName (fresh_name w.source.tree (avoided (names_here ps w) bound) (own_name ps q))
-  fresh_is_name bound q r few =
-      let f = found_is_fresh w.source.tree (avoided (names_here ps w) bound) (own_name ps q) few in
+  fresh_is_name : (bound : List (List ℕ)) (q : ℕ) → (r : Package At) × (slice_get ps q ≡ Some r) → IsFresh (own_name ps q) w.source.tree (avoided (names_here ps w) bound) (fresh_name w.source.tree (avoided (names_here ps w) bound) (own_name ps q)) → IsName (fresh_name w.source.tree (avoided (names_here ps w) bound) (own_name ps q))
+  fresh_is_name bound q r f =
       subst (λ (v : List ℕ). IsName v) (sym f.is)
       (candidate_is_name (own_name ps q) f.number (own_is_name q r)
       (subst (λ (v : List ℕ). is_among keyword_spellings v ≡ false) f.is (not_keyword (avoided (names_here ps w) bound) (fresh_name w.source.tree (avoided (names_here ps w) bound) (own_name ps q)) f.new)))
-
-  fuel_grows : (bound : List (List ℕ)) (n : List ℕ) (k : ℕ) → fuel bound + suc k < 2 ^ 64 → fuel (n ∷ bound) + k < 2 ^ 64
-  fuel_grows bound n k h =
-      let ids : List (List ℕ) = identifiers w.source.tree in
-      let blocks : List (List ℕ) = map (λ i. i.name) (names_here ps w).imports ++ (names_here ps w).«package» in
-      let rest : List (List ℕ) = keyword_spellings ++ predeclared in
-      let a : length (ids ++ ((blocks ++ bound) ++ rest)) ≡ length ids + length ((blocks ++ bound) ++ rest) = length-append ids ((blocks ++ bound) ++ rest) in
-      let b : length ((blocks ++ bound) ++ rest) ≡ length (blocks ++ bound) + length rest = length-append (blocks ++ bound) rest in
-      let c : length (blocks ++ bound) ≡ length blocks + length bound = length-append blocks bound in
-      let d : length (ids ++ ((blocks ++ n ∷ bound) ++ rest)) ≡ length ids + length ((blocks ++ n ∷ bound) ++ rest) = length-append ids ((blocks ++ n ∷ bound) ++ rest) in
-      let e : length ((blocks ++ n ∷ bound) ++ rest) ≡ length (blocks ++ n ∷ bound) + length rest = length-append (blocks ++ n ∷ bound) rest in
-      let f : length (blocks ++ n ∷ bound) ≡ length blocks + length (n ∷ bound) = length-append blocks (n ∷ bound) in
-      omega (arith, a, b, c, d, e, f, h)
 
   abbrev by_option : List (List ℕ) → ℕ → Option (List ℕ) → Named
   by_option bound q o =
@@ -119,17 +101,17 @@ module _ (ps : List (Package At)) (w : Where At) (p : Place At) (named : Package
   listed bound q qs s = by_option bound q s ∷ named_packages ps w p (name_added (by_option bound q s) ++ bound) qs
 
   -- each of the names that are found
-  all_are_names : (bound : List (List ℕ)) (qs : List ℕ) → fuel bound + length (named_packages ps w p bound qs) < 2 ^ 64 → AreOfPackages ps (named_packages ps w p bound qs) → AreNames (named_packages ps w p bound qs)
+  all_are_names : (bound : List (List ℕ)) (qs : List ℕ) → EachFresh ps w bound (named_packages ps w p bound qs) → AreOfPackages ps (named_packages ps w p bound qs) → AreNames (named_packages ps w p bound qs)
   all_are_names bound [] few of = tt
   all_are_names bound (q ∷ qs) few of = by (serving (environment_here ps w p) bound (package_path ps q) (names_here ps w).imports) refl (λ b g h. all_are_names b qs g h) few of
     where
       by : (s : Option (List ℕ)) → serving (environment_here ps w p) bound (package_path ps q) (names_here ps w).imports ≡ s
-          → ((b : List (List ℕ)) → fuel b + length (named_packages ps w p b qs) < 2 ^ 64 → AreOfPackages ps (named_packages ps w p b qs) → AreNames (named_packages ps w p b qs))
-          → fuel bound + length (listed bound q qs s) < 2 ^ 64 → AreOfPackages ps (listed bound q qs s) → AreNames (listed bound q qs s)
-      by (Some n) e later few of = (served (environment_here ps w p) bound q of.0 0 (import_specs w.source.tree) specs n e, later bound (omega (arith, few)) of.1)
+          → ((b : List (List ℕ)) → EachFresh ps w b (named_packages ps w p b qs) → AreOfPackages ps (named_packages ps w p b qs) → AreNames (named_packages ps w p b qs))
+          → EachFresh ps w bound (listed bound q qs s) → AreOfPackages ps (listed bound q qs s) → AreNames (listed bound q qs s)
+      by (Some n) e later few of = (served (environment_here ps w p) bound q of.0 0 (import_specs w.source.tree) specs n e, later bound few.1 of.1)
       by None e later few of =
           let m : List ℕ = fresh_name w.source.tree (avoided (names_here ps w) bound) (own_name ps q) in
-          (fresh_is_name bound q of.0 (omega (arith, few)), later (m ∷ bound) (fuel_grows bound m (length (named_packages ps w p (m ∷ bound) qs)) few) of.1)
+          (fresh_is_name bound q of.0 few.0.1, later (m ∷ bound) few.1 of.1)
 
 -- of the first use of a program that becomes a form, in the file with this text
 module _ (marks : List MarkRef) (st : Standing) (u : Found At) (first : step_in marks st ≡ Some u) (old : FileText) (stands : text_at u.site.at.source.path st.texts ≡ Some old) where
@@ -151,11 +133,11 @@ module _ (marks : List MarkRef) (st : Standing) (u : Found At) (first : step_in 
   abbrev listed_names : List Named
   listed_names = named_packages st.packages u.site.at u.site.place (binders_of st.packages u.site.mark) well.packages
 
-  pub step_names : ProgramReads st → PackagesAreNamed st.packages → NamesByPath st.packages → FewNames st.packages u → AreOfPackages st.packages u.named → AreNames u.named
+  pub step_names : ProgramReads st → PackagesAreNamed st.packages → NamesByPath st.packages → AvoidsFew st.packages u → AreOfPackages st.packages u.named → AreNames u.named
   step_names reads named paths few of =
       subst AreNames (sym well.names)
       (all_are_names st.packages u.site.at u.site.place named paths (names_of_imports here_of old u.site.at.source.tree (file_reads reads)) (binders_of st.packages u.site.mark) well.packages
-      (subst (λ (ns : List Named). fuel_for u.site.at.source.tree (avoided (names_here st.packages u.site.at) (binders_of st.packages u.site.mark)) + length ns < 2 ^ 64) well.names few)
+      (subst (EachFresh st.packages u.site.at (binders_of st.packages u.site.mark)) well.names (found-fresh marks st u first few))
       (subst (λ (ns : List Named). AreOfPackages st.packages ns) well.names of))
 
   -- ---- imports that can be written

@@ -5,7 +5,7 @@ use Rattle.go_tree.specs.FileBare.{bare_file}
 use Rattle.order_runs.specs.CycleRuns.Linked.{SettlesFile}
 use Rattle.splice_laws.specs.ImportSplices.AddedFile.{AreWritable}
 use Rattle.order_runs.specs.CycleRuns.KeptImports.Files.{PutsNode, RemovesNoNames}
-use Rattle.order_runs.specs.CycleRuns.OrderCycles.NewNames.{FewNames}
+use Rattle.order_runs.specs.CycleRuns.OrderCycles.NewNames.{AvoidsFew}
 use Rattle.order_runs.specs.CycleRuns.OrderedSteps.Ranks.{AddsLedTo}
 use Rattle.splice_laws.specs.RunLaws.Reading.{ProgramReads}
 use Rattle.run_rules.specs.Laws.{file_found}
@@ -31,7 +31,7 @@ abbrev pub TypeNamesSettleFiles : Type 0
 TypeNamesSettleFiles =
     (marks : List MarkRef) (st : Standing) (l : Logged) (after : Standing) (n : Next marks st l after) → ProgramReads st
     → UndottedFile (bare_file (file_found n.found)) → UsesTypeName n → BecomesTypeName n
-    → AreWritable (imports_added n.found.named) → AddsLedTo st.packages n.found → FewNames st.packages n.found
+    → AreWritable (imports_added n.found.named) → AddsLedTo st.packages n.found → AvoidsFew st.packages n.found
     → RemovesNoNames n → SettlesFile n
 
 -- An alias of a type's name becomes a name of a type there, if the names that the form has for packages are

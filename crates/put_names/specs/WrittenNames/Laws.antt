@@ -7,7 +7,7 @@ use Rattle.pkg_graph.specs.Reads.{Source}
 use Rattle.run_rules.specs.Inlining.{ModuleReads, standing_as_read}
 use Rattle.run_rules.specs.Texts.{FileText}
 use Rattle.splice_laws.specs.ImportSplices.AddedFile.{AreWritable}
-use Rattle.order_runs.specs.CycleRuns.OrderCycles.NewNames.{NamesByPath, FewNames}
+use Rattle.order_runs.specs.CycleRuns.OrderCycles.NewNames.{NamesByPath, AvoidsFew}
 use Rattle.splice_laws.specs.RunLaws.Reading.{ProgramReads}
 use Rattle.run_rules.specs.Naming.{imports_added}
 use Rattle.run_rules.specs.Run.{Standing, Logged, Next}
@@ -21,7 +21,7 @@ use Rattle.put_names.specs.WrittenNames.NamedPackages.{PackagesAreNamed, PathsAr
 abbrev pub NamesAreIdentifiers : Type 0
 NamesAreIdentifiers =
     (marks : List MarkRef) (st : Standing) (l : Logged) (after : Standing) (n : Next marks st l after) → ProgramReads st
-    → PackagesAreNamed st.packages → NamesByPath st.packages → FewNames st.packages n.found
+    → PackagesAreNamed st.packages → NamesByPath st.packages → AvoidsFew st.packages n.found
     → AreOfPackages st.packages n.found.named → AreNames n.found.named
 
 -- So the imports that it adds can be written, if the paths of packages are octets.

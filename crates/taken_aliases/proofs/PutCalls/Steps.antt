@@ -9,7 +9,7 @@ use Rattle.go_tree.specs.ScopeNames.Scopes.{expr_span}
 use Rattle.order_runs.specs.CycleRuns.Linked.{Linked, SettlesFile}
 use Rattle.splice_laws.specs.ImportSplices.AddedFile.{AreWritable}
 use Rattle.order_runs.specs.CycleRuns.KeptImports.Files.{PutsNode, RemovesNoNames}
-use Rattle.order_runs.specs.CycleRuns.OrderCycles.NewNames.{FewNames}
+use Rattle.order_runs.specs.CycleRuns.OrderCycles.NewNames.{AvoidsFew}
 use Rattle.order_runs.specs.CycleRuns.OrderedSteps.Ranks.{AddsLedTo}
 use Rattle.order_runs.proofs.CycleRuns.LedImports.Names.{type-expr-same}
 use Rattle.go_layout.specs.LayoutLaws.Formed.{IsName, FormedType}
@@ -124,7 +124,7 @@ module _ (marks : List MarkRef) (st : Standing) (l : Logged) (after : Standing) 
     pub exprs-put : PutsNode n × PutInText n
     exprs-put = (puts-node, put-in-text)
 
-    pub exprs-settle : AreWritable (imports_added n.found.named) → AddsLedTo st.packages n.found → FewNames st.packages n.found → RemovesNoNames n → SettlesFile n
+    pub exprs-settle : AreWritable (imports_added n.found.named) → AddsLedTo st.packages n.found → AvoidsFew st.packages n.found → RemovesNoNames n → SettlesFile n
     exprs-settle writable led few removes = record { puts = puts-node; writable = writable; led = led; few = few; removes = removes }
 
   -- ---- aliases
@@ -170,7 +170,7 @@ module _ (marks : List MarkRef) (st : Standing) (l : Logged) (after : Standing) 
         laid = laid-there st.packages uses.home x.at.number (names_by n.found.named) (part_span x.part) (home_place same_here (is_commented st) st.packages marks uses.home) x.place.slot uses.text laid;
       }
 
-    pub called-aliases-settle : Linked st.packages → PackagesAreWritable st.packages → UndottedFile (bare_file (file_found n.found)) → IsScopedAround n → FewNames st.packages n.found → RemovesNoNames n → SettlesFile n
+    pub called-aliases-settle : Linked st.packages → PackagesAreWritable st.packages → UndottedFile (bare_file (file_found n.found)) → IsScopedAround n → AvoidsFew st.packages n.found → RemovesNoNames n → SettlesFile n
     called-aliases-settle links writable undotted scoped few removes =
         let of = texts-name marks st l after n reads uses links.ordered in
         let are : AreNames n.found.named = step_names marks st n.found n.is_first n.old n.stands reads writable.named writable.by_path few of in

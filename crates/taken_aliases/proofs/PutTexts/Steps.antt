@@ -10,7 +10,7 @@ use Rattle.order_runs.specs.CycleRuns.Linked.{Linked, SettlesFile}
 use Rattle.splice_laws.specs.ImportSplices.AddedFile.{AreWritable}
 use Rattle.order_runs.specs.CycleRuns.KeptImports.Files.{PutsNode, RemovesNoNames}
 use Rattle.go_layout.specs.LayoutLaws.Formed.{IsName, FormedType}
-use Rattle.order_runs.specs.CycleRuns.OrderCycles.NewNames.{FewNames}
+use Rattle.order_runs.specs.CycleRuns.OrderCycles.NewNames.{AvoidsFew}
 use Rattle.order_runs.specs.CycleRuns.OrderedSteps.Ranks.{AddsLedTo}
 use Rattle.put_names.specs.ReadImports.PutInText.{PutInText}
 use Rattle.run_rules.specs.FormTrees.{Form, as_type, form_identifiers}
@@ -74,7 +74,7 @@ module _ (marks : List MarkRef) (st : Standing) (l : Logged) (after : Standing) 
     pub steps-put : PutsNode n × PutInText n
     steps-put = (puts-node, put-in-text)
 
-    pub types-settle : AreWritable (imports_added n.found.named) → AddsLedTo st.packages n.found → FewNames st.packages n.found → RemovesNoNames n → SettlesFile n
+    pub types-settle : AreWritable (imports_added n.found.named) → AddsLedTo st.packages n.found → AvoidsFew st.packages n.found → RemovesNoNames n → SettlesFile n
     types-settle writable led few removes = record { puts = puts-node; writable = writable; led = led; few = few; removes = removes }
 
   -- ---- aliases
@@ -119,7 +119,7 @@ module _ (marks : List MarkRef) (st : Standing) (l : Logged) (after : Standing) 
         of_literal = λ e. literal-there st.packages uses.home x.at.number (part_span x.part) (home_place same_here (is_commented st) st.packages marks uses.home) (names_by n.found.named) uses.text (fits e) text-there;
       }
 
-    pub aliases-settle : Linked st.packages → PackagesAreWritable st.packages → UndottedFile (bare_file (file_found n.found)) → FewNames st.packages n.found → RemovesNoNames n → SettlesFile n
+    pub aliases-settle : Linked st.packages → PackagesAreWritable st.packages → UndottedFile (bare_file (file_found n.found)) → AvoidsFew st.packages n.found → RemovesNoNames n → SettlesFile n
     aliases-settle links writable undotted few removes =
         let of = texts-name marks st l after n reads uses links.ordered in
         let are : AreNames n.found.named = step_names marks st n.found n.is_first n.old n.stands reads writable.named writable.by_path few of in

@@ -17,7 +17,7 @@ use Rattle.order_runs.specs.RunSteps.RunPackages.{members_of, packages_of}
 use Rattle.order_runs.specs.CycleRuns.ImportCycles.ImportSteps.{packages_added}
 use Rattle.order_runs.specs.ImportCodes.PackagesMoved.{ImportsStand}
 use Rattle.order_runs.specs.CycleRuns.KeptImports.Files.{PutsNode, RemovesNoNames}
-use Rattle.order_runs.specs.CycleRuns.OrderCycles.NewNames.{FewNames}
+use Rattle.order_runs.specs.CycleRuns.OrderCycles.NewNames.{AvoidsFew}
 use Rattle.alias_runs.specs.AliasSteps.Retypable.{IsCalleePlace}
 use Rattle.alias_runs.specs.AliasSites.TypeUse.{AllTheType, ReceiverStays}
 use Rattle.constant_steps.specs.PlainUse.{AllSimple}
@@ -48,7 +48,7 @@ module _ {marks : List MarkRef} {st : Standing} {l : Logged} {after : Standing} 
   pub record IsOverAlias : Type 0 where
     pub uses : UsesAliasText n
     pub lays_out : LaysOut uses
-    pub few : FewNames st.packages n.found
+    pub few : AvoidsFew st.packages n.found
     pub removes : RemovesNoNames n
 
   -- the use of an alias at a place that it has with the imports of the form added

@@ -9,7 +9,7 @@ use Rattle.order_runs.specs.CycleRuns.Linked.{Linked, SettlesFile}
 use Rattle.splice_laws.specs.ImportSplices.AddedFile.{AreWritable}
 use Rattle.order_runs.specs.CycleRuns.KeptImports.Files.{PutsNode, RemovesNoNames}
 use Rattle.go_layout.specs.LayoutLaws.Formed.{FormedType}
-use Rattle.order_runs.specs.CycleRuns.OrderCycles.NewNames.{FewNames}
+use Rattle.order_runs.specs.CycleRuns.OrderCycles.NewNames.{AvoidsFew}
 use Rattle.order_runs.specs.CycleRuns.OrderedSteps.Ranks.{AddsLedTo}
 use Rattle.pkg_graph.specs.Package.{Package}
 use Rattle.splice_laws.specs.RunLaws.Reading.{ProgramReads}
@@ -62,7 +62,7 @@ abbrev pub TypeExpressionsSettleFiles : Type 0
 TypeExpressionsSettleFiles =
     (marks : List MarkRef) (st : Standing) (l : Logged) (after : Standing) (n : Next marks st l after) → ProgramReads st
     → UndottedFile (bare_file (file_found n.found)) → IsScopedAround n → IsUsedByName n → BecomesTypeExpr n
-    → AreWritable (imports_added n.found.named) → AddsLedTo st.packages n.found → FewNames st.packages n.found
+    → AreWritable (imports_added n.found.named) → AddsLedTo st.packages n.found → AvoidsFew st.packages n.found
     → RemovesNoNames n → SettlesFile n
 
 -- ---- aliases
@@ -81,4 +81,4 @@ CalledAliasesSettleFiles =
     (marks : List MarkRef) (st : Standing) (l : Logged) (after : Standing) (n : Next marks st l after) → ProgramReads st
     → Linked st.packages → PackagesAreWritable st.packages → UndottedFile (bare_file (file_found n.found))
     → IsScopedAround n → IsUsedByName n → (uses : UsesAliasText n) → MayBeLaid n.found.site.place.slot uses.text
-    → FewNames st.packages n.found → RemovesNoNames n → SettlesFile n
+    → AvoidsFew st.packages n.found → RemovesNoNames n → SettlesFile n

@@ -9,7 +9,7 @@ use Rattle.order_runs.specs.CycleRuns.Linked.{Linked, SettlesFile}
 use Rattle.splice_laws.specs.ImportSplices.AddedFile.{AreWritable}
 use Rattle.order_runs.specs.CycleRuns.KeptImports.Files.{PutsNode, RemovesNoNames}
 use Rattle.go_layout.specs.LayoutLaws.Formed.{FormedType, FormedLiteralType}
-use Rattle.order_runs.specs.CycleRuns.OrderCycles.NewNames.{FewNames}
+use Rattle.order_runs.specs.CycleRuns.OrderCycles.NewNames.{AvoidsFew}
 use Rattle.order_runs.specs.CycleRuns.OrderCycles.Orders.{AllOrdered}
 use Rattle.order_runs.specs.CycleRuns.OrderedSteps.Ranks.{AddsLedTo}
 use Rattle.splice_laws.specs.RunLaws.Reading.{ProgramReads}
@@ -59,7 +59,7 @@ abbrev pub TypesSettleFiles : Type 0
 TypesSettleFiles =
     (marks : List MarkRef) (st : Standing) (l : Logged) (after : Standing) (n : Next marks st l after) → ProgramReads st
     → UndottedFile (bare_file (file_found n.found)) → (used : UsesTypeName n) → BecomesType n used
-    → AreWritable (imports_added n.found.named) → AddsLedTo st.packages n.found → FewNames st.packages n.found
+    → AreWritable (imports_added n.found.named) → AddsLedTo st.packages n.found → AvoidsFew st.packages n.found
     → RemovesNoNames n → SettlesFile n
 
 -- ---- aliases
@@ -90,5 +90,5 @@ abbrev pub AliasesSettleFiles : Type 0
 AliasesSettleFiles =
     (marks : List MarkRef) (st : Standing) (l : Logged) (after : Standing) (n : Next marks st l after) → ProgramReads st
     → Linked st.packages → PackagesAreWritable st.packages → UndottedFile (bare_file (file_found n.found))
-    → (used : UsesTypeName n) (uses : UsesAliasText n) → FitsLiteral n used uses → FewNames st.packages n.found
+    → (used : UsesTypeName n) (uses : UsesAliasText n) → FitsLiteral n used uses → AvoidsFew st.packages n.found
     → RemovesNoNames n → SettlesFile n

@@ -9,7 +9,7 @@ use Rattle.run_rules.specs.Run.{Standing, Logged, Next}
 use Rattle.run_rules.specs.Sites.{MarkRef, an_expr, a_type_part}
 use Rattle.run_rules.specs.Steps.{At}
 use Rattle.order_runs.specs.CycleRuns.KeptImports.Files.{RemovesNoNames}
-use Rattle.order_runs.specs.CycleRuns.OrderCycles.NewNames.{FewNames}
+use Rattle.order_runs.specs.CycleRuns.OrderCycles.NewNames.{AvoidsFew}
 use Rattle.taken_aliases.specs.PutTexts.Uses.{UsesAliasText}
 use Rattle.taken_aliases.specs.PutCalls.Uses.{MayBeLaid}
 
@@ -52,5 +52,5 @@ module _ {marks : List MarkRef} {st : Standing} {l : Logged} {after : Standing} 
   pub record IsOverWritten : Type 0 where
     pub uses : UsesAliasText n
     pub written : IsWritten uses
-    pub few : FewNames st.packages n.found
+    pub few : AvoidsFew st.packages n.found
     pub removes : RemovesNoNames n

@@ -6,7 +6,7 @@ use Rattle.go_tree.specs.ScopeNames.FreeNames.{unless_declared, names_of, declar
 use Rattle.go_tree.specs.ScopeNames.Identifiers.{name_option, type_identifiers, fields_identifiers, type_option_identifiers, params_identifiers, expr_identifiers, exprs_identifiers, expr_option_identifiers, elems_identifiers, value_identifiers, value_option_identifiers, stmt_identifiers, stmts_identifiers, stmt_option_identifiers, block_option_identifiers, left_identifiers, arms_identifiers, cases_identifiers, specs_identifiers, type_specs_identifiers, receiver_identifiers, sig_identifiers, decl_identifiers}
 use Rattle.go_tree.specs.GoTypes.Answers.{is_among}
 use Rattle.go_tree.specs.GoTypes.Agreement.{In, head, tail}
-use Rattle.order_runs.specs.CycleRuns.ImportCycles.LookedUp.{specs_looked_up, types_looked_up, receiver_looked_up, decl_looked_up}
+use Rattle.order_runs.specs.CycleRuns.ImportCycles.LookedUp.{specs_looked_up, types_looked_up, receiver_looked_up, names_around, decl_looked_up}
 
 -- each name of the first stands in the second
 abbrev pub Within : List (List ℕ) → List (List ℕ) → Type 0
@@ -179,8 +179,8 @@ module _ {S : Type 0} where
 
   func-within : (f : Func S) → Within (decl_looked_up (func f)) (decl_identifiers (func f))
   func-within f =
-      both-within (receiver_looked_up f.receiver ++ free_params [] f.sig.params ++ free_params [] f.sig.results) (free_stmts [] f.body)
-      (receiver_identifiers f.receiver ++ f.name.name ∷ sig_identifiers f.sig) (stmts_identifiers f.body) front (stmts-in [] f.body)
+      both-within (receiver_looked_up f.receiver ++ free_params [] f.sig.params ++ free_params [] f.sig.results) (free_stmts (names_around f) f.body)
+      (receiver_identifiers f.receiver ++ f.name.name ∷ sig_identifiers f.sig) (stmts_identifiers f.body) front (stmts-in (names_around f) f.body)
     where
       in-sig : Within (free_params [] f.sig.params ++ free_params [] f.sig.results) (sig_identifiers f.sig)
       in-sig = both-within (free_params [] f.sig.params) (free_params [] f.sig.results) (params_identifiers f.sig.params) (params_identifiers f.sig.results) (params-in [] f.sig.params) (params-in [] f.sig.results)

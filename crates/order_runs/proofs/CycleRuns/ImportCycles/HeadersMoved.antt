@@ -13,7 +13,7 @@ use Rattle.go_tree.specs.GoTypes.Agreement.{In, head}
 use Rattle.typed_in_place.specs.ProgramsAlike.{OneByOne, no_more, and_more}
 use Rattle.typed_in_place.specs.ProgramReplaced.{All, all_of_none, all_and}
 use Rattle.typed_in_place.specs.ImportsMoved.{under_imports, MovedReceiver, nothing_received, received, MovedIn, moved_constants, moved_variables, moved_type, moved_func, Moved}
-use Rattle.order_runs.specs.CycleRuns.ImportCycles.LookedUp.{specs_looked_up, types_looked_up, receiver_looked_up, decl_looked_up}
+use Rattle.order_runs.specs.CycleRuns.ImportCycles.LookedUp.{specs_looked_up, types_looked_up, receiver_looked_up, names_around, decl_looked_up}
 use Rattle.order_runs.proofs.CycleRuns.ImportCycles.FreeIdentifiers.{in-left, in-right}
 
 -- the second header is the first under other imports, under which each name that it looks up means what it meant
@@ -95,7 +95,7 @@ module _ (home : ℕ) (is js : Environment Entity) where
         results = free_params [] f.sig.results
 
         front : AllMean (receiver ++ params ++ results)
-        front n j = h n (in-left n (receiver ++ params ++ results) (free_stmts [] f.body) j)
+        front n j = h n (in-left n (receiver ++ params ++ results) (free_stmts (names_around f) f.body) j)
 
     decl-all : (d : Decl S) → AllMean (decl_looked_up d) → All HeaderReads (headers d)
     decl-all (values (const_decl s g ss)) h = constant-all (at_member g s) None no_exprs 0 ss (λ n j. elim j [ ]) (λ n j. elim j [ ]) h

@@ -37,7 +37,7 @@ use Rattle.constant_steps.specs.FormImports.ImportLaws.Steps.{removed_specs}
 use Rattle.order_runs.specs.CycleRuns.StepCycles.PackagesAlike.{import_key}
 use Rattle.order_runs.specs.CycleRuns.ImportCycles.OtherImports.{import_path}
 use Rattle.order_runs.specs.CycleRuns.ImportCycles.ImportSteps.{file_added, packages_added, KeepsNames, KeepsLookUps}
-use Rattle.order_runs.specs.CycleRuns.OrderCycles.NewNames.{NamesByPath, FewNames}
+use Rattle.order_runs.specs.CycleRuns.OrderCycles.NewNames.{NamesByPath, AvoidsFew}
 use Rattle.order_runs.specs.CycleRuns.OrderedSteps.Ranks.{ImportsNoMore}
 use Rattle.order_runs.proofs.CycleRuns.OrderedSteps.Members.{in-front, in-back}
 use Rattle.order_runs.specs.CycleRuns.KeptImports.Files.{PutsNode, IsSettled, RemovesNoneNamed, RemovesNoNames, RemovesNoLookUps}
@@ -172,7 +172,7 @@ module _ (marks : List MarkRef) (st : Standing) (l : Logged) (after : Standing) 
             (subst (λ (ps : List (List ℕ)). In path ps) (sym (paths-of-keys (specs_in old-decls)) ∙ ap (map (λ (k : Key). k.1)) keys-old ∙ paths-of-keys (import_specs tree)) j)
         by (inr j) = in-back path (map (λ s. s.path) (import_specs tree)) (map (λ i. i.path) added) j
 
-    module _ (few : FewNames st.packages n.found) (paths : NamesByPath st.packages) where
+    module _ (few : AvoidsFew st.packages n.found) (paths : NamesByPath st.packages) where
       abbrev mid : List (Package At)
       mid = packages_added st.packages n.found
 

@@ -1,4 +1,5 @@
-use Rattle.order_runs.proofs.ImportCodes.PackagesCode.{declared-moved, declarations-moved, typed-moved}
+use Rattle.order_runs.proofs.ImportCodes.PackagesCode.{declared-moved, declarations-moved}
+use Rattle.order_runs.proofs.ImportSteps.Links.{typed-moved}
 use Rattle.order_runs.proofs.import_codes.other_imports_are_typed_alike.Goals as goal
 
 pub returns-clause-declared : goal.returns-clause-declared

@@ -6,7 +6,7 @@ use Rattle.run_rules.specs.Sites.{MarkRef}
 use Rattle.run_rules.specs.Naming.{imports_added}
 use Rattle.run_rules.specs.Run.{Standing, Logged, Next}
 use Rattle.order_runs.specs.CycleRuns.ImportCycles.ImportSteps.{KeepsNames, KeepsLookUps}
-use Rattle.order_runs.specs.CycleRuns.OrderCycles.NewNames.{NamesByPath, FewNames}
+use Rattle.order_runs.specs.CycleRuns.OrderCycles.NewNames.{NamesByPath, AvoidsFew}
 use Rattle.order_runs.specs.CycleRuns.OrderedSteps.Ranks.{ImportsNoMore}
 use Rattle.order_runs.specs.CycleRuns.KeptImports.Files.{PutsNode, IsSettled, RemovesNoNames, RemovesNoLookUps}
 
@@ -28,10 +28,10 @@ FilesImportNoMore =
 abbrev pub NamesAreKept : Type 0
 NamesAreKept =
     (marks : List MarkRef) (st : Standing) (l : Logged) (after : Standing) (n : Next marks st l after) → IsSettled n
-    → FewNames st.packages n.found → NamesByPath st.packages → RemovesNoNames n → KeepsNames n
+    → AvoidsFew st.packages n.found → NamesByPath st.packages → RemovesNoNames n → KeepsNames n
 
 -- Each name that its declarations look up is that of the same import, or of none, if none that goes has such a name.
 abbrev pub LookUpsAreKept : Type 0
 LookUpsAreKept =
     (marks : List MarkRef) (st : Standing) (l : Logged) (after : Standing) (n : Next marks st l after) → IsSettled n
-    → FewNames st.packages n.found → NamesByPath st.packages → RemovesNoLookUps n → KeepsLookUps n
+    → AvoidsFew st.packages n.found → NamesByPath st.packages → RemovesNoLookUps n → KeepsLookUps n

@@ -22,7 +22,7 @@ use Rattle.order_runs.specs.RunSteps.RunPackages.{members_of}
 use Rattle.printed_constants.specs.TypedParts.MarkedRuns.NamedMarks.Named.{AllNamed}
 use Rattle.printed_constants.specs.TypedParts.MarkedRuns.SettledConstants.Programs.{IsReady}
 use Rattle.order_runs.specs.CycleRuns.OrderCycles.Steps.{KeepsImportLookUps}
-use Rattle.order_runs.specs.CycleRuns.OrderCycles.NewNames.{NamesByPath, FewNames}
+use Rattle.order_runs.specs.CycleRuns.OrderCycles.NewNames.{NamesByPath, AvoidsFew}
 use Rattle.order_runs.proofs.CycleRuns.Runs.{linked-names}
 use Rattle.go_tree.specs.declared.spans.Span.{Span}
 use Rattle.pkg_graph.specs.Package.{SourceTree, Package}
@@ -42,7 +42,7 @@ use Rattle.printed_constants.specs.TypedParts.MarkedRuns.KeptMarks.Laws.{StepsKe
 use Rattle.printed_constants.proofs.TypedParts.MarkedRuns.KeptMarks.Kept.{writes, look-ups}
 use Rattle.printed_constants.specs.TypedParts.MarkedRuns.Marked.{StandsAdded, AllOverNames}
 
-module _ (sound : AddedImportsMayBeDeclared) (marks : List MarkRef) (st : Standing) (l : Logged) (after : Standing) (n : Next marks st l after) (reads : ProgramReads st) (h : StandsAdded n) (names : KeepsImportLookUps n) (by_path : NamesByPath st.packages) (typed : are_well_typed (members_of st.packages) ≡ true) (few : FewNames st.packages n.found) where
+module _ (sound : AddedImportsMayBeDeclared) (marks : List MarkRef) (st : Standing) (l : Logged) (after : Standing) (n : Next marks st l after) (reads : ProgramReads st) (h : StandsAdded n) (names : KeepsImportLookUps n) (by_path : NamesByPath st.packages) (typed : are_well_typed (members_of st.packages) ≡ true) (few : AvoidsFew st.packages n.found) where
   abbrev w : Where At
   w = n.found.site.at
 

@@ -5,7 +5,7 @@ use Rattle.go_tree.specs.Tree.{Expr}
 use Rattle.go_tree.specs.FileView.{file_of}
 use Rattle.go_scan.specs.TokenLists.{TokenLists}
 use Rattle.run_rules.specs.ImportRules.Laid.{CommentsAscend, Laid}
-use Rattle.order_runs.specs.CycleRuns.OrderCycles.NewNames.{FewNames}
+use Rattle.order_runs.specs.CycleRuns.OrderCycles.NewNames.{AvoidsFew}
 use Rattle.run_rules.specs.Laws.{LiesBehindImports}
 use Rattle.run_rules.specs.Marks.{text_at}
 use Rattle.run_rules.specs.Respanned.{file_with}
@@ -25,7 +25,7 @@ pub record IsRightUse
     (marks : List MarkRef) (st : Standing) (f : Found At) (old : FileText) (form : ConstantForm) : Type 0 where
   pub expr : Expr At
   pub part : f.site.part ≡ an_expr expr
-  pub few : FewNames st.packages f
+  pub few : AvoidsFew st.packages f
   pub typed : AreTyped marks st f form
 
 -- The code has the file of the use: its text with its tokens and comments, and a view of it with the tables of the

@@ -28,7 +28,7 @@ use Rattle.order_runs.specs.CycleRuns.ImportCycles.OtherImports.{import_path}
 use Rattle.order_runs.specs.CycleRuns.ImportCycles.ImportSteps.{file_added, packages_added}
 use Rattle.order_runs.proofs.CycleRuns.KeptImports.Keys.{new_key, key-for, key_name, path_by, name-by, path-by}
 use Rattle.order_runs.proofs.CycleRuns.KeptImports.Fresh.{step-apart}
-use Rattle.order_runs.specs.CycleRuns.OrderCycles.NewNames.{NamesByPath, FewNames}
+use Rattle.order_runs.specs.CycleRuns.OrderCycles.NewNames.{NamesByPath, AvoidsFew}
 use Rattle.printed_constants.proofs.TypedParts.MarkedRuns.KeptMarks.Changed.{path-stays, name-stays}
 
 -- ---- what a name means among numbered names
@@ -206,7 +206,7 @@ specs-of-both (d ∷ ds) es = (λ v. d.specs ++ specs-of-both ds es v) ∙ sym (
 
 -- ---- the names of a step
 
-module _ (marks : List MarkRef) (st : Standing) (l : Logged) (after : Standing) (n : Next marks st l after) (few : FewNames st.packages n.found) (paths : NamesByPath st.packages) where
+module _ (marks : List MarkRef) (st : Standing) (l : Logged) (after : Standing) (n : Next marks st l after) (few : AvoidsFew st.packages n.found) (paths : NamesByPath st.packages) where
   abbrev w : Where At
   w = n.found.site.at
 

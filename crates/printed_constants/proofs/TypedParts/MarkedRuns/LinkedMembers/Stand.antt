@@ -18,7 +18,7 @@ use Rattle.order_runs.specs.ImportCodes.PackagesMoved.{ImportsStand}
 use Rattle.order_runs.specs.CycleRuns.StepCycles.PackagesAlike.{DeclAlike}
 use Rattle.order_runs.proofs.CycleRuns.StepCycles.StepAlike.{ReceiverStays, new-alike}
 use Rattle.order_runs.specs.CycleRuns.ImportCycles.ImportSteps.{DeclaresAlike}
-use Rattle.order_runs.specs.CycleRuns.OrderCycles.NewNames.{FewNames}
+use Rattle.order_runs.specs.CycleRuns.OrderCycles.NewNames.{AvoidsFew}
 use Rattle.order_runs.proofs.CycleRuns.OrderedSteps.Steps.{steps-own}
 use Rattle.order_runs.specs.CycleRuns.Linked.{Linked, WritesFile}
 use Rattle.order_runs.proofs.CycleRuns.Runs.{linked-names, written-so}
@@ -52,7 +52,7 @@ module _ (marks : List MarkRef) (st : Standing) (l : Logged) (after : Standing) 
       (new-alike same_here st.packages (changes_for same_here (part_span x.part) (as_expr e)) x.at.number x.at.of x.at.source.tree d
       (stays st.packages (part_span x.part) e (top_place st.packages x.at.number x.at.of x.at.source.tree) d))
 
-  pub imports-stand : Linked st.packages → HaveFiles st.packages → are_well_typed (members_of st.packages) ≡ true → FewNames st.packages n.found → WritesFile n → (more : List (translated.Package At)) → ImportsUsed more (members_of after.packages) → ImportsStand more (members_of after.packages)
+  pub imports-stand : Linked st.packages → HaveFiles st.packages → are_well_typed (members_of st.packages) ≡ true → AvoidsFew st.packages n.found → WritesFile n → (more : List (translated.Package At)) → ImportsUsed more (members_of after.packages) → ImportsStand more (members_of after.packages)
   imports-stand links files typed few write more used = record {
     linked = members-linked after.packages (steps-own marks st l after n links.own) (step-have marks st l after n files);
     right = used-right after.packages more (after-sound marks st l after n links.ordered (linked-names st.packages links) typed few (written-so marks st l after n links write) declares-alike) used;

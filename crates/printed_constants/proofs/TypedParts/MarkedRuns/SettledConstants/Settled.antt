@@ -15,7 +15,7 @@ use Rattle.printed_constants.specs.TypedParts.StandingUses.ImportUses.Parts.{IsN
 use Rattle.printed_constants.proofs.TypedParts.StandingUses.Named.{constant_named}
 use Rattle.order_runs.specs.CycleRuns.OrderedSteps.Ranks.{AddsLedTo}
 use Rattle.order_runs.specs.CycleRuns.Linked.{Linked, WritesFile, SettlesFile}
-use Rattle.order_runs.specs.CycleRuns.OrderCycles.NewNames.{FewNames}
+use Rattle.order_runs.specs.CycleRuns.OrderCycles.NewNames.{AvoidsFew}
 use Rattle.order_runs.proofs.CycleRuns.Runs.{step-linked, writes-of, one-constant}
 use Rattle.order_runs.proofs.CycleRuns.LedImports.Homes.{home-led}
 use Rattle.order_runs.proofs.CycleRuns.LedImports.Steps.{added-led}
@@ -57,7 +57,7 @@ module _ (marks : List MarkRef) (st : Standing) (l : Logged) (after : Standing) 
       (adds_led ready.reads ready.named ready.links over.uses over.old over.part)
       over.few over.removes over.uses
 
-  pub constant_writes : WellTypedFilesAreScoped → IsReady st → UsesConstant n → (e : Expr At) → n.found.site.part ≡ an_expr e → FewNames st.packages n.found → WritesFile n
+  pub constant_writes : WellTypedFilesAreScoped → IsReady st → UsesConstant n → (e : Expr At) → n.found.site.part ≡ an_expr e → AvoidsFew st.packages n.found → WritesFile n
   constant_writes scoped ready uses e part few =
       constants_write marks st l after n ready.reads (linked_writable st.packages ready.links ready.named ready.octets)
       (uses_undotted marks st l after n ready.typed ready.unspread)

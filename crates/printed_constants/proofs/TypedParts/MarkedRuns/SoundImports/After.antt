@@ -33,7 +33,7 @@ use Rattle.order_runs.proofs.CycleRuns.ImportCycles.ImportStep.{placed, put-besi
 use Rattle.order_runs.proofs.CycleRuns.ImportCycles.ImportsAdded.{names-stay}
 use Rattle.order_runs.proofs.CycleRuns.ImportCycles.ImportsRead.{numbers-stay}
 use Rattle.order_runs.specs.CycleRuns.OrderCycles.Orders.{AllOrdered}
-use Rattle.order_runs.specs.CycleRuns.OrderCycles.NewNames.{NamesByPath, FewNames}
+use Rattle.order_runs.specs.CycleRuns.OrderCycles.NewNames.{NamesByPath, AvoidsFew}
 use Rattle.order_runs.specs.CycleRuns.KeptImports.Files.{IsSettled}
 use Rattle.order_runs.proofs.CycleRuns.KeptImports.Keys.{new_key, keys-both, keys-bare, keys-with, key-for, name-by}
 use Rattle.printed_constants.proofs.TypedParts.MarkedRuns.SoundImports.Blocks.{names-declared}
@@ -73,7 +73,7 @@ decls-alike (and_more {a = d} {b = e} {xs = ds} {ys = es} r rs) =
     ∙ (λ v. (names-declared e ∙ r.names ∙ sym (names-declared d)) v ++ decls-alike rs v)
     ∙ sym (headers-append (headers d) (all_headers ds))
 
-module _ (marks : List MarkRef) (st : Standing) (l : Logged) (after : Standing) (n : Next marks st l after) (ordered : AllOrdered st.packages) (paths : NamesByPath st.packages) (typed_so : are_well_typed (members_of st.packages) ≡ true) (few : FewNames st.packages n.found)
+module _ (marks : List MarkRef) (st : Standing) (l : Logged) (after : Standing) (n : Next marks st l after) (ordered : AllOrdered st.packages) (paths : NamesByPath st.packages) (typed_so : are_well_typed (members_of st.packages) ≡ true) (few : AvoidsFew st.packages n.found)
     (settled : IsSettled n) (alike : DeclaresAlike n) where
   abbrev x : Site At
   x = n.found.site

@@ -1,7 +1,6 @@
 -- In a well-typed program each import may be declared, also once those of a step are added.
-use Rattle.std.proofs.Common.{◌≡◌, ◌⊎◌, inl, inr, refl, sym, subst, ◌∙◌, ◌+◌, ◌<◌, ◌^◌, ℕ, suc, Bool, true, false, not, ◌&&◌, ◌||◌, if◌then◌else◌, List, [], ◌∷◌, ◌++◌, map, length, Option, Some, None, arith}
+use Rattle.std.proofs.Common.{◌≡◌, ◌⊎◌, inl, inr, refl, sym, subst, ◌∙◌, ◌+◌, ℕ, Bool, true, false, not, ◌&&◌, ◌||◌, if◌then◌else◌, List, [], ◌∷◌, ◌++◌, map, Option, Some, None}
 use Rattle.std.specs.Prelude.{bytes_eq, codes, slice_get}
-use Rattle.std.proofs.lemmas.List.{length-append}
 use Rattle.std.proofs.lemmas.Option.{same_Some}
 use Rattle.std.proofs.lemmas.Slice.Eq.{bytes_eq-Decides}
 use Rattle.go_tree.specs.declared.spans.Span.{Span}
@@ -27,10 +26,9 @@ use Rattle.go_translation.specs.Packages.{sources, are_distinct, are_linked, are
 use Rattle.run_rules.specs.Surroundings.{Place}
 use Rattle.run_rules.specs.Programs.{in_dependency_order, linked_import, linked_file, linked_imports, linked}
 use Rattle.run_rules.specs.Sites.{MarkRef, Where}
-use Rattle.run_rules.specs.Naming.{Named, no_span, fuel_for, name_added, imports_added, fresh_name, package_path, own_name, names_here, environment_here, added_import, named_packages}
+use Rattle.run_rules.specs.Naming.{Named, no_span, name_added, imports_added, fresh_name, package_path, own_name, names_here, environment_here, added_import, named_packages}
 use Rattle.run_rules.specs.Steps.{At, change_nth, added_decls, spec_for}
 use Rattle.run_rules.specs.Run.{Standing, Logged, Next, is_commented, here_of}
-use Rattle.run_rules.proofs.NamesFound.{found_is_fresh}
 use Rattle.constant_steps.specs.FormImports.ImportLaws.Steps.{binders_of}
 use Rattle.constant_steps.proofs.FormImports.ImportLaws.StepNames.{FoundWell, found_well}
 use Rattle.constant_steps.proofs.MarksFound.{nth_mapped}
@@ -52,7 +50,8 @@ use Rattle.order_runs.proofs.CycleRuns.ImportCycles.LeadAlike.{same-beside}
 use Rattle.splice_laws.proofs.RunLaws.FoundSpans.{Placed}
 use Rattle.order_runs.specs.ImportSteps.ImportingSteps.{MayBeDeclared}
 use Rattle.order_runs.specs.CycleRuns.OrderCycles.Orders.{AllOrdered}
-use Rattle.order_runs.specs.CycleRuns.OrderCycles.NewNames.{NamesByPath, FewNames}
+use Rattle.order_runs.specs.CycleRuns.OrderCycles.NewNames.{NamesByPath, AvoidsFew, EachFresh}
+use Rattle.order_runs.proofs.CycleRuns.OrderCycles.FreshNames.{step-fresh}
 use Rattle.printed_constants.proofs.TypedParts.MarkedRuns.ReadyModules.Typed.{linked_typed}
 use Rattle.printed_constants.proofs.TypedParts.MarkedRuns.SoundImports.Blocks.{among-either, among-left, among-right, block-among}
 
@@ -149,29 +148,12 @@ module _ (ps : List (Package At)) (w : Where At) (p : Place At) (mid : List (Pac
   abbrev avoid : List (List ℕ) → List (List ℕ)
   avoid bound = avoided (names_here ps w) bound
 
-  abbrev fuel : List (List ℕ) → ℕ
-  fuel bound = fuel_for w.source.tree (avoid bound)
-
   import-named : (q : ℕ) (m : List ℕ) → import_name mid (spec_for z (added_import ps q m)) ≡ m
   import-named q m = by (bytes_eq m (own_name ps q)) refl
     where
       by : (b : Bool) → bytes_eq m (own_name ps q) ≡ b → name_or (if not b then Some (record { span = z; name = m }) else None) (package_name mid (package_path ps q)) ≡ m
       by false e = refl
       by true e = names (package_path ps q) ∙ paths q ∙ sym ((bytes_eq-Decides m (own_name ps q)).0 e)
-
-  -- one more name to avoid
-  fuel-grows : (bound : List (List ℕ)) (n : List ℕ) (k : ℕ) → fuel bound + suc k < 2 ^ 64 → fuel (n ∷ bound) + k < 2 ^ 64
-  fuel-grows bound n k h =
-      let ids : List (List ℕ) = identifiers w.source.tree in
-      let blocks : List (List ℕ) = map (λ i. i.name) (names_here ps w).imports ++ (names_here ps w).«package» in
-      let rest : List (List ℕ) = keyword_spellings ++ predeclared in
-      let a : length (ids ++ ((blocks ++ bound) ++ rest)) ≡ length ids + length ((blocks ++ bound) ++ rest) = length-append ids ((blocks ++ bound) ++ rest) in
-      let b : length ((blocks ++ bound) ++ rest) ≡ length (blocks ++ bound) + length rest = length-append (blocks ++ bound) rest in
-      let c : length (blocks ++ bound) ≡ length blocks + length bound = length-append blocks bound in
-      let d : length (ids ++ ((blocks ++ n ∷ bound) ++ rest)) ≡ length ids + length ((blocks ++ n ∷ bound) ++ rest) = length-append ids ((blocks ++ n ∷ bound) ++ rest) in
-      let e : length ((blocks ++ n ∷ bound) ++ rest) ≡ length (blocks ++ n ∷ bound) + length rest = length-append (blocks ++ n ∷ bound) rest in
-      let f : length (blocks ++ n ∷ bound) ≡ length blocks + length (n ∷ bound) = length-append blocks (n ∷ bound) in
-      omega (arith, a, b, c, d, e, f, h)
 
   abbrev by_option : List (List ℕ) → ℕ → Option (List ℕ) → Named
   by_option bound q o =
@@ -222,22 +204,22 @@ module _ (ps : List (Package At)) (w : Where At) (p : Place At) (mid : List (Pac
     new-beside x e is h = subst (λ (y : List ℕ). is_blank y ≡ false → (is_among y [] ≡ false) × ((is_among y members ≡ false) × ((is_init y ≡ false) × (is_among y (import_names is) ≡ false)))) (sym e)
         (λ b. (refl, (no-member b, (facts.1, not-true (is_among m (import_names is)) (λ g. clash (h m g))))))
 
-  sound-with : (bound : List (List ℕ)) (qs : List ℕ) (is : List (Import At)) → fuel bound + length (named_packages ps w p bound qs) < 2 ^ 64 → imports_sound members [] is ≡ true → AllAvoided bound is
+  sound-with : (bound : List (List ℕ)) (qs : List ℕ) (is : List (Import At)) → EachFresh ps w bound (named_packages ps w p bound qs) → imports_sound members [] is ≡ true → AllAvoided bound is
       → imports_sound members [] (is ++ links (named_packages ps w p bound qs)) ≡ true
   sound-with bound [] is h e a = (λ v. imports_sound members [] (nothing-behind is v)) ∙ e
   sound-with bound (q ∷ qs) is h e a = by (serving (environment_here ps w p) bound (package_path ps q) (names_here ps w).imports) (λ b js few f g. sound-with b qs js few f g) h
     where
-      by : (s : Option (List ℕ)) → ((b : List (List ℕ)) (js : List (Import At)) → fuel b + length (named_packages ps w p b qs) < 2 ^ 64 → imports_sound members [] js ≡ true → AllAvoided b js → imports_sound members [] (js ++ links (named_packages ps w p b qs)) ≡ true)
-          → fuel bound + length (listed bound q qs s) < 2 ^ 64 → imports_sound members [] (is ++ links (listed bound q qs s)) ≡ true
-      by (Some n) later h = later bound is (omega (arith, h)) e a
+      by : (s : Option (List ℕ)) → ((b : List (List ℕ)) (js : List (Import At)) → EachFresh ps w b (named_packages ps w p b qs) → imports_sound members [] js ≡ true → AllAvoided b js → imports_sound members [] (js ++ links (named_packages ps w p b qs)) ≡ true)
+          → EachFresh ps w bound (listed bound q qs s) → imports_sound members [] (is ++ links (listed bound q qs s)) ≡ true
+      by (Some n) later h = later bound is h.1 e a
       by None later h =
           let m : List ℕ = fresh_name w.source.tree (avoid bound) (own_name ps q) in
-          let new : is_new w.source.tree (avoid bound) m ≡ true = (found_is_fresh w.source.tree (avoid bound) (own_name ps q) (omega (arith, h))).new in
+          let new : is_new w.source.tree (avoid bound) m ≡ true = h.0.1.new in
           let x : Import At = linked_import mid (spec_for z (added_import ps q m)) in
           let same : x.name ≡ m = import-named q m in
           let one : imports_sound members [] (is ++ x ∷ []) ≡ true = sound-behind members x [] is e (new-beside bound m new x same is a) in
           (λ v. imports_sound members [] (sym (turns is (x ∷ []) (links (named_packages ps w p (m ∷ bound) qs))) v))
-          ∙ later (m ∷ bound) (is ++ x ∷ []) (fuel-grows bound m (length (named_packages ps w p (m ∷ bound) qs)) h) one (avoided-now m x same)
+          ∙ later (m ∷ bound) (is ++ x ∷ []) h.1 one (avoided-now m x same)
         where
           avoided-now : (m : List ℕ) (x : Import At) → x.name ≡ m → AllAvoided (m ∷ bound) (is ++ x ∷ [])
           avoided-now m x same k g = of (among-either k (import_names is) (x.name ∷ []) (sym (λ v. is_among k (names-behind is x v)) ∙ g))
@@ -256,7 +238,7 @@ was-some : {A B : Type 0} {R : A → B → Type 0} {o : Option A} {u : Option B}
 was-some b neither e = absurd cc
 was-some {R = R} b (each {a = x} {b = y} r) e = (x, refl, subst (λ z. R x z) (same_Some y b e) r)
 
-module _ (marks : List MarkRef) (st : Standing) (l : Logged) (after : Standing) (n : Next marks st l after) (ordered : AllOrdered st.packages) (paths : NamesByPath st.packages) (typed_so : are_well_typed (members_of st.packages) ≡ true) (few : FewNames st.packages n.found) where
+module _ (marks : List MarkRef) (st : Standing) (l : Logged) (after : Standing) (n : Next marks st l after) (ordered : AllOrdered st.packages) (paths : NamesByPath st.packages) (typed_so : are_well_typed (members_of st.packages) ≡ true) (few : AvoidsFew st.packages n.found) where
   abbrev w0 : Where At
   w0 = n.found.site.at
 
@@ -324,7 +306,7 @@ module _ (marks : List MarkRef) (st : Standing) (l : Logged) (after : Standing) 
       ∙ (λ v. imports_sound M [] (linked_imports mid tree ++ map (linked_import mid) (specs-added n.found.range (imports_added n.found.named) v)))
       ∙ (λ v. imports_sound M [] (linked_imports mid tree ++ map (linked_import mid) (map (spec_for n.found.range) (imports_added (well.names v)))))
       ∙ sound-with st.packages w0 n.found.site.place mid (λ path. names-stay st.packages [] mid beside path) paths n.found.range bound well.packages (linked_imports mid tree)
-      (subst (λ (ns : List Named). fuel_for tree (avoided (names_here st.packages w0) bound) + length ns < 2 ^ 64) well.names few)
+      (subst (EachFresh st.packages w0 bound) well.names (step-fresh marks st l after n few))
       ((λ v. imports_sound M [] (links-same (import_specs tree) v)) ∙ sound-before st.packages ordered typed_so w0 here.package_is here.file_is)
       (λ k e. among-left k (map (λ (i : ImportName). i.name) (names_here st.packages w0).imports ++ (names_here st.packages w0).«package») bound
       (among-left k (map (λ (i : ImportName). i.name) (names_here st.packages w0).imports) (names_here st.packages w0).«package» ((λ v. is_among k (sym (names-here (import_specs tree)) v)) ∙ e)))

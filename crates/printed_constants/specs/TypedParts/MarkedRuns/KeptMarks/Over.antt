@@ -8,7 +8,7 @@ use Rattle.run_rules.specs.Sites.{MarkRef, an_expr}
 use Rattle.run_rules.specs.Steps.{At}
 use Rattle.run_rules.specs.Run.{Standing, Logged, Next}
 use Rattle.order_runs.specs.CycleRuns.KeptImports.Files.{RemovesNoLookUps}
-use Rattle.order_runs.specs.CycleRuns.OrderCycles.NewNames.{FewNames}
+use Rattle.order_runs.specs.CycleRuns.OrderCycles.NewNames.{AvoidsFew}
 
 -- The use is an expression. The names to avoid are fewer than 2^64, no import that goes has a name that is looked up in
 -- the file as it is read again, and no package is named `_` in the form.
@@ -16,6 +16,6 @@ pub record IsOverName {marks : List MarkRef} {st : Standing} {l : Logged} {after
     : Type 0 where
   pub old : Expr At
   pub part : n.found.site.part ≡ an_expr old
-  pub few : FewNames st.packages n.found
+  pub few : AvoidsFew st.packages n.found
   pub removes : RemovesNoLookUps n
   pub spelled : (k : ℕ) → is_blank (names_by n.found.named k) ≡ false

@@ -22,7 +22,7 @@ use Rattle.order_runs.specs.RunSteps.RunPackages.{members_of, packages_of}
 use Rattle.order_runs.specs.ImportCodes.PackagesMoved.{ImportsStand}
 use Rattle.order_runs.specs.ImportSteps.ImportingSteps.{MayBeDeclared}
 use Rattle.order_runs.specs.CycleRuns.OrderedSteps.Ranks.{OwnPaths}
-use Rattle.order_runs.specs.CycleRuns.OrderCycles.NewNames.{FewNames}
+use Rattle.order_runs.specs.CycleRuns.OrderCycles.NewNames.{AvoidsFew}
 use Rattle.order_runs.specs.CycleRuns.Linked.{Linked, WritesFile}
 
 module _ {S : Type 0} where
@@ -78,5 +78,5 @@ abbrev pub UsedImportsStand : Type 0
 UsedImportsStand =
     (marks : List MarkRef) (st : Standing) (l : Logged) (after : Standing) (n : Next marks st l after) (e : Expr At)
     → n.found.form ≡ as_expr e → Linked st.packages → HaveFiles st.packages → WellTyped (packages_of st.packages [])
-    → FewNames st.packages n.found → WritesFile n → (more : List (Package At))
+    → AvoidsFew st.packages n.found → WritesFile n → (more : List (Package At))
     → ImportsUsed more (members_of after.packages) → ImportsStand more (members_of after.packages)

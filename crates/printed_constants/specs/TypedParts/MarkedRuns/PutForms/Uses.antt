@@ -4,7 +4,7 @@ use Rattle.go_tree.specs.Tree.{NameAt, Expr}
 use Rattle.constant_edits.specs.ConstantValue.{ConstantValue}
 use Rattle.constant_edits.specs.ConstantValue.TheVariants.{Plain, Qualified}
 use Rattle.pkg_graph.specs.Package.{Package}
-use Rattle.order_runs.specs.CycleRuns.OrderCycles.NewNames.{FewNames}
+use Rattle.order_runs.specs.CycleRuns.OrderCycles.NewNames.{AvoidsFew}
 use Rattle.put_names.specs.Uses.{IsDeclaredAsName}
 use Rattle.run_rules.specs.Marks.{text_at}
 use Rattle.run_rules.specs.Run.{Standing, step_in}
@@ -27,7 +27,7 @@ pub record UsesNamedConstant (st : Standing) (f : Found At) (old : FileText) : T
   pub as_name : IsDeclaredAsName st.packages home value
   pub expr : Expr At
   pub part : f.site.part ≡ an_expr expr
-  pub few : FewNames st.packages f
+  pub few : AvoidsFew st.packages f
 
 -- where a constant is declared as a name of another package, that is one of these
 abbrev pub IsOfPackages : List (Package At) → ConstantValue → Type 0

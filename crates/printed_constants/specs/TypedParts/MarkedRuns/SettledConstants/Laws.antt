@@ -16,7 +16,7 @@ use Rattle.splice_laws.specs.Dots.{UndottedFile}
 use Rattle.order_runs.specs.CycleRuns.OrderCycles.Orders.{AllOrdered}
 use Rattle.order_runs.specs.CycleRuns.OrderedSteps.Ranks.{AddsLedTo}
 use Rattle.order_runs.specs.CycleRuns.Linked.{Linked, WritesFile, SettlesFile}
-use Rattle.order_runs.specs.CycleRuns.OrderCycles.NewNames.{FewNames}
+use Rattle.order_runs.specs.CycleRuns.OrderCycles.NewNames.{AvoidsFew}
 use Rattle.order_runs.specs.CycleRuns.LedImports.Led.{IsSpelled}
 use Rattle.put_names.specs.WrittenNames.NamedPackages.{PackagesAreNamed, PathsAreOctets}
 use Rattle.put_names.specs.Laws.{PackagesAreWritable}
@@ -69,7 +69,7 @@ ConstantsAddLed =
 abbrev pub ConstantsWrite : Type 0
 ConstantsWrite =
     (marks : List MarkRef) (st : Standing) (l : Logged) (after : Standing) (n : Next marks st l after) → IsReady st
-    → UsesConstant n → (e : Expr At) → n.found.site.part ≡ an_expr e → FewNames st.packages n.found → WritesFile n
+    → UsesConstant n → (e : Expr At) → n.found.site.part ≡ an_expr e → AvoidsFew st.packages n.found → WritesFile n
 
 -- It settles it where besides no import that goes has the name of an identifier.
 abbrev pub ConstantsSettle : Type 0

@@ -9,7 +9,7 @@ use Rattle.run_rules.specs.Sites.{MarkRef, an_expr}
 use Rattle.run_rules.specs.Steps.{At}
 use Rattle.splice_laws.specs.RunLaws.Reading.{ProgramReads, OnePathEach}
 use Rattle.order_runs.specs.CycleRuns.Linked.{Linked}
-use Rattle.order_runs.specs.CycleRuns.OrderCycles.NewNames.{FewNames}
+use Rattle.order_runs.specs.CycleRuns.OrderCycles.NewNames.{AvoidsFew}
 use Rattle.order_runs.specs.CycleRuns.OrderCycles.Steps.{site_added}
 use Rattle.order_runs.specs.CycleRuns.ImportCycles.ImportSteps.{packages_added}
 use Rattle.order_runs.specs.CycleRuns.StepCycles.Steps.{UsesAtEnds}
@@ -38,7 +38,7 @@ pub record IsOverConstant {marks : List MarkRef} {st : Standing} {l : Logged} {a
   pub uses : UsesConstant n
   pub old : Expr At
   pub part : n.found.site.part ≡ an_expr old
-  pub few : FewNames st.packages n.found
+  pub few : AvoidsFew st.packages n.found
   pub removes : RemovesNoNames n
 
 -- With its imports added, uses of the constant alone stand at the span of the use, of which what is put is another

@@ -10,7 +10,7 @@ use Rattle.order_runs.specs.CycleRuns.ImportCycles.ImportSteps.{packages_added, 
 use Rattle.order_runs.specs.CycleRuns.KeptImports.Files.{IsSettled}
 use Rattle.order_runs.specs.ImportSteps.ImportingSteps.{MayBeDeclared}
 use Rattle.order_runs.specs.CycleRuns.OrderCycles.Orders.{AllOrdered}
-use Rattle.order_runs.specs.CycleRuns.OrderCycles.NewNames.{NamesByPath, FewNames}
+use Rattle.order_runs.specs.CycleRuns.OrderCycles.NewNames.{NamesByPath, AvoidsFew}
 
 -- In well-typed packages that stand in dependency order each import of each file may be declared, also once those are
 -- added that a step adds, if the names to avoid are fewer than 2^64.
@@ -18,7 +18,8 @@ abbrev pub AddedImportsMayBeDeclared : Type 0
 AddedImportsMayBeDeclared =
     (marks : List MarkRef) (st : Standing) (l : Logged) (after : Standing) (n : Next marks st l after)
     → AllOrdered st.packages → NamesByPath st.packages → WellTyped (packages_of st.packages [])
-    → FewNames st.packages n.found → (w : Where At) → slice_get (packages_added st.packages n.found) w.number ≡ Some w.of
+    → AvoidsFew st.packages n.found → (w : Where At)
+    → slice_get (packages_added st.packages n.found) w.number ≡ Some w.of
     → slice_get w.of.files w.file_number ≡ Some w.source → MayBeDeclared (packages_added st.packages n.found) w
 
 -- So may each after the step, if its file is settled as its text says, and the declaration of the use declares what it
@@ -27,6 +28,6 @@ abbrev pub SettledImportsMayBeDeclared : Type 0
 SettledImportsMayBeDeclared =
     (marks : List MarkRef) (st : Standing) (l : Logged) (after : Standing) (n : Next marks st l after)
     → AllOrdered st.packages → NamesByPath st.packages → WellTyped (packages_of st.packages [])
-    → FewNames st.packages n.found → IsSettled n → DeclaresAlike n → (w : Where At)
+    → AvoidsFew st.packages n.found → IsSettled n → DeclaresAlike n → (w : Where At)
     → slice_get after.packages w.number ≡ Some w.of → slice_get w.of.files w.file_number ≡ Some w.source
     → MayBeDeclared after.packages w

@@ -2,7 +2,7 @@
 use Rattle.std.proofs.Common.{◌≡◌, refl, sym, ap, ◌∙◌, subst, ℕ, suc, ◌+◌, ◌<◌, ◌≤◌, ◌^◌, Bool, true, false, not, ◌&&◌, ◌||◌, bytes_eq, List, [], ◌∷◌, ◌++◌, map, length, Option, Some, None, codes, arith, length-append}
 use Rattle.go_tree.specs.File.{File}
 use Rattle.go_tree.specs.GoWords.Tokens.Pieces.{is_among, keyword_spellings}
-use Rattle.go_tree.specs.ScopeNames.Fresh.{is_new}
+use Rattle.go_tree.specs.ScopeNames.Fresh.{is_new, IsFresh}
 use Rattle.go_tree.specs.ScopeNames.Identifiers.{identifiers}
 use Rattle.go_tree.specs.ScopeNames.Means.{predeclared}
 use Rattle.pkg_graph.specs.Package.{Package}
@@ -10,15 +10,14 @@ use Rattle.constant_steps.specs.FormImports.ImportLaws.Steps.{binders_of}
 use Rattle.constant_steps.proofs.FormImports.ImportLaws.StepNames.{FoundWell, found_well}
 use Rattle.fresh_names.specs.Laws.{TakenAmong}
 use Rattle.fresh_names.proofs.Found.{found-first, few-leave}
-use Rattle.order_runs.specs.CycleRuns.OrderCycles.NewNames.{FewNames}
+use Rattle.order_runs.specs.CycleRuns.OrderCycles.NewNames.{AvoidsFew, EachFresh}
 use Rattle.run_rules.specs.ImportRules.Needs.{serving, avoided}
 use Rattle.run_rules.specs.Naming.{Named, fuel_for, fresh_name, package_path, own_name, names_here, environment_here, added_import, named_packages, name_added}
-use Rattle.run_rules.specs.Run.{Standing, Logged, Next, is_commented}
+use Rattle.run_rules.specs.Run.{Standing, Logged, Next, step_in, is_commented}
 use Rattle.run_rules.specs.Sites.{MarkRef, Where}
 use Rattle.run_rules.specs.Steps.{At, Found}
 use Rattle.run_rules.specs.Surroundings.{Place}
 use Rattle.run_rules.proofs.ImportRules.NeededMeans.{any_append}
-use Rattle.constant_modules.specs.FewNames.Fresh.{AvoidsFew, EachFresh}
 
 -- ---- one more name to avoid
 
@@ -93,13 +92,24 @@ module _ (ps : List (Package At)) (w : Where At) (p : Place At) where
             later (m ∷ names) (m ∷ bound) (taken-grows w.source.tree blocks bound names m t) (omega (arith, few)),
           )
 
+-- of the first use that becomes a form, before a step over it is known
+pub found-fresh : (marks : List MarkRef) (st : Standing) (f : Found At) → step_in marks st ≡ Some f → AvoidsFew st.packages f → EachFresh st.packages f.site.at (binders_of st.packages f.site.mark) f.named
+found-fresh marks st f first a =
+    let well : FoundWell st.packages marks (is_commented st) f = found_well st.packages marks (is_commented st) f first in
+    subst (EachFresh st.packages f.site.at (binders_of st.packages f.site.mark)) (sym well.names)
+    (each-fresh st.packages f.site.at f.site.place a.names (binders_of st.packages f.site.mark) well.packages a.taken
+    (subst (λ (ns : List Named). length a.names + length ns < 2 ^ 64) well.names a.few))
+
 pub step-fresh : (marks : List MarkRef) (st : Standing) (l : Logged) (after : Standing) (n : Next marks st l after) → AvoidsFew st.packages n.found
     → EachFresh st.packages n.found.site.at (binders_of st.packages n.found.site.mark) n.found.named
-step-fresh marks st l after n a =
-    let well : FoundWell st.packages marks (is_commented st) n.found = found_well st.packages marks (is_commented st) n.found n.is_first in
-    subst (EachFresh st.packages n.found.site.at (binders_of st.packages n.found.site.mark)) (sym well.names)
-    (each-fresh st.packages n.found.site.at n.found.site.place a.names (binders_of st.packages n.found.site.mark) well.packages a.taken
-    (subst (λ (ns : List Named). length a.names + length ns < 2 ^ 64) well.names a.few))
+step-fresh marks st l after n a = found-fresh marks st n.found n.is_first a
+
+-- the first new name for a package, before the form names any
+pub fresh-there : (ps : List (Package At)) (f : Found At) → AvoidsFew ps f → (q : ℕ)
+    → IsFresh (own_name ps q) f.site.at.source.tree (avoided (names_here ps f.site.at) (binders_of ps f.site.mark)) (fresh_name f.site.at.source.tree (avoided (names_here ps f.site.at) (binders_of ps f.site.mark)) (own_name ps q))
+fresh-there ps f a q =
+    let avoid : List (List ℕ) = avoided (names_here ps f.site.at) (binders_of ps f.site.mark) in
+    found-first f.site.at.source.tree avoid (own_name ps q) (few-leave f.site.at.source.tree avoid (own_name ps q) a.names a.taken (leaves (length a.names) (length f.named) a.few))
 
 -- ---- the names as they are listed
 
@@ -135,7 +145,8 @@ module _ {S : Type 0} (file : File S) (avoid : List (List ℕ)) where
       let g : length (keyword_spellings ++ predeclared) ≡ length keyword_spellings + length predeclared = length-append keyword_spellings predeclared in
       omega (arith, a, b, c, d, e, f, g)
 
-pub listed-few : (ps : List (Package At)) (f : Found At) → FewNames ps f → AvoidsFew ps f
+-- where the names to avoid are fewer than 2^64 as they are listed, each as often as it stands, few are avoided
+pub listed-few : (ps : List (Package At)) (f : Found At) → fuel_for f.site.at.source.tree (avoided (names_here ps f.site.at) (binders_of ps f.site.mark)) + length f.named < 2 ^ 64 → AvoidsFew ps f
 listed-few ps f few =
     let avoid : List (List ℕ) = avoided (names_here ps f.site.at) (binders_of ps f.site.mark) in
     record {
