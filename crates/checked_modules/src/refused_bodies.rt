@@ -4,4 +4,4 @@
 mod laws;
 pub mod printed_packages;
 
-pub use laws::{first_bodies_by_files, short_decimals_are_literals};
+pub use laws::first_bodies_by_files;

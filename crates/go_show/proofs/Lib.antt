@@ -2,4 +2,3 @@ mod OutcomeLemmas
 mod ReadTexts
 mod ModuleLemmas
 mod ConstantLemmas
-mod UseLemmas

@@ -1,4 +1,5 @@
--- The packages of a module that is read: they stand in the order of their imports, and literals are well spelled.
+-- The packages of a module that is read: they stand in the order of their imports, literals are well spelled, and the
+-- bodies of functions are walked.
 use Rattle.std.proofs.Common.{◌≡◌, ℕ, List, subst, sym}
 use Rattle.pkg_graph.specs.declared.packages.Package.{Package}
 use Rattle.package_blocks.specs.Collected.{AreOrdered}
@@ -8,6 +9,8 @@ use Rattle.module_reading.specs.Files.{sources_of}
 use Rattle.module_reading.specs.Modules.{IsReadFrom, go_sources}
 use Rattle.collected.specs.ValueHeaders.SpelledDecls.{PackagesAreSpelled}
 use Rattle.collected.proofs.ValueHeaders.SpelledHeaders.{read_packages_spelled}
+use Rattle.checked_modules.specs.FunctionBodies.Walked.{PackagesAreWalked}
+use Rattle.checked_modules.proofs.FunctionBodies.WalkedFiles.{read_packages_walked}
 use Rattle.source_files.specs.declared.files.SourceFile.{SourceFile}
 
 pub read_are_ordered :
@@ -25,3 +28,11 @@ read_are_spelled packages files m r p =
     subst (λ ps. PackagesAreSpelled (views ps)) (sym p)
     (subst PackagesAreSpelled (sym r.packages_are)
     (read_packages_spelled m.home.path (go_sources (sources_of files)) r.trees r.trees_are))
+
+pub read_are_walked :
+    (packages : List Package) (files : List SourceFile) (m : ReadModule) → IsReadFrom files m →
+    packages ≡ m.graph.packages.items → PackagesAreWalked (views packages)
+read_are_walked packages files m r p =
+    subst (λ ps. PackagesAreWalked (views ps)) (sym p)
+    (subst PackagesAreWalked (sym r.packages_are)
+    (read_packages_walked m.home.path (go_sources (sources_of files)) r.trees r.trees_are))

@@ -4,7 +4,7 @@ ghost use Rattle.std.specs.Prelude.{◌≡◌, length, true};
 ghost use Rattle.type_table.specs.Rows.{IdsBelow};
 ghost use Rattle.initial_values.specs.ValueBlocks.Values.{AreThere};
 
-use crate::places::Cursor;
+use crate::places::{Cursor, path_of};
 use crate::values::value_line;
 use go_tree::{FuncDecl, NameAtList, NoMemory, Place, Text, TypeSpec};
 use header_order::RefusedPlace;
@@ -354,17 +354,6 @@ fn write_package<W: Write>(
         declared,
         from,
     )
-}
-
-/// The path of the file of a place that is refused.
-fn path_of<'a>(packages: &'a [Package], refused: RefusedPlace) -> &'a [u8] {
-    let Some(package) = packages.get(refused.package as usize) else {
-        return b"".as_slice();
-    };
-    match package.files.items().get(refused.file) {
-        Some(tree) => tree.path.items(),
-        None => b"".as_slice(),
-    }
 }
 
 /// Writes `PATH:LINE:COL: refused` for a place that is refused.

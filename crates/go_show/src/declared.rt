@@ -8,7 +8,8 @@ ghost use Rattle.module_reading.specs.Modules.{IsReadFrom};
 
 use crate::declarations::{Declarations, write_declarations, write_refused};
 use crate::folder::{Unread, source_files, tell};
-use crate::refused::first_refused;
+use checked_modules::file_places::file_places;
+use checked_modules::refused_declaration;
 use collected::{Collected, collect};
 use fix_io::{RealSink, RealTree};
 use folder_reading::MAX_FILES;
@@ -37,7 +38,7 @@ impl From<io::Error> for Unshown {
 }
 
 /// Why files are no module.
-fn refusal_of(alloc: Global, files: &[SourceFile]) -> Unread
+pub(crate) fn no_module(alloc: Global, files: &[SourceFile]) -> Unread
     requires count { length files.now < 2 ^ 32 }
     requires small { All (λ f. length f.bytes ≤ MAX_FILE_BYTES) files.now }
 {
@@ -96,8 +97,9 @@ fn write_packages<W: Write>(
         paths: &paths,
     };
     write_declarations(alloc, out, files, packages, order, &declared)?;
-    let first = first_refused(
-        alloc, tables, &blocks, &places, packages, order, &headers, &refused,
+    let trees = file_places(alloc, packages, order, &headers)?;
+    let first = refused_declaration(
+        alloc, packages, order, tables, &blocks, &places, &trees, &headers, &refused,
     )?;
     match first {
         Some(place) => write_refused(out, files, packages, place),
@@ -134,7 +136,7 @@ fn show_files<R: Print + AllocGlobal>(
         Ok(module) => module,
         Err(fault) => {
             drop(fault);
-            return Err(Unshown::Unread(refusal_of(alloc, files)));
+            return Err(Unshown::Unread(no_module(alloc, files)));
         }
     };
     let mut out = BufWriter::new(alloc, io::writer(rt))?;
@@ -144,7 +146,7 @@ fn show_files<R: Print + AllocGlobal>(
 }
 
 /// Writes gofix's line of a folder that is no module.
-fn tell_of<R: Files + Print + AllocGlobal>(
+pub(crate) fn tell_of<R: Files + Print + AllocGlobal>(
     rt: &R,
     tree: &RealTree<R>,
     unread: &Unread,

@@ -1,4 +1,5 @@
-//! `go_show WORD FILE` shows a file of Go source, and `go_show declared FOLDER` what a module declares.
+//! `go_show WORD FILE` shows a file of Go source, `go_show declared FOLDER` what a module declares, and `go_show check
+//! FOLDER` whether a module is well typed.
 //!
 //! `tokens` writes its tokens, one a line: `START END KIND SPELLING`, with the spelling in
 //! hexadecimal, or why the file has none: `BAD OFFSET` or `NOTUTF8 OFFSET`. `tree` writes `read`
@@ -26,6 +27,9 @@
 //! declared: `FILE:LINE:COL: DECLARATION`, with the type as Go writes it, and the value of a constant. Behind them
 //! stands `FILE:LINE:COL: refused` for the first import or declaration that is refused. Of a folder that is no module
 //! it writes what gofix does.
+//!
+//! `check` reads the module in a folder so too, and writes `typed` where it is well typed. Of one that isn't, and of a
+//! folder that is no module, it writes gofix's line, with the place that is refused first.
 #![tactic(auto)]
 
 ghost use Rattle.std.specs.Prelude.{◌≤◌, IfOk, OnOk, length, vec_len};
@@ -36,6 +40,7 @@ ghost use Rattle.go_show.specs.Outcomes.{ShowsFile, ShowsTree};
 ghost use Rattle.go_tree.specs.FileView.{file_of};
 
 mod blocks;
+mod checked;
 mod declarations;
 mod declared;
 mod folder;
@@ -46,11 +51,11 @@ mod names;
 mod needs;
 mod parts;
 mod places;
-mod refused;
 mod tree;
 mod uses;
 mod values;
 
+use checked::check_folder;
 use declared::show_declared;
 use go_parse::read_file;
 use go_print::print_file;
@@ -74,7 +79,7 @@ use uses::write_uses;
 /// Why nothing is shown.
 #[derive(Debug, Drop, Error)]
 enum Fault {
-    #[error("usage: go_show tokens|tree|print|names|parts|marks|uses FILE, or go_show imports|need FILE WORD.., or go_show declared FOLDER")]
+    #[error("usage: go_show tokens|tree|print|names|parts|marks|uses FILE, or go_show imports|need FILE WORD.., or go_show declared|check FOLDER")]
     Usage,
     #[error("no module")]
     NoModule,
@@ -120,17 +125,21 @@ fn takes_words(part: Part) -> bool {
     matches!(part, Part::Imports | Part::Need)
 }
 
-/// What the command's words ask for: what the module in a folder declares, or a part of a file, with the words behind
-/// the file's name.
+/// What the command's words ask for: what the module in a folder declares, whether one is well typed, or a part of a
+/// file, with the words behind the file's name.
 #[derive(Drop)]
 enum Request {
     Declared(String),
+    Check(String),
     File(Part, String, Vec<String>),
 }
 
 fn asked_by(word: &str, path: String, more: Vec<String>) -> Option<Request> {
     if word == "declared" && more.is_empty() {
         return Some(Request::Declared(path));
+    }
+    if word == "check" && more.is_empty() {
+        return Some(Request::Check(path));
     }
     let part = part_of(word)?;
     if more.is_empty() || takes_words(part) {
@@ -214,13 +223,26 @@ fn write_print<W: Write>(alloc: Global, out: &mut W, text: &[u8]) -> io::Result<
     }
 }
 
-/// Shows what the module in a folder declares.
-fn show_module<R: Env + Files + Print + AllocGlobal>(rt: &R, path: String) -> Result<(), Fault> {
-    match show_declared(rt, path.as_str()) {
+/// The answer for a folder of which was told whether it holds such a module as was asked for. Where it doesn't, gofix's
+/// line was written.
+fn answer_of(folder: String, told: io::Result<bool>) -> Result<(), Fault> {
+    match told {
         Ok(true) => Ok(()),
         Ok(false) => Err(Fault::NoModule),
-        Err(fault) => Err(Fault::Unreadable(path, fault)),
+        Err(fault) => Err(Fault::Unreadable(folder, fault)),
     }
+}
+
+/// Shows what the module in a folder declares.
+fn show_module<R: Env + Files + Print + AllocGlobal>(rt: &R, path: String) -> Result<(), Fault> {
+    let told = show_declared(rt, path.as_str());
+    answer_of(path, told)
+}
+
+/// Shows whether the module in a folder is well typed.
+fn check_module<R: Env + Files + Print + AllocGlobal>(rt: &R, path: String) -> Result<(), Fault> {
+    let told = check_folder(rt, path.as_str());
+    answer_of(path, told)
 }
 
 /// Shows a part of a file.
@@ -250,6 +272,7 @@ fn show_file<R: Files + Print + AllocGlobal>(
 fn show<R: Env + Files + Print + AllocGlobal>(rt: &R) -> Result<(), Fault> {
     match asked(rt)? {
         Request::Declared(path) => show_module(rt, path),
+        Request::Check(path) => check_module(rt, path),
         Request::File(part, path, more) => show_file(rt, part, path, &more),
     }
 }

@@ -1,6 +1,8 @@
-//! Places of a text, one after another.
+//! Places of a text, one after another, and the path of the file of a place.
 
 use go_tree::Place;
+use header_order::RefusedPlace;
+use pkg_graph::Package;
 
 /// A text, and a place in it from which later ones are reached, so that all places of a text take time that is
 /// linear in it.
@@ -40,5 +42,16 @@ impl<'a> Cursor<'a> {
             self.step(text[i]);
         }
         self.place
+    }
+}
+
+/// The path of the file of a place that is refused.
+pub(crate) fn path_of<'a>(packages: &'a [Package], refused: RefusedPlace) -> &'a [u8] {
+    let Some(package) = packages.get(refused.package as usize) else {
+        return b"".as_slice();
+    };
+    match package.files.items().get(refused.file) {
+        Some(tree) => tree.path.items(),
+        None => b"".as_slice(),
     }
 }

@@ -22,7 +22,7 @@ use Rattle.fix_run.specs.PlannedFiles.Limits.{file_with_path, path_in}
 use Rattle.read_modules.specs.Modules.{packages_in}
 use Rattle.refusals.specs.declared.refusal.Detail.TheVariants as detail
 use Rattle.refusals.specs.declared.refusal.Refusal.{Refusal}
-use Rattle.checked_modules.specs.RefusedBodies.PrintedPackages.Packages.{print_only}
+use Rattle.checked_modules.specs.FunctionBodies.Walked.{PackagesAreWalked, PackagesReadAreWalked}
 use Rattle.run_rules.specs.Programs.{linked}
 use Rattle.run_rules.specs.Respanned.{source_with}
 use Rattle.run_rules.specs.Run.{as_read}
@@ -63,9 +63,10 @@ are_spelled law files m r packages e =
     subst (λ (ps : List Package). PackagesAreSpelled (views ps)) (sym e)
     (subst PackagesAreSpelled (sym r.packages_are) (law m.home.path (go_sources (sources_of files)) r.trees r.trees_are))
 
--- the form, of packages that were read
-pub prints_views : (m : ReadModule) (packages : List Package) → packages ≡ m.graph.packages.items → print_only (packages_in m) ≡ true → print_only (views packages) ≡ true
-prints_views m packages e h = subst (λ (ps : List Package). print_only (views ps) ≡ true) (sym e) h
+pub are_walked : PackagesReadAreWalked → (files : List SourceFile) (m : ReadModule) → IsReadFrom files m → (packages : List Package) → packages ≡ m.graph.packages.items → PackagesAreWalked (views packages)
+are_walked law files m r packages e =
+    subst (λ (ps : List Package). PackagesAreWalked (views ps)) (sym e)
+    (subst PackagesAreWalked (sym r.packages_are) (law m.home.path (go_sources (sources_of files)) r.trees r.trees_are))
 
 -- ---- what is told
 

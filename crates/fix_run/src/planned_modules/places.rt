@@ -1,7 +1,7 @@
 //! Whether a module is well typed, or the place of its first fault, as it is told.
 
 ghost use Rattle.std.specs.Prelude.{◌≡◌, ◌<◌, ◌≤◌, ◌^◌, All, IfOk, IfSome, Some, length, map};
-ghost use Rattle.std.specs.Prelude.{slice_get, true};
+ghost use Rattle.std.specs.Prelude.{slice_get};
 ghost use Rattle.std.specs.Option.{option_map};
 ghost use Rattle.go_tree.specs.declared.spans.Span.{Span};
 ghost use Rattle.go_tree.specs.GoTypes.Answers.{given};
@@ -9,12 +9,13 @@ ghost use Rattle.go_tree.specs.GoTypes.WellTyped.{NotTyped};
 ghost use Rattle.checked_modules.specs.Declarations.{refusal_of};
 ghost use Rattle.module_reading.specs.Modules.{IsReadFrom};
 ghost use Rattle.pkg_graph.specs.Views.{package_view};
-ghost use Rattle.checked_modules.specs.RefusedBodies.PrintedPackages.Packages.{print_only};
 ghost use Rattle.read_modules.specs.Modules.{packages_in};
 ghost use Rattle.fix_run.specs.PlannedModules.Places.{IsTypingOf, TellsPlace};
 
 use crate::planned_files::read_file;
-use checked_modules::{RefusedPlace, first_refused, read_values_are_spelled};
+use checked_modules::{
+    RefusedPlace, read_bodies_are_walked, read_values_are_spelled, refused_place,
+};
 use go_tree::{MAX_FILE_BYTES, NoMemory};
 use module_reading::ReadModule;
 use module_refusals::at_byte;
@@ -54,9 +55,8 @@ fn tell_place(files: &[SourceFile], packages: &[Package], refused: RefusedPlace)
     Some(at_byte(file, refused.at.start, Detail::NotTyped))
 }
 
-/// How the place is told that is refused first of a module that was read from these files, of constants and of
-/// functions that print them; None where it is well typed. An error where memory is refused; also where no file with
-/// the path of the place was read, which never comes.
+/// How the place is told that is refused first of a module that was read from these files; None where it is well typed.
+/// An error where memory is refused; also where no file with the path of the place was read, which never comes.
 pub(crate) fn typing_fault(
     alloc: Global,
     files: &[SourceFile],
@@ -65,13 +65,13 @@ pub(crate) fn typing_fault(
     requires count { length files.now < 2 ^ 32 }
     requires small { All (λ f. length f.bytes ≤ MAX_FILE_BYTES) files.now }
     requires read { IsReadFrom files.now read.now }
-    requires prints { print_only (packages_in read.now) ≡ true }
     ensures { IfOk result (IsTypingOf files.now (packages_in read.now)) }
 {
     modules_may_be_loaded();
     read_values_are_spelled();
+    read_bodies_are_walked();
     let packages = read.graph.packages();
-    let refused = first_refused(alloc, packages, read.graph.order())?;
+    let refused = refused_place(alloc, packages, read.graph.order())?;
     let Some(place) = refused else {
         return Ok(None);
     };

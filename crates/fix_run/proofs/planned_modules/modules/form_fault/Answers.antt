@@ -8,8 +8,8 @@ returns-then-not-print_only-clause-refused c =
     refused_unprinted c.args.files.now c.args.read.now c.requires.read only c.modules_are_read.ensures c.not_built.result c.print_only.result c.packages.result.now c.not_built.ensures c.print_only.ensures
     c.packages.ensures c.if-not-print_only.true
 
-pub typing_fault-requires-clause-prints : goal.typing_fault-requires-clause-prints
-typing_fault-requires-clause-prints c =
+pub returns-clause-prints : goal.returns-clause-prints
+returns-clause-prints c =
     prints_as c.args.read.now c.print_only.result c.packages.result.now c.print_only.ensures c.packages.ensures c.if-not-print_only.false
 
 pub returns-in_err-typing_fault-clause-refused : goal.returns-in_err-typing_fault-clause-refused

@@ -1,25 +1,25 @@
 use Rattle.std.proofs.Common.{◌∙◌, ◌<◌, ◌^◌, sym, ap, subst, List, length}
 use Rattle.checked_modules.specs.Declarations.{refusal_of}
 use Rattle.pkg_graph.specs.declared.packages.Package.{Package}
-use Rattle.fix_run.proofs.PlannedModules.TypingFaults.{are_ordered, are_spelled, prints_views, typed_none, typed_some}
+use Rattle.fix_run.proofs.PlannedModules.TypingFaults.{are_ordered, are_spelled, are_walked, typed_none, typed_some}
 use Rattle.fix_run.proofs.planned_modules.places.typing_fault.Goals as goal
 
-pub first_refused-requires-clause-few : goal.first_refused-requires-clause-few
-first_refused-requires-clause-few c =
+pub refused_place-requires-clause-few : goal.refused_place-requires-clause-few
+refused_place-requires-clause-few c =
     subst (λ (ps : List Package). length ps < 2 ^ 32) (sym c.packages-packages.ensures)
     (c.modules_may_be_loaded.ensures c.args.files.now c.args.read.now c.requires.read c.requires.count).0
 
-pub first_refused-requires-clause-order : goal.first_refused-requires-clause-order
-first_refused-requires-clause-order c =
+pub refused_place-requires-clause-order : goal.refused_place-requires-clause-order
+refused_place-requires-clause-order c =
     are_ordered c.args.files.now c.args.read.now c.requires.read c.packages-packages.result.now c.order.result.now c.packages-packages.ensures c.order.ensures
 
-pub first_refused-requires-clause-spelled : goal.first_refused-requires-clause-spelled
-first_refused-requires-clause-spelled c =
+pub refused_place-requires-clause-spelled : goal.refused_place-requires-clause-spelled
+refused_place-requires-clause-spelled c =
     are_spelled c.read_values_are_spelled.ensures.packages c.args.files.now c.args.read.now c.requires.read c.packages-packages.result.now c.packages-packages.ensures
 
-pub first_refused-requires-clause-prints : goal.first_refused-requires-clause-prints
-first_refused-requires-clause-prints c =
-    prints_views c.args.read.now c.packages-packages.result.now c.packages-packages.ensures c.requires.prints
+pub refused_place-requires-clause-walked : goal.refused_place-requires-clause-walked
+refused_place-requires-clause-walked c =
+    are_walked c.read_bodies_are_walked.ensures.packages c.args.files.now c.args.read.now c.requires.read c.packages-packages.result.now c.packages-packages.ensures
 
 pub returns-in_default : goal.returns-in_default
 returns-in_default c =
