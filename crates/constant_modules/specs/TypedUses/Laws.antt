@@ -37,7 +37,7 @@ StepsUseExpressions =
     → (e : Expr At) × (n.found.site.part ≡ an_expr e)
 
 -- So the first use of such a program that becomes a form uses a constant that is declared as a name, as put_forms asks,
--- where the names to avoid are fewer than 2^64.
+-- where few names are avoided.
 abbrev pub FirstUsesUseConstants : Type 0
 FirstUsesUseConstants =
     (marks : List MarkRef) (st : Standing) (f : Found At) (old : FileText) → IsReady st
