@@ -18,7 +18,8 @@ use Rattle.go_tree.specs.declared.go_words.terminals.Terminal.{Terminal}
 use Rattle.go_tree.specs.declared.go_words.terminals.Terminal.TheVariants as code
 use Rattle.go_productions.specs.Terminals.{first_of, rest_of}
 use Rattle.go_productions.specs.Parts.{onto, in_front}
-use Rattle.go_statements.specs.StmtParts.{evaluated, arm_seen, arm_at, arm_body_at, arm_test_at, arm_and, switch_body_at, switch_tag_at, switch_after_at}
+use Rattle.go_tree.specs.Parts.{evaluated}
+use Rattle.go_statements.specs.StmtParts.{arm_seen, arm_at, arm_body_at, arm_test_at, arm_and, switch_body_at, switch_tag_at, switch_after_at}
 use Rattle.go_productions.proofs.Fronts.{front_none, front_push, front_last, then_some, then_none}
 use Rattle.go_productions.proofs.Steps.{fails, lacks, no_brace, on_brace, no_end_brace, on_end_brace}
 

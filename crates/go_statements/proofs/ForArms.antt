@@ -17,7 +17,8 @@ use Rattle.go_tree.specs.declared.go_words.terminals.Terminal.{Terminal}
 use Rattle.go_tree.specs.declared.go_words.terminals.Terminal.TheVariants as code
 use Rattle.go_productions.specs.Terminals.{first_of, rest_of}
 use Rattle.go_productions.specs.Parts.{skipped}
-use Rattle.go_statements.specs.StmtParts.{is_short, short_after, defines_here, evaluated, range_here, for_body_at, for_post_at, for_test_at, for_plain_at, range_at, for_clause_at}
+use Rattle.go_tree.specs.Parts.{evaluated}
+use Rattle.go_statements.specs.StmtParts.{is_short, short_after, defines_here, range_here, for_body_at, for_post_at, for_test_at, for_plain_at, range_at, for_clause_at}
 use Rattle.go_statements.proofs.SimpleArms.{names_skipped, names_behind}
 use Rattle.go_productions.proofs.Steps.{lacks, no_semicolon, on_semicolon}
 

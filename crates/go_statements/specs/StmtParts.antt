@@ -2,11 +2,12 @@
 use Rattle.std.specs.Prelude.{Bool, true, false, List, map, ◌∷◌, Option, Some, None, option_and_then}
 use Rattle.go_tree.specs.declared.spans.Span.{Span}
 use Rattle.go_tree.specs.Tree.{NameAt, TypeExpr, Expr, Exprs, ExprOption, Stmt, Stmts, StmtOption, BlockOption}
-use Rattle.go_tree.specs.Tree.{RangeLeft, Arms, arm, Cases, case, ValueSpecs, spec, define, eval, call, expr_and}
+use Rattle.go_tree.specs.Tree.{RangeLeft, Arms, arm, Cases, case, ValueSpecs, spec, define, call, expr_and}
 use Rattle.go_tree.specs.Tree.{no_exprs}
 use Rattle.go_tree.specs.File.{Decl, values}
 use Rattle.go_tree.specs.Lists.{specs_from}
 use Rattle.go_tree.specs.View.{var_spec_of}
+use Rattle.go_tree.specs.Parts.{evaluated}
 use Rattle.go_statements.specs.declared.decls.Group.{Group}
 use Rattle.go_tree.specs.GoWords.Terminals.{lex, assign, colon, key_case, key_default, key_range}
 use Rattle.go_read.specs.SpellsSpans.{span_to}
@@ -43,11 +44,6 @@ define_at header ts =
     option_and_then
     (λ ns. option_and_then (λ ys. Some (define (span_to ts ys.1) ns.0 ys.0, ys.1))
     (at span_to (read_exprs header) (rest_of ns.1))) (at span_to read_names ts)
-
--- the expression of a statement that is one alone
-abbrev pub evaluated : Stmt Span → Option (Expr Span)
-evaluated (eval s e) = Some e
-evaluated _ = None
 
 -- the one expression of these, where there is one alone
 abbrev pub only : Exprs Span → Option (Expr Span)

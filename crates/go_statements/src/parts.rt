@@ -5,7 +5,8 @@ ghost use Rattle.std.specs.Option.{option_map};
 ghost use Rattle.go_tree.specs.Lists.{exprs_from};
 ghost use Rattle.go_tree.specs.Tree.{assigns};
 ghost use Rattle.go_tree.specs.View.{boxed_expr_option_of, expr_of, plain_expr_option_of, range_left_of, stmt_of};
-ghost use Rattle.go_statements.specs.StmtParts.{evaluated, is_bare_call};
+ghost use Rattle.go_tree.specs.Parts.{evaluated};
+ghost use Rattle.go_statements.specs.StmtParts.{is_bare_call};
 
 use go_tree::{Expr, ExprList, RangeLeft, Stmt};
 
@@ -13,13 +14,7 @@ use go_tree::{Expr, ExprList, RangeLeft, Stmt};
 pub(crate) fn evaluated(stmt: Stmt) -> Option<Expr>
     ensures { evaluated (stmt_of stmt) ≡ option_map expr_of result }
 {
-    match stmt {
-        Stmt::Eval { e, .. } => Some(e),
-        other => {
-            drop(other);
-            None
-        }
-    }
+    stmt.evaluated()
 }
 
 /// Whether the expression is a call without parentheses around it.

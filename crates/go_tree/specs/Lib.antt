@@ -1,6 +1,7 @@
 pub mod Tree
 pub mod File
 pub mod Lists
+pub mod Parts
 pub mod View
 pub mod FileView
 pub mod Bare

@@ -25,7 +25,6 @@ pub enum Rest {
 }
 
 /// An expression (Go specification, Expressions). Parentheses make no node.
-#[derive(Drop)]
 #[cycle(tree)]
 pub enum Expr {
     Ident {
@@ -97,11 +96,83 @@ pub enum Expr {
     },
 }
 
+impl Drop for Expr {
+    #[cycle(tree_drop)]
+    fn drop(self) {
+        match self {
+            Expr::Ident { span: _, name: _ } => (),
+            Expr::IntLit {
+                span: _,
+                spelling: _,
+            } => (),
+            Expr::RuneLit {
+                span: _,
+                spelling: _,
+            } => (),
+            Expr::StrLit {
+                span: _,
+                spelling: _,
+            } => (),
+            Expr::Composite {
+                span: _,
+                of: _,
+                elems: _,
+            } => (),
+            Expr::Selector {
+                span: _,
+                base: _,
+                name: _,
+            } => (),
+            Expr::Index {
+                span: _,
+                base: _,
+                at: _,
+            } => (),
+            Expr::Slice {
+                span: _,
+                base: _,
+                from: _,
+                to: _,
+            } => (),
+            Expr::Call {
+                span: _,
+                callee: _,
+                args: _,
+                rest: _,
+            } => (),
+            Expr::FuncLit {
+                span: _,
+                sig: _,
+                body: _,
+            } => (),
+            Expr::TypeOperand { span: _, of: _ } => (),
+            Expr::Unary {
+                span: _,
+                op: _,
+                e: _,
+            } => (),
+            Expr::Binary {
+                span: _,
+                op: _,
+                left: _,
+                right: _,
+            } => (),
+            Expr::Star { span: _, e: _ } => (),
+        }
+    }
+}
+
 /// Expressions in their order.
-#[derive(Drop)]
 #[cycle(tree)]
 pub struct ExprList {
     items: Vec<Expr>,
+}
+
+impl Drop for ExprList {
+    #[cycle(tree_drop)]
+    fn drop(self) {
+        let ExprList { items: _ } = self;
+    }
 }
 
 #[tactic(auto, using(crate::proofs::ListLemmas::list_lemmas))]
@@ -133,18 +204,33 @@ pub struct Elem {
 }
 
 /// A key or a value of a composite literal: an expression, or elements in braces whose type is left out.
-#[derive(Drop)]
 #[cycle(tree)]
 pub enum Value {
     Plain(Expr),
     Braced { span: Span, elems: ElemList },
 }
 
+impl Drop for Value {
+    #[cycle(tree_drop)]
+    fn drop(self) {
+        match self {
+            Value::Plain(_) => (),
+            Value::Braced { span: _, elems: _ } => (),
+        }
+    }
+}
+
 /// The elements of a composite literal.
-#[derive(Drop)]
 #[cycle(tree)]
 pub struct ElemList {
     items: Vec<Elem>,
+}
+
+impl Drop for ElemList {
+    #[cycle(tree_drop)]
+    fn drop(self) {
+        let ElemList { items: _ } = self;
+    }
 }
 
 #[tactic(auto, using(crate::proofs::ListLemmas::list_lemmas))]

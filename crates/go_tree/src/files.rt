@@ -17,9 +17,14 @@ pub struct ImportSpec {
 }
 
 /// The specs of an import declaration.
-#[derive(Drop)]
 pub struct ImportSpecList {
     items: Vec<ImportSpec>,
+}
+
+impl Drop for ImportSpecList {
+    fn drop(self) {
+        let ImportSpecList { items: _ } = self;
+    }
 }
 
 impl Model for ImportSpecList {
@@ -56,9 +61,14 @@ pub struct ImportDecl {
 }
 
 /// The import declarations of a file.
-#[derive(Drop)]
 pub struct ImportDeclList {
     items: Vec<ImportDecl>,
+}
+
+impl Drop for ImportDeclList {
+    fn drop(self) {
+        let ImportDeclList { items: _ } = self;
+    }
 }
 
 impl Model for ImportDeclList {
@@ -96,9 +106,14 @@ pub struct TypeSpec {
 }
 
 /// The specs of a type declaration.
-#[derive(Drop)]
 pub struct TypeSpecList {
     items: Vec<TypeSpec>,
+}
+
+impl Drop for TypeSpecList {
+    fn drop(self) {
+        let TypeSpecList { items: _ } = self;
+    }
 }
 
 impl Model for TypeSpecList {
@@ -159,7 +174,6 @@ pub struct FuncDecl {
 }
 
 /// A declaration of the package block (Go specification, Declarations and scope).
-#[derive(Drop)]
 pub enum Decl {
     Const(ConstDecl),
     Var(VarDecl),
@@ -167,10 +181,26 @@ pub enum Decl {
     Func(FuncDecl),
 }
 
+impl Drop for Decl {
+    fn drop(self) {
+        match self {
+            Decl::Const(_) => (),
+            Decl::Var(_) => (),
+            Decl::Types(_) => (),
+            Decl::Func(_) => (),
+        }
+    }
+}
+
 /// The declarations of a file that aren't imports.
-#[derive(Drop)]
 pub struct DeclList {
     items: Vec<Decl>,
+}
+
+impl Drop for DeclList {
+    fn drop(self) {
+        let DeclList { items: _ } = self;
+    }
 }
 
 impl Model for DeclList {

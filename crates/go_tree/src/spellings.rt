@@ -11,17 +11,30 @@ use std::marker::Model;
 pub const INLINE_BYTES: usize = 14;
 
 /// The bytes of a spelling: the first `len` cells, or a list.
-#[derive(Drop)]
 pub enum SpellingBytes {
     Inline { len: u8, cells: [u8; INLINE_BYTES] },
     Listed(Box<Vec<u8>>),
 }
 
+impl Drop for SpellingBytes {
+    fn drop(self) {
+        match self {
+            SpellingBytes::Inline { len: _, cells: _ } => (),
+            SpellingBytes::Listed(_) => (),
+        }
+    }
+}
+
 /// How a token is spelled: its bytes. Up to `INLINE_BYTES` of them stand in the value itself, and more
 /// in an allocation, so that most tokens take no memory beyond their list's.
-#[derive(Drop)]
 pub struct Spelling {
     bytes: SpellingBytes,
+}
+
+impl Drop for Spelling {
+    fn drop(self) {
+        let Spelling { bytes: _ } = self;
+    }
 }
 
 impl Model for Spelling {

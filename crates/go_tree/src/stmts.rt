@@ -8,6 +8,9 @@ ghost use Rattle.go_tree.specs.declared.stmts.ArmList.{out-ArmList};
 ghost use Rattle.go_tree.specs.declared.stmts.CaseList.{out-CaseList};
 ghost use Rattle.go_tree.specs.View.{arm_of, arms_of, case_of, cases_of, const_spec_of, const_specs_of, stmt_of};
 ghost use Rattle.go_tree.specs.View.{stmts_of, var_spec_of, var_specs_of};
+ghost use Rattle.std.specs.Option.{option_map};
+ghost use Rattle.go_tree.specs.Parts.{evaluated};
+ghost use Rattle.go_tree.specs.View.{expr_of};
 ghost use Rattle.go_tree.specs.Lists.{arms_from, cases_from, specs_from, stmts_from};
 
 use crate::exprs::{Expr, ExprList};
@@ -17,7 +20,6 @@ use crate::texts::{NameAt, NameAtList};
 use crate::types::TypeExpr;
 
 /// A statement (Go specification, Statements).
-#[derive(Drop)]
 #[cycle(tree)]
 pub enum Stmt {
     Const(ConstDecl),
@@ -93,11 +95,94 @@ pub enum Stmt {
     },
 }
 
+impl Drop for Stmt {
+    #[cycle(tree_drop)]
+    fn drop(self) {
+        match self {
+            Stmt::Const(_) => (),
+            Stmt::Var(_) => (),
+            Stmt::Empty { span: _ } => (),
+            Stmt::Eval { span: _, e: _ } => (),
+            Stmt::Step {
+                span: _,
+                e: _,
+                up: _,
+            } => (),
+            Stmt::Assign {
+                span: _,
+                left: _,
+                op: _,
+                right: _,
+            } => (),
+            Stmt::Define {
+                span: _,
+                names: _,
+                right: _,
+            } => (),
+            Stmt::Return { span: _, values: _ } => (),
+            Stmt::Break { span: _, label: _ } => (),
+            Stmt::Continue { span: _, label: _ } => (),
+            Stmt::Inner(_) => (),
+            Stmt::If {
+                span: _,
+                arms: _,
+                last: _,
+            } => (),
+            Stmt::For {
+                span: _,
+                first: _,
+                test: _,
+                post: _,
+                body: _,
+            } => (),
+            Stmt::Range {
+                span: _,
+                left: _,
+                over: _,
+                body: _,
+            } => (),
+            Stmt::Switch {
+                span: _,
+                first: _,
+                tag: _,
+                cases: _,
+            } => (),
+            Stmt::Defer { span: _, call: _ } => (),
+            Stmt::Label {
+                span: _,
+                name: _,
+                stmt: _,
+            } => (),
+        }
+    }
+}
+
+impl Stmt {
+    /// The expression of a statement that is one alone.
+    pub fn evaluated(self) -> Option<Expr>
+        ensures { evaluated (stmt_of self) ≡ option_map expr_of result }
+    {
+        match self {
+            Stmt::Eval { span: _, e } => Some(e),
+            other => {
+                drop(other);
+                None
+            }
+        }
+    }
+}
+
 /// Statements in their order.
-#[derive(Drop)]
 #[cycle(tree)]
 pub struct StmtList {
     items: Vec<Stmt>,
+}
+
+impl Drop for StmtList {
+    #[cycle(tree_drop)]
+    fn drop(self) {
+        let StmtList { items: _ } = self;
+    }
 }
 
 #[tactic(auto, using(crate::proofs::ListLemmas::list_lemmas))]
@@ -147,10 +232,16 @@ pub struct ConstSpec {
 }
 
 /// The specs of a constant declaration.
-#[derive(Drop)]
 #[cycle(tree)]
 pub struct ConstSpecList {
     items: Vec<ConstSpec>,
+}
+
+impl Drop for ConstSpecList {
+    #[cycle(tree_drop)]
+    fn drop(self) {
+        let ConstSpecList { items: _ } = self;
+    }
 }
 
 #[tactic(auto, using(crate::proofs::ListLemmas::list_lemmas))]
@@ -192,10 +283,16 @@ pub struct VarSpec {
 }
 
 /// The specs of a variable declaration.
-#[derive(Drop)]
 #[cycle(tree)]
 pub struct VarSpecList {
     items: Vec<VarSpec>,
+}
+
+impl Drop for VarSpecList {
+    #[cycle(tree_drop)]
+    fn drop(self) {
+        let VarSpecList { items: _ } = self;
+    }
 }
 
 #[tactic(auto, using(crate::proofs::ListLemmas::list_lemmas))]
@@ -219,12 +316,22 @@ impl VarSpecList {
 
 /// What stands before `range`: nothing, operands that are assigned, or names that are declared (Go specification, For
 /// statements with range clause).
-#[derive(Drop)]
 #[cycle(tree)]
 pub enum RangeLeft {
     Nothing,
     Assigns(ExprList),
     Defines(NameAtList),
+}
+
+impl Drop for RangeLeft {
+    #[cycle(tree_drop)]
+    fn drop(self) {
+        match self {
+            RangeLeft::Nothing => (),
+            RangeLeft::Assigns(_) => (),
+            RangeLeft::Defines(_) => (),
+        }
+    }
 }
 
 /// A test of an `if` with its block; `first` is the statement before the test (Go specification, If statements).
@@ -238,10 +345,16 @@ pub struct Arm {
 }
 
 /// The arms of an `if`, those after `else` included.
-#[derive(Drop)]
 #[cycle(tree)]
 pub struct ArmList {
     items: Vec<Arm>,
+}
+
+impl Drop for ArmList {
+    #[cycle(tree_drop)]
+    fn drop(self) {
+        let ArmList { items: _ } = self;
+    }
 }
 
 #[tactic(auto, using(crate::proofs::ListLemmas::list_lemmas))]
@@ -273,10 +386,16 @@ pub struct Case {
 }
 
 /// The clauses of a `switch`.
-#[derive(Drop)]
 #[cycle(tree)]
 pub struct CaseList {
     items: Vec<Case>,
+}
+
+impl Drop for CaseList {
+    #[cycle(tree_drop)]
+    fn drop(self) {
+        let CaseList { items: _ } = self;
+    }
 }
 
 #[tactic(auto, using(crate::proofs::ListLemmas::list_lemmas))]

@@ -8,9 +8,14 @@ use std::alloc::Global;
 use std::marker::Model;
 
 /// An identifier or other name: its bytes.
-#[derive(Drop)]
 pub struct Name {
     bytes: Vec<u8>,
+}
+
+impl Drop for Name {
+    fn drop(self) {
+        let Name { bytes: _ } = self;
+    }
 }
 
 impl Model for Name {
@@ -47,9 +52,14 @@ impl Name {
 }
 
 /// A list of bytes: the spelling of a literal, a path, the text of a file.
-#[derive(Drop)]
 pub struct Text {
     bytes: Vec<u8>,
+}
+
+impl Drop for Text {
+    fn drop(self) {
+        let Text { bytes: _ } = self;
+    }
 }
 
 impl Model for Text {
@@ -93,9 +103,14 @@ pub struct NameAt {
 }
 
 /// Names in their order.
-#[derive(Drop)]
 pub struct NameAtList {
     items: Vec<NameAt>,
+}
+
+impl Drop for NameAtList {
+    fn drop(self) {
+        let NameAtList { items: _ } = self;
+    }
 }
 
 impl Model for NameAtList {

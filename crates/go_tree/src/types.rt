@@ -10,7 +10,6 @@ use crate::texts::NameAt;
 use std::marker::Model;
 
 /// A type as it is written (Go specification, Types).
-#[derive(Drop)]
 #[cycle(types)]
 pub enum TypeExpr {
     Named {
@@ -37,6 +36,27 @@ pub enum TypeExpr {
     },
 }
 
+impl Drop for TypeExpr {
+    #[cycle(type_drop)]
+    fn drop(self) {
+        match self {
+            TypeExpr::Named {
+                span: _,
+                package: _,
+                name: _,
+            } => (),
+            TypeExpr::Pointer { span: _, to: _ } => (),
+            TypeExpr::Slice { span: _, of: _ } => (),
+            TypeExpr::Map {
+                span: _,
+                key: _,
+                of: _,
+            } => (),
+            TypeExpr::Struct { span: _, fields: _ } => (),
+        }
+    }
+}
+
 /// One name of a struct's fields, with its type (Go specification, Struct types).
 #[derive(Drop)]
 #[cycle(types)]
@@ -47,10 +67,16 @@ pub struct FieldSpec {
 }
 
 /// The fields of a struct, one entry for each name.
-#[derive(Drop)]
 #[cycle(types)]
 pub struct FieldSpecList {
     items: Vec<FieldSpec>,
+}
+
+impl Drop for FieldSpecList {
+    #[cycle(type_drop)]
+    fn drop(self) {
+        let FieldSpecList { items: _ } = self;
+    }
 }
 
 #[tactic(auto, using(crate::proofs::ListLemmas::list_lemmas))]
@@ -83,9 +109,14 @@ pub struct Param {
 }
 
 /// Parameters, or results.
-#[derive(Drop)]
 pub struct ParamList {
     items: Vec<Param>,
+}
+
+impl Drop for ParamList {
+    fn drop(self) {
+        let ParamList { items: _ } = self;
+    }
 }
 
 impl Model for ParamList {
