@@ -42,7 +42,7 @@ fn fields_are_right<R: Abort + AllocGlobal>(rt: &R, of: &TypeExpr) -> Result<(),
 }
 
 fn types_are_right<R: Abort + AllocGlobal>(rt: &R, decls: &[Decl]) -> Result<(), Fail> {
-    let [Decl::Types(one), Decl::Types(_)] = decls else {
+    let [Decl::Types(one), Decl::Types(..)] = decls else {
         return Err(Fail::new("other than two declarations of types"));
     };
     let [defined] = one.specs.items() else {
