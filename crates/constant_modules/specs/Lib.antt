@@ -1,4 +1,5 @@
 pub mod ConstantNames
+pub mod ConstantRuns
 pub mod CountedUses
 pub mod FewNames
 pub mod KeptUses

@@ -4,6 +4,7 @@
 #![tactic(auto)]
 
 pub mod constant_names;
+pub mod constant_runs;
 pub mod counted_uses;
 pub mod few_names;
 pub mod kept_uses;

@@ -63,7 +63,7 @@ receiver-stays : (ps : List (Package At)) (z : At) (e : Expr At) (q : Place At) 
 receiver-stays ps z e q None = no_receiver
 receiver-stays ps z e q (Some r) = one_receiver (name-stays r.name) refl refl
 
-stays : (ps : List (Package At)) (z : At) (e : Expr At) (q : Place At) (d : Decl At) → ReceiverStays same_here ps (changes_for same_here z (as_expr e)) q d
+pub stays : (ps : List (Package At)) (z : At) (e : Expr At) (q : Place At) (d : Decl At) → ReceiverStays same_here ps (changes_for same_here z (as_expr e)) q d
 stays ps z e q (values s) = tt
 stays ps z e q (types _ _ ts) = tt
 stays ps z e q (func f) = receiver-stays ps z e q f.receiver

@@ -19,7 +19,7 @@ use Rattle.constant_steps.proofs.FormImports.ImportLaws.GraphImports.{map_append
 use Rattle.constant_steps.proofs.FormImports.ImportLaws.IdentifiersWith.{identifiers-with}
 use Rattle.order_runs.proofs.CycleRuns.ImportCycles.FreeIdentifiers.{in-left, in-right, in-either}
 use Rattle.order_runs.proofs.CycleRuns.ImportCycles.ImportStep.{placed}
-use Rattle.printed_constants.specs.TypedParts.MarkedRuns.NamedMarks.Named.{AllNamed}
+use Rattle.printed_constants.specs.TypedParts.MarkedRuns.NamedMarks.Named.{IsNamedConstant, AllNamed}
 use Rattle.printed_constants.proofs.CountedNames.Specs.{specs_few, as_many_specs}
 use Rattle.printed_constants.proofs.CountedNames.Texts.{size_at, sizes_at, among_all, one_among, once_of}
 use Rattle.printed_constants.proofs.CountedNames.Tokens.{tokens_few}
@@ -275,16 +275,20 @@ module _ (st : Standing) (reads : ProgramReads st) (paths : OnePathEach st.packa
           among_in n all-names
           (of-taken n (in_among n (taken w.source.tree (avoided (names_here st.packages w) [])) (taken-so w.source.tree (avoided (names_here st.packages w) []) n h)))
 
+-- a use of a constant that is declared as a name avoids few names
+pub few-of : (marks : List MarkRef) (st : Standing) (f : Found At) → MakesForm marks st f → Placed here_of (λ (s : Span). Unit {0}) st.packages marks f.site → IsNamedConstant st.packages f.site.mark → ProgramReads st → OnePathEach st.packages → texts_size st.texts ≤ the_limits.total
+    → AvoidsFew st.packages f
+few-of marks st f its here c reads paths small =
+    let none : binders_of st.packages f.site.mark ≡ [] = none_bound marks st f its c.home c.home_is c.name c.value c.declared c.as_name in
+    record {
+      names = all-names st reads paths f.site.at here.package_is here.file_is;
+      taken = subst (λ (bs : List (List ℕ)). TakenAmong f.site.at.source.tree (avoided (names_here st.packages f.site.at) bs) (all-names st reads paths f.site.at here.package_is here.file_is)) (sym none)
+          (names-taken st reads paths f.site.at here.package_is here.file_is);
+      few = names-few st reads paths f.site.at here.package_is here.file_is small (length f.named) (named_few marks st f its c.home c.home_is c.name c.value c.declared c.as_name);
+    }
+
 pub few-taken : (marks : List MarkRef) (st : Standing) (l : Logged) (after : Standing) (n : Next marks st l after) (e : Expr At) → n.found.site.part ≡ an_expr e → ProgramReads st → OnePathEach st.packages → AllNamed st.packages marks
     → texts_size st.texts ≤ the_limits.total → AvoidsFew st.packages n.found
 few-taken marks st l after n e part reads paths named small =
     let u : UsesConstant n = named-used marks st l after n e part named in
-    let its : MakesForm marks st n.found = step-makes-form marks st l after n in
-    let here : Placed here_of (λ (s : Span). Unit {0}) st.packages marks n.found.site = placed marks st l after n in
-    let none : binders_of st.packages n.found.site.mark ≡ [] = none_bound marks st n.found its u.home u.home_is u.name u.value u.declared u.as_name in
-    record {
-      names = all-names st reads paths n.found.site.at here.package_is here.file_is;
-      taken = subst (λ (bs : List (List ℕ)). TakenAmong n.found.site.at.source.tree (avoided (names_here st.packages n.found.site.at) bs) (all-names st reads paths n.found.site.at here.package_is here.file_is)) (sym none)
-          (names-taken st reads paths n.found.site.at here.package_is here.file_is);
-      few = names-few st reads paths n.found.site.at here.package_is here.file_is small (length n.found.named) (named_few marks st n.found its u.home u.home_is u.name u.value u.declared u.as_name);
-    }
+    few-of marks st n.found (step-makes-form marks st l after n) (placed marks st l after n) (record { home = u.home; home_is = u.home_is; name = u.name; value = u.value; declared = u.declared; as_name = u.as_name }) reads paths small

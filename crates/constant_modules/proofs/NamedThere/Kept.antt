@@ -83,7 +83,7 @@ module _ {S T : Type 0} (to : S → T) where
   decl_back (types s g ts) h = some_types
   decl_back (func f) h = a_function
 
-  decls_there : {ds : List (Decl S)} → PlainDecls ds → PlainDecls (decls_with to ds)
+  pub decls_there : {ds : List (Decl S)} → PlainDecls ds → PlainDecls (decls_with to ds)
   decls_there no_decls = no_decls
   decls_there (and_decl h r) = and_decl (decl_there h) (decls_there r)
 
@@ -168,7 +168,7 @@ module _ (rs : List (Package At)) (c : Changes At) where
 
 -- ---- files
 
-nth_plain : {S : Type 0} (k : ℕ) {ds : List (Decl S)} (d : Decl S) → PlainDecls ds → slice_get ds k ≡ Some d → PlainDecl d
+pub nth_plain : {S : Type 0} (k : ℕ) {ds : List (Decl S)} (d : Decl S) → PlainDecls ds → slice_get ds k ≡ Some d → PlainDecl d
 nth_plain k d no_decls e = absurd cc
 nth_plain zero d (and_decl {d = x} h r) e = subst (λ (y : Decl _). PlainDecl y) (same_Some x d e) h
 nth_plain (suc k) d (and_decl h r) e = nth_plain k d r e
@@ -177,7 +177,7 @@ files_plain : (ps : List (Package At)) (fs : List (SourceTree At)) → ((j : ℕ
 files_plain ps [] h = no_files
 files_plain ps (f ∷ fs) h = and_file (h zero f refl) (files_plain ps fs (λ j g e. h (suc j) g e))
 
-file_plain : (ps : List (Package At)) → ArePlain ps → (v : Where At) → IsFileOf ps v → PlainDecls v.source.tree.decls
+pub file_plain : (ps : List (Package At)) → ArePlain ps → (v : Where At) → IsFileOf ps v → PlainDecls v.source.tree.decls
 file_plain ps plain v there =
     plain_file v.file_number (map (linked_file ps) v.of.files) (linked_file ps v.source) (plain v.number v.of there.0) (nth_mapped (linked_file ps) v.of.files v.file_number v.source there.1)
 

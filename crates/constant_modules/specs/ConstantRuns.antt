@@ -1,0 +1,4 @@
+pub mod Types
+pub mod Laws
+pub mod FirstUses
+pub mod Runs
