@@ -11,8 +11,8 @@ use Rattle.pkg_graph.specs.ModuleFiles.Selected.{is_selected, module_file}
 use Rattle.pkg_graph.specs.Package.{Package}
 use Rattle.pkg_graph.specs.Reads.{Source, go_files, is_at}
 use Rattle.pkg_graph.proofs.ModuleFiles.PathLaws.{are_same}
-use Rattle.fix_run.proofs.PlannedFiles.Modules.{has_text}
-use Rattle.fix_run.proofs.PlannedModules.Folders.{and_both, both}
+use Rattle.run_plans.proofs.PlannedFiles.Modules.{has_text}
+use Rattle.run_plans.proofs.PlannedModules.Folders.{and_both, both}
 use Rattle.printed_constants.specs.InlinedFiles.Files as run_files
 use Rattle.run_rules.specs.Inlining.{AreScanned, IsInlining, none, file}
 use Rattle.run_rules.specs.Marks.{text_at}

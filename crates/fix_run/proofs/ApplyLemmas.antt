@@ -5,7 +5,7 @@ use Rattle.std.specs.Option.{option_map}
 use Rattle.std.specs.List.{take-map}
 use Rattle.std.proofs.lemmas.List.{map-append}
 use Rattle.std.proofs.lemmas.Grind.{common_steps}
-use Rattle.fix_run.specs.declared.planned_files.changed_files.changed.ChangedFile.{ChangedFile}
+use Rattle.run_plans.specs.declared.planned_files.changed_files.changed.ChangedFile.{ChangedFile}
 use Rattle.fix_io.specs.Files.{HeldFile, with_bytes}
 use Rattle.fix_io.specs.Writes.{written}
 use Rattle.fix_io.proofs.WritesLemmas.{told_more}

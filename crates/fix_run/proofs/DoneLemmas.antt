@@ -5,8 +5,8 @@ use Rattle.command_words.specs.Words.{has_fix, only_of}
 use Rattle.fix_io.specs.Contents.{appended}
 use Rattle.fix_io.specs.Files.{HeldFile}
 use Rattle.folder_reading.specs.Sources.{sources_in}
-use Rattle.fix_run.specs.PlannedModules.Laws.{PlansInlineModules}
-use Rattle.fix_run.specs.PlannedModules.Planned.{IsPlanned}
+use Rattle.run_plans.specs.PlannedModules.Laws.{PlansInlineModules}
+use Rattle.run_plans.specs.PlannedModules.Planned.{IsPlanned}
 use Rattle.printed_constants.specs.InlinedFiles.Files as run_files
 use Rattle.run_rules.specs.Texts.{FileText}
 use Rattle.fix_run.specs.Files.{files_after, folder_of}

@@ -7,6 +7,3 @@ pub mod VerdictLemmas
 pub mod FolderLemmas
 pub mod DoneLemmas
 pub mod TopLemmas
-pub mod PlannedModules
-pub mod InlinedPrograms
-pub mod PlannedFiles

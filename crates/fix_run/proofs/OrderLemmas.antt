@@ -17,9 +17,9 @@ use Rattle.pkg_graph.specs.ModuleFiles.Pieces.{comes_before}
 use Rattle.pkg_graph.specs.ModuleFiles.Selected.{is_selected, selected, selected_from}
 use Rattle.pkg_graph.specs.Reads.{Source, selected_files}
 use Rattle.pkg_graph.proofs.ModuleFiles.PathLaws.{less_comes_before}
-use Rattle.fix_run.specs.PlannedModules.Folders.{AreFolder, AreOfFolder, ascend}
-use Rattle.fix_run.specs.PlannedModules.Laws.{ListedFilesAreFolders}
-use Rattle.fix_run.proofs.PlannedModules.Folders.{and_both, both}
+use Rattle.run_plans.specs.PlannedModules.Folders.{AreFolder, AreOfFolder, ascend}
+use Rattle.run_plans.specs.PlannedModules.Laws.{ListedFilesAreFolders}
+use Rattle.run_plans.proofs.PlannedModules.Folders.{and_both, both}
 use Rattle.run_rules.specs.Inlining.{are_by_path}
 use Rattle.splice_laws.specs.ImportSplices.AddedFile.{is_byte}
 use Rattle.source_files.specs.declared.files.SourceFile.{SourceFile}

@@ -15,15 +15,15 @@ use Rattle.module_reading.specs.Files.{sources_of}
 use Rattle.pkg_graph.specs.ModuleFiles.PathLists.{has_path}
 use Rattle.pkg_graph.specs.ModuleFiles.Selected.{is_selected, module_file, selected}
 use Rattle.pkg_graph.specs.Reads.{Source, is_at}
-use Rattle.fix_run.specs.PlannedFiles.Changes.{files_differing}
-use Rattle.fix_run.specs.PlannedFiles.Texts.{text_with_path}
-use Rattle.fix_run.specs.declared.planned_files.changed_files.changed.ChangedFile.{ChangedFile}
-use Rattle.fix_run.proofs.PlannedFiles.KeptTexts as kept
-use Rattle.fix_run.specs.PlannedModules.Folders.{AreFolder, AreOfFolder}
-use Rattle.fix_run.specs.PlannedModules.Laws.{TakenModulesPassLimits}
-use Rattle.fix_run.specs.PlannedModules.Planned.{IsModulePlan}
-use Rattle.fix_run.specs.PlannedModules.Unplanned.{IsUnplanned}
-use Rattle.fix_run.specs.declared.planned_modules.plan.Plan.{Plan}
+use Rattle.run_plans.specs.PlannedFiles.Changes.{files_differing}
+use Rattle.run_plans.specs.PlannedFiles.Texts.{text_with_path}
+use Rattle.run_plans.specs.declared.planned_files.changed_files.changed.ChangedFile.{ChangedFile}
+use Rattle.run_plans.proofs.PlannedFiles.KeptTexts as kept
+use Rattle.run_plans.specs.PlannedModules.Folders.{AreFolder, AreOfFolder}
+use Rattle.run_plans.specs.PlannedModules.Laws.{TakenModulesPassLimits}
+use Rattle.run_plans.specs.PlannedModules.Planned.{IsModulePlan}
+use Rattle.run_plans.specs.PlannedModules.Unplanned.{IsUnplanned}
+use Rattle.run_plans.specs.declared.planned_modules.plan.Plan.{Plan}
 use Rattle.refusals.specs.declared.refusal.Refusal.{Refusal}
 use Rattle.run_rules.specs.Marks.{text_at}
 use Rattle.run_rules.specs.Run.{bytes_of}

@@ -10,8 +10,8 @@ use Rattle.fix_io.specs.Contents.{appended, IsPartOut}
 use Rattle.fix_io.specs.Writes.{written, with_texts, AreNewUpTo}
 use Rattle.fix_io.proofs.WritesLemmas.{all_left, fault_left}
 use Rattle.folder_reading.specs.Limits.{AreFew}
-use Rattle.fix_run.specs.PlannedModules.Laws.{PlansInlineModules}
-use Rattle.fix_run.specs.declared.planned_modules.plan.Plan.{Plan}
+use Rattle.run_plans.specs.PlannedModules.Laws.{PlansInlineModules}
+use Rattle.run_plans.specs.declared.planned_modules.plan.Plan.{Plan}
 use Rattle.fix_run.specs.declared.status.Status.{Status}
 use Rattle.fix_run.specs.declared.status.Status.TheVariants.{Done, Found, Usage, NoMemory, ListFault, ReadFault, Refused, WriteFault, ReportFault}
 use Rattle.command_words.specs.Words.{are_accepted, has_fix, only_of}

@@ -9,8 +9,8 @@ use Rattle.folder_reading.specs.Sources.{sources_in}
 use Rattle.module_refusals.specs.Laws.{AreAlike}
 use Rattle.module_refusals.specs.Told.{told_whole}
 use Rattle.pkg_graph.specs.ModuleFiles.Selected.{selected}
-use Rattle.fix_run.specs.PlannedModules.Laws.{NeverBoth, PlansAreOne, RefusalsAreAlike}
-use Rattle.fix_run.specs.PlannedModules.Planned.{IsPlanned}
+use Rattle.run_plans.specs.PlannedModules.Laws.{NeverBoth, PlansAreOne, RefusalsAreAlike}
+use Rattle.run_plans.specs.PlannedModules.Planned.{IsPlanned}
 use Rattle.refusals.specs.declared.refusal.Detail.TheVariants.{TooBig}
 use Rattle.refusals.specs.declared.refusal.Refusal.{Refusal}
 use Rattle.run_rules.specs.Texts.{FileText}

@@ -14,7 +14,7 @@ use Rattle.folder_reading.specs.Limits.{AreFew}
 use Rattle.module_refusals.specs.Told.{told_whole}
 use Rattle.refusals.specs.declared.refusal.Detail.TheVariants.{TooBig}
 use Rattle.fix_io.specs.Contents.{appended, IsPartOut}
-use Rattle.fix_run.specs.declared.planned_modules.plan.Plan.{Plan}
+use Rattle.run_plans.specs.declared.planned_modules.plan.Plan.{Plan}
 use Rattle.command_words.specs.Words.{are_accepted}
 
 -- A fault of the tree is answered only where its count rose, and the call that failed is named.

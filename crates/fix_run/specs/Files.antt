@@ -7,9 +7,9 @@ use Rattle.folder_reading.specs.Sources.{sources_in}
 use Rattle.pkg_graph.specs.ModuleFiles.PathLists.{path_at}
 use Rattle.pkg_graph.specs.ModuleFiles.Selected.{is_selected}
 use Rattle.pkg_graph.specs.Reads.{Source}
-use Rattle.fix_run.specs.declared.planned_files.changed_files.changed.ChangedFile.{ChangedFile}
-use Rattle.fix_run.specs.PlannedModules.Planned.{IsPlanned}
-use Rattle.fix_run.specs.declared.planned_modules.plan.Plan.{Plan}
+use Rattle.run_plans.specs.declared.planned_files.changed_files.changed.ChangedFile.{ChangedFile}
+use Rattle.run_plans.specs.PlannedModules.Planned.{IsPlanned}
+use Rattle.run_plans.specs.declared.planned_modules.plan.Plan.{Plan}
 use Rattle.printed_constants.specs.InlinedFiles.Files.{file_after}
 use Rattle.run_rules.specs.Texts.{FileText}
 

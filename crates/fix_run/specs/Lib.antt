@@ -7,6 +7,3 @@ pub mod Refusals
 pub mod Verdict
 pub mod Causes
 pub mod Laws
-pub mod PlannedModules
-pub mod InlinedPrograms
-pub mod PlannedFiles

@@ -7,8 +7,8 @@ use Rattle.folder_reading.specs.Limits.{AreFew, AreWithin, first_too_long}
 use Rattle.folder_reading.specs.Sources.{sources_in}
 use Rattle.module_refusals.specs.Told.{told_whole}
 use Rattle.pkg_graph.specs.ModuleFiles.Selected.{selected}
-use Rattle.fix_run.specs.PlannedModules.Modules.{IsTaken}
-use Rattle.fix_run.specs.PlannedModules.Unplanned.{IsStopped, IsUnplanned}
+use Rattle.run_plans.specs.PlannedModules.Modules.{IsTaken}
+use Rattle.run_plans.specs.PlannedModules.Unplanned.{IsStopped, IsUnplanned}
 use Rattle.refusals.specs.declared.refusal.Detail.TheVariants.{TooBig}
 use Rattle.refusals.specs.declared.refusal.Refusal.{Refusal}
 use Rattle.fix_run.specs.Files.{folder_of}

@@ -7,8 +7,8 @@ use Rattle.fix_io.specs.Files.{HeldFile, paths, bytes_at}
 use Rattle.folder_reading.specs.Limits.{AreWithin}
 use Rattle.folder_reading.specs.Sources.{sources_in}
 use Rattle.pkg_graph.specs.Reads.{Source}
-use Rattle.fix_run.specs.PlannedModules.Planned.{IsPlanned}
-use Rattle.fix_run.specs.PlannedModules.Unplanned.{IsStopped}
+use Rattle.run_plans.specs.PlannedModules.Planned.{IsPlanned}
+use Rattle.run_plans.specs.PlannedModules.Unplanned.{IsStopped}
 use Rattle.run_rules.specs.Texts.{FileText}
 use Rattle.command_words.specs.Words.{are_accepted, has_fix, only_of}
 use Rattle.fix_run.specs.declared.status.Status.{Status}

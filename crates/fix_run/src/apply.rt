@@ -9,8 +9,8 @@ ghost use Rattle.fix_io.specs.Writes.{written};
 ghost use Rattle.fix_run.specs.Causes.{IsQuiet};
 ghost use Rattle.fix_run.specs.Files.{writes_of};
 
-use crate::planned_files::changed_files::ChangedFile;
 use fix_io::Tree;
+use run_plans::planned_files::changed_files::ChangedFile;
 
 /// Replaces the files in order, up to the first that fails, whose number it answers. Takes no memory.
 pub fn apply<T: Tree>(files: &[ChangedFile], tree: &mut T) -> Result<(), u32>

@@ -3,10 +3,7 @@
 #![tactic(auto)]
 
 mod apply;
-pub mod inlined_programs;
 mod laws;
-pub mod planned_files;
-pub mod planned_modules;
 mod prepare;
 mod report;
 mod requests;

@@ -8,14 +8,14 @@ ghost use Rattle.fix_run.specs.Files.{AreWritesOf};
 ghost use Rattle.fix_run.specs.Causes.{IfQuiet, IsQuiet, MayStop, status_of};
 ghost use Rattle.fix_run.specs.Lines.{IsOfFile};
 
-use crate::planned_modules::{
-    ModuleFault, Plan, plan_module, read_files_are_folders, refusals_name_files,
-    taken_modules_pass_limits,
-};
 use crate::status::Status;
 use fix_io::{Tree, TreeFault};
 use folder_reading::{FolderFault, read_folder};
 use refusals::{Detail, Refusal};
+use run_plans::planned_modules::{
+    ModuleFault, Plan, plan_module, read_files_are_folders, refusals_name_files,
+    taken_modules_pass_limits,
+};
 use std::alloc::Global;
 
 /// The refusal of a listed file that is too large, or of all.

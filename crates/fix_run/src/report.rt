@@ -4,9 +4,9 @@ ghost use Rattle.std.specs.Prelude.{◌≡◌};
 ghost use Rattle.fix_io.specs.Causes.{Rose};
 ghost use Rattle.fix_run.specs.Causes.{IsReported};
 
-use crate::planned_modules::Plan;
 use crate::status::Status;
 use fix_io::{Sink, write_all};
+use run_plans::planned_modules::Plan;
 
 /// Writes the report of a plan, and answers whether a use would be inlined.
 pub fn report_only<S: Sink>(plan: &Plan, out: &mut S) -> Status

@@ -10,13 +10,13 @@ ghost use Rattle.fix_run.specs.Verdict.{Verdict, HasEnded, IsVerdict, IsEnd, IsR
 ghost use Rattle.fix_run.specs.Headline.{IsInlined};
 
 use crate::apply::apply;
-use crate::planned_modules::plans_inline_modules;
 use crate::prepare::prepare;
 use crate::report::report_only;
 use crate::requests::read_request;
 use crate::status::Status;
 use crate::tell::tell_status;
 use fix_io::{Sink, Tree, write_all};
+use run_plans::planned_modules::plans_inline_modules;
 use std::alloc::Global;
 
 /// Reads the module that the tree holds, and replaces the uses of its marked constants. With `--fix` it writes the

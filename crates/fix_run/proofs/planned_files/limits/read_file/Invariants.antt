@@ -1,6 +1,0 @@
-use Rattle.std.proofs.Common.{◌≡◌, drop}
-use Rattle.fix_run.specs.PlannedFiles.Limits.{file_with_path}
-use Rattle.fix_run.proofs.planned_files.limits.read_file.Given as goal
-
-abbrev pub invariant-loop-file : goal.invariant-loop-file
-invariant-loop-file l = file_with_path (drop l.file-index l.files) l.path ≡ file_with_path l.files l.path

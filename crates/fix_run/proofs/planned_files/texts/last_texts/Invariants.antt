@@ -1,7 +1,0 @@
-use Rattle.std.proofs.Common.{◌≡◌, ◌++◌, drop}
-use Rattle.fix_run.specs.PlannedFiles.Texts.{last_texts, text_rows, texts_by_path}
-use Rattle.fix_run.proofs.planned_files.texts.last_texts.Given as goal
-
-abbrev pub invariant-loop-file : goal.invariant-loop-file
-invariant-loop-file l =
-    l.last.items ++ text_rows (texts_by_path l.program) l.file (drop l.file l.files) ≡ last_texts l.program l.files

@@ -1,5 +1,0 @@
-use Rattle.fix_run.proofs.PlannedModules.Inlined.{plans_inline}
-use Rattle.fix_run.proofs.planned_modules.laws.plans_inline_modules.Goals as goal
-
-pub returns : goal.returns
-returns c = plans_inline c.print_only_is_printed.ensures.read c.printed_modules_are_inlined.ensures.inlinings

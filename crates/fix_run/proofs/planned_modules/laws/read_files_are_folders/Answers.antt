@@ -1,5 +1,0 @@
-use Rattle.fix_run.proofs.PlannedModules.Folders.{listed_files_are_folders, read_files_are_folders}
-use Rattle.fix_run.proofs.planned_modules.laws.read_files_are_folders.Goals as goal
-
-pub returns : goal.returns
-returns c = record { read = read_files_are_folders; listed = listed_files_are_folders }

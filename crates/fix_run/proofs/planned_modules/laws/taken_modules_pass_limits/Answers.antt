@@ -1,5 +1,0 @@
-use Rattle.fix_run.proofs.PlannedModules.Once.{taken_pass}
-use Rattle.fix_run.proofs.planned_modules.laws.taken_modules_pass_limits.Goals as goal
-
-pub returns : goal.returns
-returns c = taken_pass c.modules_have_no_refusal.ensures

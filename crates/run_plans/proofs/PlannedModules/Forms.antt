@@ -1,0 +1,37 @@
+-- What a module of the form that is built gives, where it is taken.
+use Rattle.std.proofs.Common.{◌≡◌, sym, ℕ, ◌+◌, ◌≤◌, true, List, [], arith}
+use Rattle.go_tree.specs.declared.spans.Span.{Span}
+use Rattle.go_translation.specs.SameMeaning.{WellTyped}
+use Rattle.member_uses.specs.Laws.{AllConstants}
+use Rattle.order_runs.specs.RunSteps.RunPackages.{packages_of}
+use Rattle.pkg_graph.specs.Package.{Package}
+use Rattle.pkg_graph.specs.Reads.{Source}
+use Rattle.run_rules.specs.Printed.{ArePrinted}
+use Rattle.checked_modules.specs.RefusedBodies.PrintedPackages.Laws.{PrintOnlyIsPrinted}
+use Rattle.checked_modules.specs.RefusedBodies.PrintedPackages.Packages.{print_only}
+use Rattle.run_rules.specs.Marks.{marks_of}
+use Rattle.run_rules.specs.Run.{module_file_size, texts_size, the_limits}
+use Rattle.run_rules.specs.Texts.{FileText}
+use Rattle.source_files.specs.declared.files.SourceFile.{SourceFile}
+use Rattle.stepped_programs.specs.LoadedPrograms.Loaded.{marks_constants}
+use Rattle.stepped_programs.proofs.LoadedPrograms.ConstantsMarked.{marked_constants}
+use Rattle.run_plans.specs.PlannedModules.Modules.{IsTaken, has_form}
+use Rattle.run_plans.proofs.PlannedModules.Folders.{both}
+use Rattle.run_plans.proofs.PlannedModules.Members.{typed_members}
+
+module _ (ps : List (Package Span)) (texts : List (List ℕ × FileText)) (form : has_form ps texts ≡ true) where
+  pub printed : PrintOnlyIsPrinted Span → ArePrinted ps
+  printed law = law ps (both (print_only ps) (marks_constants ps texts) form).0
+
+  pub constants : (only : List ℕ) → AllConstants ps (marks_of ps texts only)
+  constants only = marked_constants ps texts only (marks_of ps texts only) (λ v. marks_of ps texts only) (sym (both (print_only ps) (marks_constants ps texts) form).1)
+
+pub texts_within : (n m : ℕ) → n + m ≤ the_limits.total → m ≤ the_limits.total
+texts_within n m h = let k : n + m ≤ 16777216 = h in omega (arith, k)
+
+module _ (folder : List Source) (files : List SourceFile) (t : IsTaken folder files) where
+  pub taken_typed : WellTyped (packages_of t.packages [])
+  taken_typed = typed_members folder t.packages t.texts t.read.reads t.typed
+
+  pub taken_small : texts_size t.texts ≤ the_limits.total
+  taken_small = texts_within (module_file_size folder) (texts_size t.texts) t.within

@@ -1,0 +1,3 @@
+pub mod PlannedModules
+pub mod InlinedPrograms
+pub mod PlannedFiles
