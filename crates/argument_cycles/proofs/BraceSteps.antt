@@ -1,43 +1,61 @@
--- A step that puts a block in which arguments take the places of parameters puts in the function around what calls through.
-use Rattle.std.proofs.Common.{◌≡◌, refl, sym, ap, ◌∙◌, subst, Bool, true, false, List, [], ◌∷◌, ◌++◌, Some, None, if◌then◌else◌, arith}
-use Rattle.std.specs.Prelude.{slice_get, is_some}
-use Rattle.std.proofs.lemmas.Option.{same_Some}
-use Rattle.go_tree.specs.Tree.{Expr, Stmt, no_exprs, expr_and, eval, inner, return_}
+-- A step that puts statements in braces which call only what the use did or what the function leads to puts in the function around what calls through.
+use Rattle.std.proofs.Common.{◌≡◌, sym, ap, ◌∙◌, subst, true, List, [], ◌∷◌, ◌++◌, Some, ◌⊎◌}
+use Rattle.std.specs.Prelude.{slice_get}
+use Rattle.go_tree.specs.Tree.{Expr, Stmt, Stmts, inner}
 use Rattle.go_tree.specs.File.{Func, func}
 use Rattle.pkg_graph.specs.Package.{Package}
 use Rattle.go_tree.specs.GoTypes.Answers.{meets}
-use Rattle.run_rules.specs.Surroundings.{Place, Seen, seen, seen_type, seen_stmt}
-use Rattle.run_rules.specs.Places.{sig_seen, stmts_seen}
+use Rattle.run_rules.specs.Surroundings.{Place, Seen}
+use Rattle.run_rules.specs.Places.{sig_seen, stmts_seen, stmt_seen}
 use Rattle.run_rules.specs.Programs.{top_place, body_place, receiver_seen}
-use Rattle.run_rules.specs.Sites.{MarkRef, Where, Site, part_span, inlinable, is_function}
-use Rattle.run_rules.specs.FormTrees.{Form, as_block}
-use Rattle.run_rules.specs.Forms.{is_at}
+use Rattle.run_rules.specs.Sites.{MarkRef, Where, Site, part_span, inlinable, is_function, is_among_marks}
+use Rattle.run_rules.specs.FormTrees.{Form, as_block, FormKind}
 use Rattle.run_rules.specs.Reduced.{Reduced, becomes, kept}
-use Rattle.run_rules.specs.Steps.{At, same_here, changes_for}
-use Rattle.run_rules.specs.Cycles.{is_recursive}
+use Rattle.run_rules.specs.Steps.{At, same_here}
+use Rattle.run_rules.specs.Cycles.{is_recursive, LeadsTo}
 use Rattle.run_rules.specs.Run.{Standing, Logged, Next, is_commented}
+use Rattle.run_rules.specs.Naming.{imports_added}
 use Rattle.splice_laws.specs.RunLaws.Reading.{ProgramReads}
 use Rattle.order_runs.specs.CycleRuns.ImportCycles.ImportSteps.{file_added, where_added}
 use Rattle.order_runs.specs.CycleRuns.Linked.{Linked, SettlesFile}
 use Rattle.order_runs.proofs.CycleRuns.FoundUses.NoRecursive.{step-form}
 use Rattle.order_runs.proofs.RunSteps.UsesAlone.{stands-alone}
+use Rattle.order_runs.specs.CycleLaws.PutCalls.{called_among}
 use Rattle.constant_steps.specs.PlainUse.{AllTheUse}
 use Rattle.go_tree.proofs.GoTypes.Agreeing.{some_same}
 use Rattle.literal_cycles.specs.FormCycles.Bodies.{StandsInFunction, changes_of}
-use Rattle.literal_cycles.specs.FormCycles.Puts.{StatementCallsThrough, AllPutThrough, PutsInBody}
+use Rattle.literal_cycles.specs.FormCycles.Puts.{AllPutThrough, PutsInBody}
 use Rattle.literal_cycles.proofs.FormCycles.FormSteps.{calls-change, call-step}
-use Rattle.literal_cycles.specs.BodyForms.Steps.{AllStayThere}
-use Rattle.literal_cycles.specs.FormCycles.Blocks.{Holds, is_it, returns_it}
-use Rattle.literal_cycles.proofs.BodyForms.StatementsHeld.{Held, all_of, stmts_held}
 use Rattle.literal_cycles.proofs.NothingAdded.{same_where, same_packages}
+use Rattle.literal_cycles.specs.FormCycles.Blocks.{Holds}
+use Rattle.literal_cycles.specs.BodyForms.Uses.{CalledUse, Becomes}
 use Rattle.argument_cycles.specs.Braces.{PutsPlacedBlock}
+use Rattle.argument_cycles.proofs.BracesThere.{braces_through}
+use Rattle.argument_cycles.specs.FreeSteps.{StaysAround}
 use Rattle.argument_cycles.proofs.PlacedBraces.{block_comes}
 
 abbrev form_or : Form At → Reduced At → Form At
 form_or d (becomes k f z ns) = f
 form_or d (kept o) = d
 
-module _ (marks : List MarkRef) (st : Standing) (l : Logged) (after : Standing) (n : Next marks st l after) (k : PutsPlacedBlock n) where
+module _ {marks : List MarkRef} {st : Standing} {l : Logged} {after : Standing} (n : Next marks st l after) where
+  -- The step's use becomes these statements in braces, which call what it did, and it adds no import; in the function around, what is around it stays.
+  pub record PutBraces : Type 0 where
+    pub use_ : CalledUse same_here (is_commented st) st.packages marks n.found.site
+    pub kind : FormKind
+    pub becomes : Becomes same_here (is_commented st) st.packages marks n.found.site use_ kind
+    pub statements : Stmts At
+    pub is_block : becomes.form ≡ as_block statements
+    pub comes :
+        (z : At) (s : Stmt At) → Holds use_.tree s → (b : MarkRef) → is_among_marks (called_among st.packages marks n.found.site.at n.found.site.decl (stmt_seen n.found.site.place true (inner z statements))) b ≡ true
+        → (is_among_marks (called_among st.packages marks n.found.site.at n.found.site.decl (stmt_seen n.found.site.place true s)) b ≡ true) ⊎ LeadsTo st.packages marks n.found.site.mark b
+    pub stays :
+        (z : At) (s : Stmt At) → Holds use_.tree s → (b : MarkRef) → is_among_marks (called_among st.packages marks n.found.site.at n.found.site.decl (stmt_seen n.found.site.place true s)) b ≡ true
+        → (is_among_marks (called_among st.packages marks n.found.site.at n.found.site.decl (stmt_seen n.found.site.place true (inner z statements))) b ≡ true) ⊎ (b ≡ n.found.site.mark)
+    pub adds_nothing : imports_added n.found.named ≡ []
+    pub around : StaysAround n
+
+module _ (marks : List MarkRef) (st : Standing) (l : Logged) (after : Standing) (n : Next marks st l after) (k : PutBraces n) where
   abbrev x : Site At
   x = n.found.site
 
@@ -51,41 +69,13 @@ module _ (marks : List MarkRef) (st : Standing) (l : Logged) (after : Standing) 
   tree = k.use_.tree
 
   -- the use's form is the step's
-  same_form : as_block k.placed.statements ≡ n.found.form
+  same_form : as_block k.statements ≡ n.found.form
   same_form =
-      sym k.placed.is_block
-      ∙ ap (form_or k.placed.becomes.form) (some_same (becomes k.kind k.placed.becomes.form k.placed.becomes.range k.placed.becomes.packages) (becomes n.found.kind n.found.form n.found.range n.found.named) (sym k.placed.becomes.reduces ∙ step-form marks st l after n))
+      sym k.is_block
+      ∙ ap (form_or k.becomes.form) (some_same (becomes k.kind k.becomes.form k.becomes.range k.becomes.packages) (becomes n.found.kind n.found.form n.found.range n.found.named) (sym k.becomes.reduces ∙ step-form marks st l after n))
 
   marked_function : meets (inlinable ps x.mark) is_function ≡ true
   marked_function = ap (λ o. meets o is_function) k.use_.declared
-
-  abbrev Through : Place At → Stmt At → Stmt At → Type 0
-  Through p y s = StatementCallsThrough ps marks x.at x.decl x.mark p y s
-
-  put_if : (b : Bool) (p : Place At) (y new s : Stmt At) → (b ≡ true → Through p new s) → (if b then Some new else None) ≡ Some y → Through p y s
-  put_if true p y new s f h = subst (λ v. Through p v s) (same_Some new y h) (f refl)
-  put_if false p y new s f h = absurd (grind (arith, ap is_some h))
-
-  there : (p : Place At) (d : Expr At) (z : At) (s : Expr At → Stmt At) → ((e : Expr At) → Holds e (s e)) → (p ≡ x.place) × (d ≡ tree) → Through p (inner z k.placed.statements) (s d)
-  there p d z s h r =
-      subst (λ v. Through v (inner z k.placed.statements) (s d)) (sym r.0) (subst (λ e. Through x.place (inner z k.placed.statements) (s e)) (sym r.1)
-      (record { comes = λ b e. block_comes (is_commented st) ps marks x k.use_ k.kind k.placed z (s tree) (h tree) x.decl b e; stays = λ b e. k.stays z (s tree) (h tree) b e }))
-
-  stmt_put : (p : Place At) (s : Stmt At) → Held same_here x tree (seen_stmt p s) → (y : Stmt At) → (changes_for same_here span (as_block k.placed.statements)).stmt p s ≡ Some y → Through p y s
-  stmt_put p (eval z d) a y h = put_if (is_at same_here span d) p y (inner z k.placed.statements) (eval z d) (λ i. there p d z (λ e. eval z e) (λ e. is_it z) (a i)) h
-  stmt_put p (return_ z (expr_and d no_exprs)) a y h =
-      put_if (is_at same_here span d) p y (inner z k.placed.statements) (return_ z (expr_and d no_exprs)) (λ i. there p d z (λ e. return_ z (expr_and e no_exprs)) (λ e. returns_it z) (a i)) h
-  stmt_put p s a y h = absurd (grind (arith, ap is_some h))
-
-  puts_at : (xs : List (Seen At)) → all_of same_here x tree xs → AllStayThere (changes_for same_here span (as_block k.placed.statements)) ps marks x.at x.decl x.mark xs → AllPutThrough ps marks x.at x.decl x.mark (changes_for same_here span (as_block k.placed.statements)) xs
-  puts_at [] b s = tt
-  puts_at (seen p w y ∷ xs) b s = ((s.0, λ z h. absurd (grind (arith, ap is_some h))), puts_at xs b.1 s.1)
-  puts_at (seen_type p t ∷ xs) b s = (tt, puts_at xs b.1 s.1)
-  puts_at (seen_stmt p y ∷ xs) b s = ((s.0, stmt_put p y b.0), puts_at xs b.1 s.1)
-
-  puts_found : (xs : List (Seen At)) → all_of same_here x tree xs → AllStayThere (changes_of n.found) ps marks x.at x.decl x.mark xs → AllPutThrough ps marks x.at x.decl x.mark (changes_of n.found) xs
-  puts_found xs b s =
-      subst (λ f. AllPutThrough ps marks x.at x.decl x.mark (changes_for same_here span f) xs) same_form (puts_at xs b (subst (λ f. AllStayThere (changes_for same_here span f) ps marks x.at x.decl x.mark xs) (sym same_form) s))
 
   behind : (xs ys : List (Seen At)) → AllTheUse same_here x tree (xs ++ ys) → AllTheUse same_here x tree ys
   behind [] ys a = a
@@ -97,14 +87,35 @@ module _ (marks : List MarkRef) (st : Standing) (l : Logged) (after : Standing) 
       behind (receiver_seen ps (top_place ps x.at.number x.at.of x.at.source.tree) g.receiver ++ sig_seen (top_place ps x.at.number x.at.of x.at.source.tree) g.sig) (stmts_seen (body_place ps x.at.number x.at.of x.at.source.tree g) g.body)
       (stands-alone marks st l after n reads tree k.use_.part (func g) e)
 
-  pub puts_placed : ProgramReads st → PutsInBody n
-  puts_placed reads g e =
+  pub puts_braces : ProgramReads st → PutsInBody n
+  puts_braces reads g e =
       let p : Place At = body_place ps x.at.number x.at.of x.at.source.tree g in
       subst (λ (qs : List (Package At)). AllPutThrough qs marks (where_added n.found) x.decl x.mark (changes_of n.found) (stmts_seen (body_place qs x.at.number (where_added n.found).of (file_added n.found) g) g.body))
       (sym (same_packages marks st l after n k.adds_nothing))
       (subst (λ (w : Where At). AllPutThrough ps marks w x.decl x.mark (changes_of n.found) (stmts_seen (body_place ps x.at.number w.of w.source.tree g) g.body))
       (sym (same_where marks st l after n k.adds_nothing))
-      (puts_found (stmts_seen p g.body) (stmts_held same_here x tree p g.body (record { each = uses_alone reads g e })).each (k.around g e)))
+      (braces_through (is_commented st) ps marks x k.use_ k.statements k.comes k.stays n.found.form same_form p g.body (uses_alone reads g e) (k.around g e)))
+
+  pub braces_step : Linked st.packages → ProgramReads st → SettlesFile n → StandsInFunction n → (m : MarkRef) → is_recursive st.packages marks m ≡ is_recursive after.packages marks m
+  braces_step h reads s b m = call-step marks st l after n h s (calls-change marks st l after n marked_function b) marked_function (puts_braces reads) m
+
+module _ (marks : List MarkRef) (st : Standing) (l : Logged) (after : Standing) (n : Next marks st l after) (k : PutsPlacedBlock n) where
+  -- a placed block is such
+  abbrev its_braces : PutBraces n
+  its_braces = record {
+    use_ = k.use_;
+    kind = k.kind;
+    becomes = k.placed.becomes;
+    statements = k.placed.statements;
+    is_block = k.placed.is_block;
+    comes = λ z s h b e. block_comes (is_commented st) st.packages marks n.found.site k.use_ k.kind k.placed z s h n.found.site.decl b e;
+    stays = k.stays;
+    adds_nothing = k.adds_nothing;
+    around = k.around;
+  }
+
+  pub puts_placed : ProgramReads st → PutsInBody n
+  puts_placed reads = puts_braces marks st l after n its_braces reads
 
   pub placed_block_step : Linked st.packages → ProgramReads st → SettlesFile n → StandsInFunction n → (m : MarkRef) → is_recursive st.packages marks m ≡ is_recursive after.packages marks m
-  placed_block_step h reads s b m = call-step marks st l after n h s (calls-change marks st l after n marked_function b) marked_function (puts_placed reads) m
+  placed_block_step h reads s b m = braces_step marks st l after n its_braces h reads s b m

@@ -132,7 +132,7 @@ log_meant = (tt, (tt, (tt, ((refl, λ e i. apart (sym e)), (tt, tt)))))
 
 by_names : AllByNames no_comments rs marks use_of_log log_use (given_params same_here rs (call_of same_here no_comments rs marks use_of_log log_use))
 unfolding log_use
-by_names = ((tt, λ w. refl), ((tt, λ w. refl), tt))
+by_names = (((refl, tt), λ w. refl), (((refl, tt), λ w. refl), tt))
 
 log_placed : PlacedBlock no_comments rs marks use_of_log log_use BlockForm
 unfolding log_use log_becomes

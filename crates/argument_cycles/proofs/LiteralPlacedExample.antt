@@ -121,7 +121,7 @@ println_led q i b e = go (name_inside no_comments rs marks use_of_log log_use q 
 
 by_names : AllByNames no_comments rs marks use_of_log log_use (given_params same_here rs (call_of same_here no_comments rs marks use_of_log log_use))
 unfolding log_use
-by_names = ((tt, λ w. refl), ((tt, λ w. refl), tt))
+by_names = (((refl, tt), λ w. refl), (((refl, tt), λ w. refl), tt))
 
 log_placed : PlacedLiteral no_comments rs marks use_of_log log_use
 unfolding log_use log_becomes literal

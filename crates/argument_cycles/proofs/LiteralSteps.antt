@@ -1,41 +1,59 @@
--- A step that puts a literal in which arguments take the places of parameters puts in the function around what calls through.
-use Rattle.std.proofs.Common.{◌≡◌, refl, sym, ap, ◌∙◌, subst, Bool, true, false, List, [], ◌∷◌, ◌++◌, Some, None, if◌then◌else◌, arith}
-use Rattle.std.specs.Prelude.{slice_get, is_some}
-use Rattle.std.proofs.lemmas.Option.{same_Some}
+-- A step that puts a literal which calls only what the use did or what the function leads to puts in the function around what calls through.
+use Rattle.std.proofs.Common.{◌≡◌, sym, ap, ◌∙◌, subst, true, List, [], ◌∷◌, ◌++◌, Some, ◌⊎◌}
+use Rattle.std.specs.Prelude.{slice_get}
 use Rattle.go_tree.specs.Tree.{Expr}
 use Rattle.go_tree.specs.File.{Func, func}
 use Rattle.pkg_graph.specs.Package.{Package}
 use Rattle.go_tree.specs.GoTypes.Answers.{meets}
 use Rattle.go_tree.proofs.GoTypes.Agreeing.{some_same}
-use Rattle.run_rules.specs.Surroundings.{Use, Place, Seen, seen, seen_type, seen_stmt}
-use Rattle.run_rules.specs.Places.{sig_seen, stmts_seen}
+use Rattle.run_rules.specs.Surroundings.{Place, Seen, other}
+use Rattle.run_rules.specs.Places.{sig_seen, stmts_seen, expr_seen}
 use Rattle.run_rules.specs.Programs.{top_place, body_place, receiver_seen}
-use Rattle.run_rules.specs.Sites.{MarkRef, Where, Site, part_span, inlinable, is_function}
+use Rattle.run_rules.specs.Sites.{MarkRef, Where, Site, part_span, inlinable, is_function, is_among_marks}
 use Rattle.run_rules.specs.FormTrees.{LiteralForm, Form, as_expr}
-use Rattle.run_rules.specs.Forms.{is_at}
 use Rattle.run_rules.specs.Reduced.{Reduced, becomes, kept}
-use Rattle.run_rules.specs.Steps.{At, same_here, changes_for}
-use Rattle.run_rules.specs.Cycles.{is_recursive}
+use Rattle.run_rules.specs.Steps.{At, same_here}
+use Rattle.run_rules.specs.Cycles.{is_recursive, LeadsTo}
 use Rattle.run_rules.specs.Run.{Standing, Logged, Next, is_commented}
+use Rattle.run_rules.specs.Naming.{imports_added}
 use Rattle.splice_laws.specs.RunLaws.Reading.{ProgramReads}
 use Rattle.order_runs.specs.CycleRuns.ImportCycles.ImportSteps.{file_added, where_added}
 use Rattle.order_runs.specs.CycleRuns.Linked.{Linked, SettlesFile}
 use Rattle.order_runs.proofs.CycleRuns.FoundUses.NoRecursive.{step-form}
 use Rattle.order_runs.proofs.RunSteps.UsesAlone.{stands-alone}
+use Rattle.order_runs.specs.CycleLaws.PutCalls.{called_among}
 use Rattle.constant_steps.specs.PlainUse.{AllTheUse}
 use Rattle.literal_cycles.specs.FormCycles.Bodies.{StandsInFunction, changes_of}
-use Rattle.literal_cycles.specs.FormCycles.Puts.{ExprCallsThrough, AllPutThrough, PutsInBody}
+use Rattle.literal_cycles.specs.FormCycles.Puts.{AllPutThrough, PutsInBody}
 use Rattle.literal_cycles.proofs.FormCycles.FormSteps.{calls-change, call-step}
-use Rattle.literal_cycles.specs.BodyForms.Steps.{AllStayThere}
 use Rattle.literal_cycles.proofs.NothingAdded.{same_where, same_packages}
+use Rattle.literal_cycles.specs.BodyForms.Uses.{CalledUse, Becomes}
 use Rattle.argument_cycles.specs.Literals.{PutsPlacedLiteral}
+use Rattle.argument_cycles.proofs.LiteralsThere.{literal_through}
+use Rattle.argument_cycles.specs.FreeSteps.{StaysAround}
 use Rattle.argument_cycles.proofs.PlacedLiterals.{literal_comes}
 
 abbrev form_or : Form At → Reduced At → Form At
 form_or d (becomes k f z ns) = f
 form_or d (kept o) = d
 
-module _ (marks : List MarkRef) (st : Standing) (l : Logged) (after : Standing) (n : Next marks st l after) (k : PutsPlacedLiteral n) where
+module _ {marks : List MarkRef} {st : Standing} {l : Logged} {after : Standing} (n : Next marks st l after) where
+  -- The step's use becomes this literal, which calls what it did, and it adds no import; in the function around, what is around it stays.
+  pub record PutLiteral : Type 0 where
+    pub use_ : CalledUse same_here (is_commented st) st.packages marks n.found.site
+    pub becomes : Becomes same_here (is_commented st) st.packages marks n.found.site use_ LiteralForm
+    pub literal : Expr At
+    pub is_literal : becomes.form ≡ as_expr literal
+    pub comes :
+        (b : MarkRef) → is_among_marks (called_among st.packages marks n.found.site.at n.found.site.decl (expr_seen n.found.site.place other literal)) b ≡ true
+        → (is_among_marks (called_among st.packages marks n.found.site.at n.found.site.decl (expr_seen n.found.site.place other use_.tree)) b ≡ true) ⊎ LeadsTo st.packages marks n.found.site.mark b
+    pub stays :
+        (b : MarkRef) → is_among_marks (called_among st.packages marks n.found.site.at n.found.site.decl (expr_seen n.found.site.place other use_.tree)) b ≡ true
+        → (is_among_marks (called_among st.packages marks n.found.site.at n.found.site.decl (expr_seen n.found.site.place other literal)) b ≡ true) ⊎ (b ≡ n.found.site.mark)
+    pub adds_nothing : imports_added n.found.named ≡ []
+    pub around : StaysAround n
+
+module _ (marks : List MarkRef) (st : Standing) (l : Logged) (after : Standing) (n : Next marks st l after) (k : PutLiteral n) where
   abbrev x : Site At
   x = n.found.site
 
@@ -49,38 +67,13 @@ module _ (marks : List MarkRef) (st : Standing) (l : Logged) (after : Standing) 
   tree = k.use_.tree
 
   -- the use's form is the step's
-  same_form : as_expr k.placed.literal ≡ n.found.form
+  same_form : as_expr k.literal ≡ n.found.form
   same_form =
-      sym k.placed.is_literal
-      ∙ ap (form_or k.placed.becomes.form) (some_same (becomes LiteralForm k.placed.becomes.form k.placed.becomes.range k.placed.becomes.packages) (becomes n.found.kind n.found.form n.found.range n.found.named) (sym k.placed.becomes.reduces ∙ step-form marks st l after n))
+      sym k.is_literal
+      ∙ ap (form_or k.becomes.form) (some_same (becomes LiteralForm k.becomes.form k.becomes.range k.becomes.packages) (becomes n.found.kind n.found.form n.found.range n.found.named) (sym k.becomes.reduces ∙ step-form marks st l after n))
 
   marked_function : meets (inlinable ps x.mark) is_function ≡ true
   marked_function = ap (λ o. meets o is_function) k.use_.declared
-
-  abbrev Through : Place At → Expr At → Expr At → Type 0
-  Through p y s = ExprCallsThrough ps marks x.at x.decl x.mark p y s
-
-  put_if : (b : Bool) (p : Place At) (y new s : Expr At) → (b ≡ true → Through p new s) → (if b then Some new else None) ≡ Some y → Through p y s
-  put_if true p y new s f h = subst (λ v. Through p v s) (same_Some new y h) (f refl)
-  put_if false p y new s f h = absurd (grind (arith, ap is_some h))
-
-  there : (p : Place At) (d : Expr At) → (p ≡ x.place) × (d ≡ tree) → Through p k.placed.literal d
-  there p d r =
-      subst (λ v. Through v k.placed.literal d) (sym r.0) (subst (λ e. Through x.place k.placed.literal e) (sym r.1)
-      (record { comes = λ b e. literal_comes (is_commented st) ps marks x k.use_ k.placed x.decl b e; stays = λ b e. k.stays b e }))
-
-  expr_put : (p : Place At) (w : Use) (d : Expr At) → (is_at same_here span d ≡ true → (p ≡ x.place) × (d ≡ tree)) → (y : Expr At) → (changes_for same_here span (as_expr k.placed.literal)).expr p w d ≡ Some y → Through p y d
-  expr_put p w d a y h = put_if (is_at same_here span d) p y k.placed.literal d (λ i. there p d (a i)) h
-
-  puts_at : (xs : List (Seen At)) → AllTheUse same_here x tree xs → AllStayThere (changes_for same_here span (as_expr k.placed.literal)) ps marks x.at x.decl x.mark xs → AllPutThrough ps marks x.at x.decl x.mark (changes_for same_here span (as_expr k.placed.literal)) xs
-  puts_at [] a s = tt
-  puts_at (seen p w y ∷ xs) a s = ((s.0, expr_put p w y a.0), puts_at xs a.1 s.1)
-  puts_at (seen_type p t ∷ xs) a s = (tt, puts_at xs a.1 s.1)
-  puts_at (seen_stmt p y ∷ xs) a s = ((s.0, λ z h. absurd (grind (arith, ap is_some h))), puts_at xs a.1 s.1)
-
-  puts_found : (xs : List (Seen At)) → AllTheUse same_here x tree xs → AllStayThere (changes_of n.found) ps marks x.at x.decl x.mark xs → AllPutThrough ps marks x.at x.decl x.mark (changes_of n.found) xs
-  puts_found xs a s =
-      subst (λ f. AllPutThrough ps marks x.at x.decl x.mark (changes_for same_here span f) xs) same_form (puts_at xs a (subst (λ f. AllStayThere (changes_for same_here span f) ps marks x.at x.decl x.mark xs) (sym same_form) s))
 
   behind : (xs ys : List (Seen At)) → AllTheUse same_here x tree (xs ++ ys) → AllTheUse same_here x tree ys
   behind [] ys a = a
@@ -92,14 +85,34 @@ module _ (marks : List MarkRef) (st : Standing) (l : Logged) (after : Standing) 
       behind (receiver_seen ps (top_place ps x.at.number x.at.of x.at.source.tree) g.receiver ++ sig_seen (top_place ps x.at.number x.at.of x.at.source.tree) g.sig) (stmts_seen (body_place ps x.at.number x.at.of x.at.source.tree g) g.body)
       (stands-alone marks st l after n reads tree k.use_.part (func g) e)
 
-  pub puts_literal : ProgramReads st → PutsInBody n
-  puts_literal reads g e =
+  pub puts_its_literal : ProgramReads st → PutsInBody n
+  puts_its_literal reads g e =
       let p : Place At = body_place ps x.at.number x.at.of x.at.source.tree g in
       subst (λ (qs : List (Package At)). AllPutThrough qs marks (where_added n.found) x.decl x.mark (changes_of n.found) (stmts_seen (body_place qs x.at.number (where_added n.found).of (file_added n.found) g) g.body))
       (sym (same_packages marks st l after n k.adds_nothing))
       (subst (λ (w : Where At). AllPutThrough ps marks w x.decl x.mark (changes_of n.found) (stmts_seen (body_place ps x.at.number w.of w.source.tree g) g.body))
       (sym (same_where marks st l after n k.adds_nothing))
-      (puts_found (stmts_seen p g.body) (uses_alone reads g e) (k.around g e)))
+      (literal_through (is_commented st) ps marks x k.use_ k.literal k.comes k.stays n.found.form same_form (stmts_seen p g.body) (uses_alone reads g e) (k.around g e)))
+
+  pub literal_step : Linked st.packages → ProgramReads st → SettlesFile n → StandsInFunction n → (m : MarkRef) → is_recursive st.packages marks m ≡ is_recursive after.packages marks m
+  literal_step h reads s b m = call-step marks st l after n h s (calls-change marks st l after n marked_function b) marked_function (puts_its_literal reads) m
+
+module _ (marks : List MarkRef) (st : Standing) (l : Logged) (after : Standing) (n : Next marks st l after) (k : PutsPlacedLiteral n) where
+  -- a placed literal is such
+  abbrev its_literal : PutLiteral n
+  its_literal = record {
+    use_ = k.use_;
+    becomes = k.placed.becomes;
+    literal = k.placed.literal;
+    is_literal = k.placed.is_literal;
+    comes = λ b e. literal_comes (is_commented st) st.packages marks n.found.site k.use_ k.placed n.found.site.decl b e;
+    stays = k.stays;
+    adds_nothing = k.adds_nothing;
+    around = k.around;
+  }
+
+  pub puts_literal : ProgramReads st → PutsInBody n
+  puts_literal reads = puts_its_literal marks st l after n its_literal reads
 
   pub placed_literal_step : Linked st.packages → ProgramReads st → SettlesFile n → StandsInFunction n → (m : MarkRef) → is_recursive st.packages marks m ≡ is_recursive after.packages marks m
-  placed_literal_step h reads s b m = call-step marks st l after n h s (calls-change marks st l after n marked_function b) marked_function (puts_literal reads) m
+  placed_literal_step h reads s b m = literal_step marks st l after n its_literal h reads s b m

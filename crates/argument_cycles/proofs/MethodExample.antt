@@ -1,36 +1,45 @@
--- A call of a method that becomes the expression of its body, with the receiver in the place of its parameter; it calls through by the law alone.
+-- A call of a method that becomes the expression of its body, with the receiver in the place of its parameter; it calls through by the law alone, and so does the method that is called in it.
 --   type C struct{ }
 --   func (c C) add() int { return get(1) + c.more() }   (marked)
 --   func get(b int) int { return b }                    (marked)
 --   func (c C) more() int { return 1 }                  (marked)
 --   func H(v C) { println(v.add()) }
 -- after the step: func H(v C) { println(get(1) + v.more()) }
-use Rattle.std.proofs.Common.{◌≡◌, refl, sym, ap, ◌∙◌, subst, ℕ, zero, suc, Bool, true, false, List, [], ◌∷◌, map, Option, Some, None, if◌then◌else◌, codes, arith}
-use Rattle.std.specs.Prelude.{is_some}
+use Rattle.std.proofs.Common.{◌≡◌, refl, sym, ap, ◌∙◌, subst, ◌⊎◌, inl, inr, ◌||◌, ℕ, zero, suc, Bool, true, false, List, [], ◌∷◌, map, Option, Some, None, if◌then◌else◌, codes, arith}
+use Rattle.std.specs.Prelude.{is_some, bytes_eq}
+use Rattle.std.proofs.lemmas.Bool.{or_cases}
 use Rattle.go_tree.specs.declared.exprs.Rest.TheVariants.{Plain}
 use Rattle.go_tree.specs.declared.operators.BinOp.TheVariants.{Add}
 use Rattle.go_tree.specs.Tree.{NameAt, TypeExpr, named, struct_type, no_fields, Param, Expr, ident, int_lit, selector, call, binary, no_exprs, expr_and, Stmt, eval, return_, Stmts, no_stmts, stmt_and}
 use Rattle.go_tree.specs.File.{Receiver, Func, types, func, File}
-use Rattle.go_tree.specs.GoTypes.Answers.{meets}
+use Rattle.go_tree.specs.ScopeNames.Means.{means}
+use Rattle.go_tree.specs.GoTypes.Answers.{given, meets}
 use Rattle.go_tree.specs.GoTypes.Types.{named_type}
 use Rattle.go_tree.proofs.GoTypes.Agreeing.{some_same}
 use Rattle.pkg_graph.specs.Package.{SourceTree, Package}
 use Rattle.run_rules.specs.BodyItems.{number_of}
-use Rattle.run_rules.specs.Surroundings.{whole, other, Place, a_slot, in_slot, at_stmt}
+use Rattle.run_rules.specs.Surroundings.{whole, other, Place, seen, a_slot, in_slot, at_stmt, is_local}
 use Rattle.run_rules.specs.Places.{expr_seen}
 use Rattle.run_rules.specs.Programs.{body_place}
-use Rattle.run_rules.specs.Sites.{MarkRef, Where, Site, an_expr, called_mark}
-use Rattle.run_rules.specs.Calls.{Given, all_params, declared_place}
+use Rattle.run_rules.specs.Sites as sites
+use Rattle.run_rules.specs.Sites.{MarkRef, same_mark, is_among_marks, Where, Site, an_expr, inlinable, imported_by, outer, import_number, qualifier, called_mark}
+use Rattle.run_rules.specs.Calls.{Given, all_params, declared_place, start_with}
+use Rattle.run_rules.specs.Cycles.{LeadsTo, leads_to}
 use Rattle.run_rules.specs.FormTrees.{ExprForm, as_expr, one_expr, type_expr, top}
 use Rattle.run_rules.specs.Forms.{new_type_at, value_converts}
 use Rattle.run_rules.specs.Steps.{At, same_here}
 use Rattle.run_rules.proofs.CaseTools.{mark, param, sig, tspec, recv}
 use Rattle.order_runs.specs.CycleLaws.PutCalls.{called_among}
 use Rattle.order_runs.proofs.CycleLaws.ConstantCycles.Examples.{node}
+use Rattle.order_runs.proofs.CycleLaws.ConstantCycles.OffCycles.{one_mark}
 use Rattle.literal_cycles.specs.FormCycles.Puts.{ExprCallsThrough}
 use Rattle.literal_cycles.specs.BodyForms.Uses.{CalledUse, call_of, chosen_of, Becomes, names_for, ConvertsToType}
 use Rattle.literal_cycles.specs.BodyForms.Uses as form_of
 use Rattle.argument_cycles.specs.Uses.{nth_param, its_call, TypesCallNothing, ParametersApart, UnusedCallNothing, PlacedArguments}
+use Rattle.literal_cycles.proofs.ThroughLiterals.{only_mark}
+use Rattle.argument_cycles.specs.Braces.{CalleeLed}
+use Rattle.argument_cycles.specs.Callees.{NameLed}
+use Rattle.argument_cycles.proofs.MethodsLed.{method_led}
 use Rattle.argument_cycles.proofs.PlacedCalls.{placed_through}
 
 abbrev name_of : At → List ℕ → NameAt At
@@ -213,3 +222,40 @@ add_through = placed_through no_comments packages marks use_of_add add_use add_p
 -- and what it calls is this
 add_calls : called_among packages marks here 4 (expr_seen there other put) ≡ mark 0 0 2 0 ∷ mark 0 0 3 0 ∷ []
 add_calls = refl
+
+-- ---- the method that is called, by its name alone
+
+-- a marked declaration is named `more`
+abbrev Named : MarkRef → Bool
+Named m = meets (inlinable packages m) (λ d. bytes_eq (sites.name_of d) (codes "more"))
+
+other_name : (b m : MarkRef) → Named m ≡ false → Named b ≡ true → same_mark b m ≡ true → false ≡ true
+other_name b m f h e = sym (ap Named (one_mark b m e) ∙ f) ∙ h
+
+-- `add` leads to each marked declaration of this name
+more_named : NameLed no_comments packages marks use_of_add add_use ExprForm (codes "more")
+more_named b i h = go (or_cases (same_mark b (mark 0 0 1 0)) (same_mark b (mark 0 0 2 0) || (same_mark b (mark 0 0 3 0) || false)) i)
+  where
+    last : (same_mark b (mark 0 0 2 0) ≡ true) ⊎ ((same_mark b (mark 0 0 3 0) || false) ≡ true) → LeadsTo packages marks (mark 0 0 1 0) b
+    last (inl e) = absurd (grind (arith, other_name b (mark 0 0 2 0) refl h e))
+    last (inr e) = ap (λ (a : MarkRef). is_among_marks (leads_to packages marks (mark 0 0 1 0)) a) (only_mark b (mark 0 0 3 0) e)
+
+    go : (same_mark b (mark 0 0 1 0) ≡ true) ⊎ ((same_mark b (mark 0 0 2 0) || (same_mark b (mark 0 0 3 0) || false)) ≡ true) → LeadsTo packages marks (mark 0 0 1 0) b
+    go (inl e) = absurd (grind (arith, other_name b (mark 0 0 1 0) refl h e))
+    go (inr e) = last (or_cases (same_mark b (mark 0 0 2 0)) (same_mark b (mark 0 0 3 0) || false) e)
+
+-- `v` names no package, wherever it stands
+no_package : (q : Place At) → qualifier packages here q (codes "v") ≡ None
+no_package q = go (is_local q (codes "v"))
+  where
+    go : (b : Bool) → given (if b then None else means (outer packages here) (codes "v")) (λ t. given (imported_by t) (import_number packages here)) ≡ None
+    go true = refl
+    go false = refl
+
+abbrev begin : Place At
+begin = start_with same_here packages (its_call no_comments packages marks use_of_add add_use) (chosen_of same_here no_comments packages marks use_of_add add_use)
+
+-- by the law alone: at each place within, whatever names mean there, `c.more()` as it is written calls what `add` leads to
+more_led : CalleeLed no_comments packages marks use_of_add add_use ExprForm (seen begin other (call (node 18) (selector (node 19) (ident (node 21) (codes "c")) (name_of (node 20) (codes "more"))) no_exprs Plain))
+unfolding add_use
+more_led = method_led no_comments packages marks use_of_add add_use ExprForm begin other (node 18) (node 19) (ident (node 21) (codes "c")) (name_of (node 20) (codes "more")) no_exprs Plain refl (λ q i. no_package q) more_named

@@ -58,7 +58,7 @@ module _ (commented : ℕ → ℕ → At → Bool) (rs : List (Package At)) (mar
       go true r q f = ap (λ a. meets (inlinable rs a) (λ d. bytes_eq (name_of d) n)) (sym (some_same m b q)) ∙ this_named j t n m (inlinable rs m) r
       go false r q f = f q
 
-  among_marks : (o : Option MarkRef) (b : MarkRef) → marked rs marks o ≡ Some b → (is_among_marks marks b ≡ true) × (o ≡ Some b)
+  pub among_marks : (o : Option MarkRef) (b : MarkRef) → marked rs marks o ≡ Some b → (is_among_marks marks b ≡ true) × (o ≡ Some b)
   among_marks None b e = apart (ap is_some e)
   among_marks (Some m) b e = go (is_among_marks marks m) refl e
     where
@@ -69,7 +69,7 @@ module _ (commented : ℕ → ℕ → At → Bool) (rs : List (Package At)) (mar
   -- ---- as it is written
 
   -- no package before the dot: a method
-  method_named : (q : Place At) (e : Expr At) (n : NameAt At) → No x.at q e → called_mark rs marks x.at q (selector c.new e n) ≡ marked rs marks (selected_method rs marks q e n.name)
+  pub method_named : (q : Place At) (e : Expr At) (n : NameAt At) → No x.at q e → called_mark rs marks x.at q (selector c.new e n) ≡ marked rs marks (selected_method rs marks q e n.name)
   method_named q (ident s z) n h = ap (λ o. elim o [ Some a ↦ marked_as rs marks is_free_function (member_of rs a n.name) | None ↦ marked rs marks (selected_method rs marks q (ident s z) n.name) ]) h
   method_named q e n h = refl
 
@@ -80,12 +80,12 @@ module _ (commented : ℕ → ℕ → At → Bool) (rs : List (Package At)) (mar
       l b r.0 (found_named marks m.0.0 m.0.1 n.name b m.2)
 
   -- what is written for a selection before whose dot no package stands
-  selection_is : (p : Place At) (z : At) (d : Expr At) (n : NameAt At) → No u.home p d → new_expr bc p called (selector z d n) ≡ selector c.new (new_expr bc (base_place commented rs marks x u k p (selector z d n)) other d) (new_name bc n)
+  pub selection_is : (p : Place At) (z : At) (d : Expr At) (n : NameAt At) → No u.home p d → new_expr bc p called (selector z d n) ≡ selector c.new (new_expr bc (base_place commented rs marks x u k p (selector z d n)) other d) (new_name bc n)
   selection_is p z (ident s y) n h =
       ap (λ o. otherwise (given (given o (λ j. Some (nm j))) (λ a. Some (selector c.new (ident c.new a) (a_name c.new n.name)))) (selector c.new (new_expr bc (base_place commented rs marks x u k p (selector z (ident s y) n)) other (ident s y)) (new_name bc n))) h
   selection_is p z d n h = refl
 
-  at_call : (p : Place At) (e d : Expr At) → No u.home p d → No u.home (called_place commented rs marks x u k p e) d
+  pub at_call : (p : Place At) (e d : Expr At) → No u.home p d → No u.home (called_place commented rs marks x u k p e) d
   at_call p e (ident s y) h = h
   at_call p e d h = tt
 

@@ -16,7 +16,7 @@ use Rattle.literal_cycles.specs.BodyForms.Uses.{CalledUse}
 use Rattle.literal_cycles.proofs.BodyForms.FormsWritten.{apart}
 use Rattle.literal_cycles.proofs.FormCycles.BlockCalls.{of-both, in-front, in-back}
 use Rattle.argument_cycles.specs.Braces.{IsInside}
-use Rattle.argument_cycles.specs.NamesAlone.{CallsNames, AllCallNames, OptionCallsNames}
+use Rattle.argument_cycles.specs.NamesAlone.{CallsNames, CallsApart, AllCallApart, OptionCallsApart}
 
 or_false : (a b : Bool) → (a || b) ≡ false → b ≡ false
 or_false true b e = apart (sym e)
@@ -37,7 +37,7 @@ module _ (commented : ℕ → ℕ → At → Bool) (rs : List (Package At)) (mar
   abbrev here : List (List ℕ)
   here = names_of q.bound
 
-  free_around : (n : List ℕ) → is_among n here ≡ false → is_among n around ≡ false
+  pub free_around : (n : List ℕ) → is_among n here ≡ false → is_among n around ≡ false
   free_around n e = not_last v.0 around n (ap (is_among n) (sym v.1) ∙ e)
 
   pub name_inside : (z : At) (n : List ℕ) → (called_mark rs marks x.at q (ident z n) ≡ None) ⊎ (called_mark rs marks x.at q (ident z n) ≡ called_mark rs marks x.at x.place (ident z n))
@@ -49,8 +49,8 @@ module _ (commented : ℕ → ℕ → At → Bool) (rs : List (Package At)) (mar
           inr (callee-is rs marks x.at q (ident z n) ∙ ap (λ t. D.free (if t then None else D.meaning n)) r ∙ sym (ap (λ t. D.free (if t then None else D.meaning n)) (free_around n r)) ∙ sym (callee-is rs marks x.at x.place (ident z n)))
 
   -- what is among the first is among the second
-  record Within (ns ms : List MarkRef) : Type 0 where
-    each : (b : MarkRef) → is_among_marks ns b ≡ true → is_among_marks ms b ≡ true
+  pub record Within (ns ms : List MarkRef) : Type 0 where
+    pub each : (b : MarkRef) → is_among_marks ns b ≡ true → is_among_marks ms b ≡ true
 
   none : (ms : List MarkRef) → Within [] ms
   none ms = record { each = λ b h. absurd (grind (arith, h)) }
@@ -65,7 +65,7 @@ module _ (commented : ℕ → ℕ → At → Bool) (rs : List (Package At)) (mar
       by b (inl e) = in-front b os ps (f.each b e)
       by b (inr e) = in-back b os ps (g.each b e)
 
-  own : (n : List ℕ) → Within (called_by D (D.free (meaning_past D here n))) (called_by D (D.free (meaning_past D around n)))
+  pub own : (n : List ℕ) → Within (called_by D (D.free (meaning_past D here n))) (called_by D (D.free (meaning_past D around n)))
   own n = go (is_among n here) refl
     where
       go : (t : Bool) → is_among n here ≡ t → Within (called_by D (D.free (meaning_past D here n))) (called_by D (D.free (meaning_past D around n)))
@@ -73,7 +73,7 @@ module _ (commented : ℕ → ℕ → At → Bool) (rs : List (Package At)) (mar
       go false r = same (ap (λ t. called_by D (D.free (if t then None else D.meaning n))) r ∙ sym (ap (λ t. called_by D (D.free (if t then None else D.meaning n))) (free_around n r)))
 
   mutual
-    expr_inside : (e : Expr At) → CallsNames e → Within (calls_expr D q.env here e) (calls_expr D x.place.env around e)
+    expr_inside : (e : Expr At) → CallsApart [] e → Within (calls_expr D q.env here e) (calls_expr D x.place.env around e)
     expr_inside (ident s n) h = none _
     expr_inside (int_lit s n) h = none _
     expr_inside (rune_lit s n) h = none _
@@ -82,7 +82,7 @@ module _ (commented : ℕ → ℕ → At → Bool) (rs : List (Package At)) (mar
     expr_inside (selector s d n) h = both (expr_inside d h) (none _)
     expr_inside (index s d i) h = both (both (expr_inside d h.0) (expr_inside i h.1)) (none _)
     expr_inside (slice s d i j) h = both (both (both (expr_inside d h.0) (option_inside i h.1.0)) (option_inside j h.1.1)) (none _)
-    expr_inside (call s (ident z n) xs r) h = both (all_inside xs h) (own n)
+    expr_inside (call s (ident z n) xs r) h = both (all_inside xs h.1) (own n)
     expr_inside (call s f xs r) h = absurd h
     expr_inside (func_lit s g z b) h = absurd h
     expr_inside (type_operand s t) h = none _
@@ -90,11 +90,11 @@ module _ (commented : ℕ → ℕ → At → Bool) (rs : List (Package At)) (mar
     expr_inside (binary s o d e) h = both (both (expr_inside d h.0) (expr_inside e h.1)) (none _)
     expr_inside (star s d) h = both (expr_inside d h) (none _)
 
-    all_inside : (es : Exprs At) → AllCallNames es → Within (calls_all D q.env here es) (calls_all D x.place.env around es)
+    all_inside : (es : Exprs At) → AllCallApart [] es → Within (calls_all D q.env here es) (calls_all D x.place.env around es)
     all_inside no_exprs h = none _
     all_inside (expr_and e es) h = both (expr_inside e h.0) (all_inside es h.1)
 
-    option_inside : (e : ExprOption At) → OptionCallsNames e → Within (calls_option D q.env here e) (calls_option D x.place.env around e)
+    option_inside : (e : ExprOption At) → OptionCallsApart [] e → Within (calls_option D q.env here e) (calls_option D x.place.env around e)
     option_inside no_expr h = none _
     option_inside (some_expr e) h = expr_inside e h
 

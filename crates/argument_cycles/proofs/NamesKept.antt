@@ -35,8 +35,8 @@ module _ (commented : ℕ → ℕ → At → Bool) (rs : List (Package At)) (mar
   B = func_binders u.callee
 
   -- what is among the first is among the second
-  record Among (ns ms : List MarkRef) : Type 0 where
-    each : (b : MarkRef) → is_among_marks ns b ≡ true → is_among_marks ms b ≡ true
+  pub record Among (ns ms : List MarkRef) : Type 0 where
+    pub each : (b : MarkRef) → is_among_marks ns b ≡ true → is_among_marks ms b ≡ true
 
   none : (ms : List MarkRef) → Among [] ms
   none ms = record { each = λ b h. absurd (grind (arith, h)) }
@@ -55,7 +55,7 @@ module _ (commented : ℕ → ℕ → At → Bool) (rs : List (Package At)) (mar
     abbrev here : List (List ℕ)
     here = names_of q.bound
 
-    own : (n : List ℕ) → is_among n B ≡ false → Among (called_by D (D.free (meaning_past D around n))) (called_by D (D.free (meaning_past D here n)))
+    pub own : (n : List ℕ) → is_among n B ≡ false → Among (called_by D (D.free (meaning_past D around n))) (called_by D (D.free (meaning_past D here n)))
     own n f = go (is_among n around) refl
       where
         go : (t : Bool) → is_among n around ≡ t → Among (called_by D (D.free (meaning_past D around n))) (called_by D (D.free (meaning_past D here n)))

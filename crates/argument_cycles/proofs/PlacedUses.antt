@@ -1,15 +1,13 @@
 -- Where the body uses a parameter whose argument takes its place, what is written calls what the argument does: one line a clause.
-use Rattle.std.proofs.Common.{◌≡◌, refl, sym, ap, ◌∙◌, subst, ◌⊎◌, inl, inr, ℕ, zero, suc, ◌+◌, Bool, true, false, ◌||◌, List, [], ◌∷◌, ◌++◌, map, Option, Some, None, if◌then◌else◌}
+use Rattle.std.proofs.Common.{◌≡◌, refl, sym, ap, ◌∙◌, ◌⊎◌, inl, inr, ℕ, zero, suc, ◌+◌, Bool, true, false, List, [], ◌∷◌, ◌++◌, map, Option, Some, None, if◌then◌else◌}
 use Rattle.std.specs.Prelude.{is_some}
 use Rattle.std.specs.List.{list_any}
 use Rattle.std.proofs.lemmas.Bool.{or_cases}
-use Rattle.std.proofs.lemmas.List.Folds.{list_any-append}
-use Rattle.go_tree.specs.Tree.{NameAt, Param, Sig, TypeExpr, Expr, ident, int_lit, rune_lit, str_lit, composite, selector, index, slice, call, func_lit, type_operand, unary, binary, star, Exprs, no_exprs, expr_and, ExprOption, no_expr, some_expr, Elems, no_elems, elem, Value, plain, braced, ValueOption, no_value, some_value, Stmt, const_decl, var_decl, empty, eval, step, assign, define, return_, break_, continue_, inner, if_, for_, range_, switch, defer, label, Stmts, no_stmts, stmt_and, StmtOption, no_stmt, some_stmt, BlockOption, no_block, some_block, RangeLeft, nothing, assigns, defines, Arms, no_arms, arm, Cases, no_cases, case, ValueSpecs, no_specs, spec}
+use Rattle.go_tree.specs.Tree.{NameAt, Expr, ident, int_lit, rune_lit, str_lit, composite, selector, index, slice, call, func_lit, type_operand, unary, binary, star, Exprs, no_exprs, expr_and, ExprOption, no_expr, some_expr, Elems, no_elems, elem, Value, plain, braced, Stmt, const_decl, var_decl, empty, eval, step, assign, define, return_, break_, continue_, inner, if_, for_, range_, switch, defer, label, Stmts, no_stmts, stmt_and, StmtOption, no_stmt, some_stmt, BlockOption, no_block, some_block, RangeLeft, nothing, assigns, defines, Arms, no_arms, arm, Cases, no_cases, case, ValueSpecs, no_specs, spec}
 use Rattle.go_tree.specs.GoTypes.Answers.{given, meets, otherwise}
 use Rattle.go_tree.specs.GoTypes.Bodies.{labelled}
 use Rattle.go_tree.specs.GoTypes.Declarations.{Repeated, nothing_to_repeat}
 use Rattle.go_tree.specs.GoTypes.Entities.{Env, in_block}
-use Rattle.go_tree.specs.GoTypes.Literals.{is_struct}
 use Rattle.go_tree.specs.GoTypes.Types.{GoType}
 use Rattle.go_tree.specs.GoTypes.Typing.{parts, all_parts}
 use Rattle.go_tree.specs.GoWords.Terminals.{level_of}
@@ -25,20 +23,22 @@ use Rattle.run_rules.specs.Calls.{Given, Call, start_with, all_params, given_par
 use Rattle.run_rules.specs.FormTrees.{FormKind, ExprForm, a_name, outside_name}
 use Rattle.run_rules.specs.Forms.{body_changes, new_body, param_number, nth_given, chosen_arg, written_arg}
 use Rattle.run_rules.specs.Naming.{Names}
-use Rattle.run_rules.specs.Places.{type_seen, params_seen, sig_seen, old_seen, expr_seen, all_seen, option_seen, elems_seen, key_seen, value_seen, stmt_seen, stmts_seen, first_seen, block_seen, left_seen, arms_seen, cases_seen, constants_seen, variables_seen, written_seen, after_arms}
+use Rattle.run_rules.specs.Places.{type_seen, sig_seen, old_seen, expr_seen, all_seen, option_seen, elems_seen, key_seen, value_seen, stmt_seen, stmts_seen, first_seen, block_seen, left_seen, arms_seen, cases_seen, constants_seen, variables_seen, written_seen, after_arms}
 use Rattle.run_rules.specs.Rewriting.{Changes, new_names, new_written, new_type, new_sig, new_name, new_expr, new_all, new_option, new_elems, new_key, new_value, new_stmt, new_stmts, new_first, new_block, new_left, new_arms, new_cases, new_constants, new_variables}
 use Rattle.run_rules.specs.Sites.{MarkRef, is_among_marks, Site, imported_by, outer, import_number, qualifier}
 use Rattle.run_rules.specs.Steps.{At, same_here}
-use Rattle.run_rules.specs.Surroundings.{Use, called, other, a_slot, in_slot, inner_slot, last_slot, callee_place, arg_uses, unary_use, operand_use, key_use, elem_use, elem_closed, whole, stored, updated, deferred_call, alone, alike, every_use, right_uses, first_operand_use, return_uses, value_use, head_use, later_uses, comma_slot, plain_slot, looping, switching, ranged, first_declares, left_declares, before_repeats, in_constant, repeated_by, after_constants, after_variables, after_stmt, Place, Seen, seen, seen_type, seen_stmt, local_at, after_first, block, in_heading, at_stmt, in_literal}
+use Rattle.run_rules.specs.Surroundings.{Use, called, other, a_slot, in_slot, inner_slot, last_slot, callee_place, arg_uses, unary_use, operand_use, elem_use, elem_closed, whole, stored, updated, deferred_call, alone, alike, every_use, right_uses, first_operand_use, return_uses, value_use, head_use, later_uses, comma_slot, plain_slot, looping, switching, ranged, first_declares, left_declares, before_repeats, in_constant, repeated_by, after_constants, after_variables, after_stmt, Place, Seen, seen, seen_type, seen_stmt, local_at, after_first, block, in_heading, at_stmt, in_literal}
 use Rattle.order_runs.proofs.CycleLaws.Called.{Callees, env_lit, bound_lit, after_env, after_bound, more_bound, constants_env, variables_env, at_member, first_env, first_bound, range_env, range_bound, called_by, callee, calls_expr, calls_all, calls_option, calls_elems, calls_key, calls_value, calls_stmt, calls_stmts, calls_first, calls_block, calls_left, calls_arms, calls_cases, calls_constants, calls_variables}
 use Rattle.order_runs.proofs.CycleLaws.Walked.{callees, expr-led}
 use Rattle.literal_cycles.specs.BodyForms.Uses.{CalledUse, call_of, chosen_of, names_for}
 use Rattle.literal_cycles.proofs.BodyForms.FormsWritten.{apart}
-use Rattle.literal_cycles.proofs.FormCycles.BlockCalls.{in-front, in-back}
-use Rattle.argument_cycles.specs.Stays.{KeyApart, KeysApart, ValueApart, PartApart, AllPartsApart, ArgumentKept, calls_at, parts_with}
+use Rattle.literal_cycles.proofs.FormCycles.BlockCalls.{in-front}
+use Rattle.argument_cycles.specs.Braces.{IsWithin}
+use Rattle.argument_cycles.specs.Stays.{KeysApart, ValueApart, AllPartsApart, calls_at, parts_with}
 use Rattle.argument_cycles.specs.Uses.{nth_param}
 use Rattle.argument_cycles.proofs.OwnNames.{own_front, own_back, names_own, sig_own, stmt_own, first_own, left_own}
-use Rattle.argument_cycles.proofs.BracesPut.{Within, Its, further, literal_within, quiet, spans_are, spot, inside, assoc}
+use Rattle.argument_cycles.proofs.BracesPut.{Within, Its, further, literal_within, quiet, spans_are, spot, inside}
+use Rattle.argument_cycles.proofs.PlacedParts.{Puts, Fair, none, both, itself, unused, regroup, or_one, with_type, key_free, sig_free, written_free, front, back, last, one_part, two_parts, pair, three_parts, four_parts}
 use Rattle.argument_cycles.proofs.UsedArguments.{IsParameter, parameter_named, found_among}
 
 module _ (commented : ℕ → ℕ → At → Bool) (rs : List (Package At)) (marks : List MarkRef) (x : Site At) (u : CalledUse same_here commented rs marks x) (k : FormKind) (i : ℕ) (g : Given At) (here : At) where
@@ -76,47 +76,7 @@ module _ (commented : ℕ → ℕ → At → Bool) (rs : List (Package At)) (mar
   abbrev Used : List (Seen At) → Type 0
   Used xs = list_any (uses same_here (Some here)) xs ≡ true
 
-  module _ (nth : nth_param commented rs marks x u i ≡ Some g) (is_chosen : has ch i ≡ true) (apart_so : (z : At) → same_here here z ≡ true → number_of same_here 0 (map declared_place (all_params same_here rs c)) z ≡ Some i) (kept : ArgumentKept commented rs marks x u k g) (m : MarkRef) (calls_it : is_among_marks (calls_at commented rs marks x u x.place g.arg) m ≡ true) where
-    -- where the parts use the parameter, the argument's callee is among these
-    pub record Puts (xs : List (Seen At)) (ns : List MarkRef) : Type 0 where
-      pub go : Used xs → is_among_marks ns m ≡ true
-
-    none : (ns : List MarkRef) → Puts [] ns
-    none ns = record { go = λ e. apart e }
-
-    both : {xs ys : List (Seen At)} {ns ms : List MarkRef} → Puts xs ns → Puts ys ms → Puts (xs ++ ys) (ns ++ ms)
-    both {xs = xs} {ys = ys} {ns = ns} {ms = ms} f h = record { go = λ e. by (or_cases (list_any (uses same_here (Some here)) xs) (list_any (uses same_here (Some here)) ys) (sym (list_any-append (uses same_here (Some here)) xs ys) ∙ e)) }
-      where
-        by : Used xs ⊎ Used ys → is_among_marks (ns ++ ms) m ≡ true
-        by (inl e) = in-front m ns ms (f.go e)
-        by (inr e) = in-back m ns ms (h.go e)
-
-    or_no : (b : Bool) → b ≡ false → (b || false) ≡ true → false ≡ true
-    or_no true e f = sym e
-    or_no false e f = f
-
-    or_one : (b : Bool) → (b || false) ≡ true → b ≡ true
-    or_one true e = refl
-    or_one false e = e
-
-    -- a part that is no use
-    itself : (y : Seen At) (ns : List MarkRef) → uses same_here (Some here) y ≡ false → Puts (y ∷ []) ns
-    itself y ns e = record { go = λ f. apart (or_no (uses same_here (Some here) y) e f) }
-
-    unused : (xs : List (Seen At)) (ns : List MarkRef) → list_any (uses same_here (Some here)) xs ≡ false → Puts xs ns
-    unused xs ns e = record { go = λ f. apart (sym e ∙ f) }
-
-    regroup : (xs ys zs : List (Seen At)) {ns : List MarkRef} → Puts (xs ++ (ys ++ zs)) ns → Puts ((xs ++ ys) ++ zs) ns
-    regroup xs ys zs {ns = ns} h = subst (λ l. Puts l ns) (assoc xs ys zs) h
-
-    or_later : (a b : Bool) → a ≡ false → (a || b) ≡ true → b ≡ true
-    or_later true b e f = apart (sym e)
-    or_later false b e f = f
-
-    -- between a type and the part itself
-    with_type : (t : Seen At) (xs : List (Seen At)) (y : Seen At) (ns : List MarkRef) → uses same_here (Some here) t ≡ false → uses same_here (Some here) y ≡ false → Puts xs ns → Puts ((t ∷ xs) ++ y ∷ []) (ns ++ [])
-    with_type t xs y ns e f h = both {xs = t ∷ xs} {ys = y ∷ []} {ns = ns} {ms = []} (record { go = λ g. h.go (or_later (uses same_here (Some here) t) (list_any (uses same_here (Some here)) xs) e g) }) (itself y [] f)
-
+  module _ (nth : nth_param commented rs marks x u i ≡ Some g) (is_chosen : has ch i ≡ true) (apart_so : (z : At) → same_here here z ≡ true → number_of same_here 0 (map declared_place (all_params same_here rs c)) z ≡ Some i) (m : MarkRef) (kept : (w : Use) (q : Place At) → IsWithin commented rs marks x u q → is_among_marks (calls_at commented rs marks x u x.place g.arg) m ≡ true → is_among_marks (calls_at commented rs marks x u q (written_arg same_here rs c nm ch w g)) m ≡ true) (calls_it : is_among_marks (calls_at commented rs marks x u x.place g.arg) m ≡ true) where
     -- ---- names
 
     put_calls : (p : Place At) (w : Use) (s : At) (n : List ℕ) (env : Env) (b : List (List ℕ)) → W b → meets (local_at p n) (same_here here) ≡ true → is_among_marks (calls_expr D env b (new_expr bc p w (ident s n))) m ≡ true
@@ -131,9 +91,9 @@ module _ (commented : ℕ → ℕ → At → Bool) (rs : List (Package At)) (mar
         let q : Place At = spot commented rs marks x u k env b in
         let z : Expr At = written_arg same_here rs c nm ch w g in
         ap (λ y. is_among_marks (calls_expr D env b y) m) put
-        ∙ (sym (ap (λ (l : List MarkRef). is_among_marks l m) (expr-led rs marks x.at x.decl q b (spans_are commented rs marks x u k b) other z)) ∙ kept w q (inside commented rs marks x u k env b h) m calls_it)
+        ∙ (sym (ap (λ (l : List MarkRef). is_among_marks l m) (expr-led rs marks x.at x.decl q b (spans_are commented rs marks x u k b) other z)) ∙ kept w q (inside commented rs marks x u k env b h) calls_it)
 
-    name_put : (p : Place At) (w : Use) (s : At) (n : List ℕ) (env : Env) (b : List (List ℕ)) → W b → Puts (seen p w (ident s n) ∷ []) (calls_expr D env b (new_expr bc p w (ident s n)))
+    name_put : (p : Place At) (w : Use) (s : At) (n : List ℕ) (env : Env) (b : List (List ℕ)) → W b → Puts here m (seen p w (ident s n) ∷ []) (calls_expr D env b (new_expr bc p w (ident s n)))
     name_put p w s n env b h = record { go = λ e. put_calls p w s n env b h (or_one (meets (local_at p n) (same_here here)) e) }
 
     no_package : (p : Place At) (n : List ℕ) → meets (local_at p n) (same_here here) ≡ true → qualifier rs u.home p n ≡ None
@@ -141,7 +101,7 @@ module _ (commented : ℕ → ℕ → At → Bool) (rs : List (Package At)) (mar
         let r : IsParameter here p n = parameter_named here p n e in
         ap (λ t. given (if t then None else means (outer rs u.home) n) (λ t. given (imported_by t) (import_number rs u.home))) (found_among p.bound n (ap is_some r.found))
 
-    selection_put : (p : Place At) (w : Use) (s z : At) (d : List ℕ) (n : NameAt At) (env : Env) (b : List (List ℕ)) → W b → Puts (expr_seen p w (selector s (ident z d) n)) (calls_expr D env b (new_expr bc p w (selector s (ident z d) n)))
+    selection_put : (p : Place At) (w : Use) (s z : At) (d : List ℕ) (n : NameAt At) (env : Env) (b : List (List ℕ)) → W b → Puts here m (expr_seen p w (selector s (ident z d) n)) (calls_expr D env b (new_expr bc p w (selector s (ident z d) n)))
     selection_put p w s z d n env b h = record { go = λ e. by (or_cases (meets (local_at p d) (same_here here)) false e) }
       where
         P : Place At
@@ -153,87 +113,8 @@ module _ (commented : ℕ → ℕ → At → Bool) (rs : List (Package At)) (mar
             ap (λ o. is_among_marks (calls_expr D env b (otherwise (given (given o (λ k. Some (nm k))) (λ y. Some (selector c.new (ident c.new y) (a_name c.new n.name)))) (selector c.new (new_expr bc P other (ident z d)) (new_name bc n)))) m) (no_package p d e)
             ∙ in-front m (calls_expr D env b (new_expr bc P other (ident z d))) [] (put_calls P other z d env b h e)
 
-    -- ---- keys, types and names of `:=`
-
-    key_free : (p : Place At) (t : Option GoType) (key : ValueOption At) → KeyApart here p.bound key → list_any (uses same_here (Some here)) (key_seen p t key) ≡ false
-    key_free p t no_value f = refl
-    key_free p t (some_value (plain (ident s n))) f = go (meets t is_struct)
-      where
-        go : (b : Bool) → list_any (uses same_here (Some here)) (if b then [] else seen p (key_use p.env t) (ident s n) ∷ []) ≡ false
-        go true = refl
-        go false = ap (λ b. b || false) f
-    key_free p t (some_value (plain (int_lit s n))) f = go (meets t is_struct)
-      where
-        go : (b : Bool) → list_any (uses same_here (Some here)) (if b then [] else seen p (key_use p.env t) (int_lit s n) ∷ []) ≡ false
-        go true = refl
-        go false = refl
-    key_free p t (some_value (plain (rune_lit s n))) f = go (meets t is_struct)
-      where
-        go : (b : Bool) → list_any (uses same_here (Some here)) (if b then [] else seen p (key_use p.env t) (rune_lit s n) ∷ []) ≡ false
-        go true = refl
-        go false = refl
-    key_free p t (some_value (plain (str_lit s n))) f = go (meets t is_struct)
-      where
-        go : (b : Bool) → list_any (uses same_here (Some here)) (if b then [] else seen p (key_use p.env t) (str_lit s n) ∷ []) ≡ false
-        go true = refl
-        go false = refl
-    key_free p t (some_value y) f = absurd f
-
-    params_free : (p : Place At) (xs : List (Param At)) → list_any (uses same_here (Some here)) (params_seen p xs) ≡ false
-    params_free p [] = refl
-    params_free p (y ∷ xs) = params_free p xs
-
-    sig_free : (p : Place At) (s : Sig At) → Puts (sig_seen p s) []
-    sig_free p s = both {xs = params_seen p s.params} {ys = params_seen p s.results} {ns = []} {ms = []} (unused (params_seen p s.params) [] (params_free p s.params)) (unused (params_seen p s.results) [] (params_free p s.results))
-
-    written_free : (p : Place At) (t : Option (TypeExpr At)) → Puts (written_seen p t) []
-    written_free p None = none []
-    written_free p (Some t) = itself _ [] refl
-
-    -- parts that are asked about
-    record Fair (xs : List (Seen At)) : Type 0 where
-      each : AllPartsApart here xs
-
-    front : (xs ys : List (Seen At)) → Fair (xs ++ ys) → Fair xs
-    front [] ys h = record { each = tt }
-    front (y ∷ xs) ys h = record { each = (h.each.0, (front xs ys (record { each = h.each.1 })).each) }
-
-    back : (xs ys : List (Seen At)) → Fair (xs ++ ys) → Fair ys
-    back [] ys h = h
-    back (y ∷ xs) ys h = back xs ys (record { each = h.each.1 })
-
-    last : (xs : List (Seen At)) (y : Seen At) → Fair (xs ++ y ∷ []) → PartApart here y
-    last xs y h = (back xs (y ∷ []) h).each.0
-
-    -- parts, and behind them the one that they make up
-    one_part : (xs : List (Seen At)) (z : Seen At) (ns : List MarkRef) → (Fair xs → Puts xs ns) → uses same_here (Some here) z ≡ false → Fair (xs ++ z ∷ []) → Puts (xs ++ z ∷ []) (ns ++ [])
-    one_part xs z ns f e h = both {xs = xs} {ys = z ∷ []} {ns = ns} {ms = []} (f (front xs (z ∷ []) h)) (itself z [] e)
-
-    two_parts : (xs ys : List (Seen At)) (z : Seen At) (ns ms os : List MarkRef) → (Fair xs → Puts xs ns) → (Fair ys → Puts ys ms) → uses same_here (Some here) z ≡ false → Fair (xs ++ ys ++ z ∷ []) → Puts (xs ++ ys ++ z ∷ []) (ns ++ ms ++ os)
-    two_parts xs ys z ns ms os f g e h =
-        let a : Fair (xs ++ ys) = front (xs ++ ys) (z ∷ []) h in
-        both {xs = xs ++ ys} {ys = z ∷ []} {ns = ns ++ ms} {ms = os} (both {xs = xs} {ys = ys} {ns = ns} {ms = ms} (f (front xs ys a)) (g (back xs ys a))) (itself z os e)
-
-    -- one after the other
-    pair : (xs ys : List (Seen At)) (ns ms : List MarkRef) → (Fair xs → Puts xs ns) → (Fair ys → Puts ys ms) → Fair (xs ++ ys) → Puts (xs ++ ys) (ns ++ ms)
-    pair xs ys ns ms f g h = both {xs = xs} {ys = ys} {ns = ns} {ms = ms} (f (front xs ys h)) (g (back xs ys h))
-
-    three_parts : (xs ys us : List (Seen At)) (z : Seen At) (ns ms os : List MarkRef) → (Fair xs → Puts xs ns) → (Fair ys → Puts ys ms) → (Fair us → Puts us os) → uses same_here (Some here) z ≡ false → Fair (xs ++ ys ++ us ++ z ∷ []) → Puts (xs ++ ys ++ us ++ z ∷ []) (ns ++ ms ++ os ++ [])
-    three_parts xs ys us z ns ms os f g l e h =
-        let c : Fair (xs ++ ys ++ us) = front (xs ++ ys ++ us) (z ∷ []) h in
-        let a : Fair (xs ++ ys) = front (xs ++ ys) us c in
-        both {xs = xs ++ ys ++ us} {ys = z ∷ []} {ns = ns ++ ms ++ os} {ms = []} (both {xs = xs ++ ys} {ys = us} {ns = ns ++ ms} {ms = os} (both {xs = xs} {ys = ys} {ns = ns} {ms = ms} (f (front xs ys a)) (g (back xs ys a))) (l (back (xs ++ ys) us c))) (itself z [] e)
-
-    four_parts : (xs ys us vs : List (Seen At)) (z : Seen At) (ns ms os ps : List MarkRef) → (Fair xs → Puts xs ns) → (Fair ys → Puts ys ms) → (Fair us → Puts us os) → (Fair vs → Puts vs ps) → uses same_here (Some here) z ≡ false → Fair (xs ++ ys ++ us ++ vs ++ z ∷ []) → Puts (xs ++ ys ++ us ++ vs ++ z ∷ []) (ns ++ ms ++ os ++ ps ++ [])
-    four_parts xs ys us vs z ns ms os ps f g l r e h =
-        let d : Fair (xs ++ ys ++ us ++ vs) = front (xs ++ ys ++ us ++ vs) (z ∷ []) h in
-        let c : Fair (xs ++ ys ++ us) = front (xs ++ ys ++ us) vs d in
-        let a : Fair (xs ++ ys) = front (xs ++ ys) us c in
-        both {xs = xs ++ ys ++ us ++ vs} {ys = z ∷ []} {ns = ns ++ ms ++ os ++ ps} {ms = []}
-        (both {xs = xs ++ ys ++ us} {ys = vs} {ns = ns ++ ms ++ os} {ms = ps} (both {xs = xs ++ ys} {ys = us} {ns = ns ++ ms} {ms = os} (both {xs = xs} {ys = ys} {ns = ns} {ms = ms} (f (front xs ys a)) (g (back xs ys a))) (l (back (xs ++ ys) us c))) (r (back (xs ++ ys ++ us) vs d))) (itself z [] e)
-
     mutual
-      expr_used : (p : Place At) (w : Use) (e : Expr At) (env : Env) (b : List (List ℕ)) → W b → Fair (expr_seen p w e) → O (expr_binders e) → Puts (expr_seen p w e) (calls_expr D env b (new_expr bc p w e))
+      expr_used : (p : Place At) (w : Use) (e : Expr At) (env : Env) (b : List (List ℕ)) → W b → Fair here (expr_seen p w e) → O (expr_binders e) → Puts here m (expr_seen p w e) (calls_expr D env b (new_expr bc p w e))
       expr_used p w (ident s n) env b v h m = name_put p w s n env b v
       expr_used p w (int_lit s n) env b v h m = itself (seen p w (int_lit s n)) [] refl
       expr_used p w (rune_lit s n) env b v h m = itself (seen p w (rune_lit s n)) [] refl
@@ -278,33 +159,33 @@ module _ (commented : ℕ → ℕ → At → Bool) (rs : List (Package At)) (mar
           let P : Place At = in_slot (last_slot p.slot (star s d) 6 None) p in
           one_part (expr_seen P other d) (seen p w (star s d)) (calls_expr D env b (new_expr bc P other d)) (λ a. expr_used P other d env b v a m) refl h
 
-      all_used : (p : Place At) (us : List Use) (es : Exprs At) (env : Env) (b : List (List ℕ)) → W b → Fair (all_seen p us es) → O (exprs_binders es) → Puts (all_seen p us es) (calls_all D env b (new_all bc p us es))
+      all_used : (p : Place At) (us : List Use) (es : Exprs At) (env : Env) (b : List (List ℕ)) → W b → Fair here (all_seen p us es) → O (exprs_binders es) → Puts here m (all_seen p us es) (calls_all D env b (new_all bc p us es))
       all_used p us no_exprs env b v h m = none []
       all_used p us (expr_and e es) env b v h m =
           let P : Place At = record p { slot = comma_slot p.slot es } in
           pair (expr_seen P (head_use us) e) (all_seen p (later_uses us) es) (calls_expr D env b (new_expr bc P (head_use us) e)) (calls_all D env b (new_all bc p (later_uses us) es)) (λ a. expr_used P (head_use us) e env b v a (own_front (expr_binders e) (exprs_binders es) m))
           (λ a. all_used p (later_uses us) es env b v a (own_back (expr_binders e) (exprs_binders es) m)) h
 
-      option_used : (p : Place At) (e : ExprOption At) (env : Env) (b : List (List ℕ)) → W b → Fair (option_seen p e) → O (expr_option_binders e) → Puts (option_seen p e) (calls_option D env b (new_option bc p e))
+      option_used : (p : Place At) (e : ExprOption At) (env : Env) (b : List (List ℕ)) → W b → Fair here (option_seen p e) → O (expr_option_binders e) → Puts here m (option_seen p e) (calls_option D env b (new_option bc p e))
       option_used p no_expr env b v h m = none []
       option_used p (some_expr e) env b v h m = expr_used p other e env b v h m
 
-      elems_used : (p : Place At) (t : Option GoType) (i : ℕ) (es : Elems At) (env : Env) (b : List (List ℕ)) → W b → (o : Option GoType) (j : ℕ) → KeysApart here p.bound es → Fair (elems_seen p t i es) → O (elems_binders es) → Puts (elems_seen p t i es) (calls_elems D env b o j (new_elems bc p t i es))
+      elems_used : (p : Place At) (t : Option GoType) (i : ℕ) (es : Elems At) (env : Env) (b : List (List ℕ)) → W b → (o : Option GoType) (j : ℕ) → KeysApart here p.bound es → Fair here (elems_seen p t i es) → O (elems_binders es) → Puts here m (elems_seen p t i es) (calls_elems D env b o j (new_elems bc p t i es))
       elems_used p t i no_elems env b v o j f h m = none []
       elems_used p t i (elem s key y es) env b v o j f h m =
           let P : Place At = record p { slot = a_slot 1 false (elem_closed es) } in
           let w : Use = elem_use p.env t i key in
           let K = new_key bc p t key in
           pair (key_seen p t key ++ value_seen P w y) (elems_seen p t (suc i) es) (calls_key D env b o K ++ calls_value D env b (elem_use env o j K) (new_value bc P w y)) (calls_elems D env b o (suc j) (new_elems bc p t (suc i) es))
-          (λ a. pair (key_seen p t key) (value_seen P w y) (calls_key D env b o K) (calls_value D env b (elem_use env o j K) (new_value bc P w y)) (λ c. unused (key_seen p t key) (calls_key D env b o K) (key_free p t key f.0))
+          (λ a. pair (key_seen p t key) (value_seen P w y) (calls_key D env b o K) (calls_value D env b (elem_use env o j K) (new_value bc P w y)) (λ c. unused (key_seen p t key) (calls_key D env b o K) (key_free here p t key f.0))
           (λ c. value_used P w y env b v (elem_use env o j K) f.1.0 c (own_back (value_option_binders key) (value_binders y) (own_front (value_option_binders key ++ value_binders y) (elems_binders es) m))) a)
           (λ a. elems_used p t (suc i) es env b v o (suc j) f.1.1 a (own_back (value_option_binders key ++ value_binders y) (elems_binders es) m)) h
 
-      value_used : (p : Place At) (w : Use) (y : Value At) (env : Env) (b : List (List ℕ)) → W b → (other_use : Use) → ValueApart here p.bound y → Fair (value_seen p w y) → O (value_binders y) → Puts (value_seen p w y) (calls_value D env b other_use (new_value bc p w y))
+      value_used : (p : Place At) (w : Use) (y : Value At) (env : Env) (b : List (List ℕ)) → W b → (other_use : Use) → ValueApart here p.bound y → Fair here (value_seen p w y) → O (value_binders y) → Puts here m (value_seen p w y) (calls_value D env b other_use (new_value bc p w y))
       value_used p w (plain e) env b v g f h m = expr_used p w e env b v h m
       value_used p w (braced s es) env b v g f h m = elems_used _ _ 0 es env b v _ 0 f h m
 
-      stmt_used : (p : Place At) (l : Bool) (s : Stmt At) (env : Env) (b : List (List ℕ)) → W b → Fair (stmt_seen p l s) → O (stmt_binders s) → Puts (stmt_seen p l s) (calls_stmt D env b (new_stmt bc p l s))
+      stmt_used : (p : Place At) (l : Bool) (s : Stmt At) (env : Env) (b : List (List ℕ)) → W b → Fair here (stmt_seen p l s) → O (stmt_binders s) → Puts here m (stmt_seen p l s) (calls_stmt D env b (new_stmt bc p l s))
       stmt_used p l (const_decl s g ss) env b v h m =
           one_part (constants_seen (plain_slot p) nothing_to_repeat 0 ss) (seen_stmt p (const_decl s g ss)) (calls_constants D env b nothing_to_repeat 0 (new_constants bc (plain_slot p) nothing_to_repeat 0 ss)) (λ a. constants_used (plain_slot p) nothing_to_repeat 0 ss env b v nothing_to_repeat 0 a m) refl h
       stmt_used p l (var_decl s g ss) env b v h m = one_part (variables_seen (plain_slot p) ss) (seen_stmt p (var_decl s g ss)) (calls_variables D env b (new_variables bc (plain_slot p) ss)) (λ a. variables_used (plain_slot p) ss env b v a m) refl h
@@ -366,7 +247,7 @@ module _ (commented : ℕ → ℕ → At → Bool) (rs : List (Package At)) (mar
           let P : Place At = record p { ctx = labelled p.ctx n y } in
           one_part (stmt_seen P false y) (seen_stmt p (label s n y)) (calls_stmt D env b (new_stmt bc P false y)) (λ a. stmt_used P false y env b v a m) refl h
 
-      stmts_used : (p : Place At) (y : Stmts At) (env : Env) (b : List (List ℕ)) → W b → Fair (stmts_seen p y) → O (stmts_binders y) → Puts (stmts_seen p y) (calls_stmts D env b (new_stmts bc p y))
+      stmts_used : (p : Place At) (y : Stmts At) (env : Env) (b : List (List ℕ)) → W b → Fair here (stmts_seen p y) → O (stmts_binders y) → Puts here m (stmts_seen p y) (calls_stmts D env b (new_stmts bc p y))
       stmts_used p no_stmts env b v h m = none []
       stmts_used p (stmt_and s ss) env b v h m =
           let j = new_stmt bc (at_stmt p s) true s in
@@ -374,21 +255,21 @@ module _ (commented : ℕ → ℕ → At → Bool) (rs : List (Package At)) (mar
           pair (stmt_seen (at_stmt p s) true s) (stmts_seen (after_stmt p s) ss) (calls_stmt D env b j) (calls_stmts D (after_env env j) (after_bound env b j) (new_stmts bc (after_stmt p s) ss)) (λ a. stmt_used (at_stmt p s) true s env b v a f)
           (λ a. stmts_used (after_stmt p s) ss (after_env env j) (after_bound env b j) (more (names_of (declares env.here j)) v (stmt_own bc (quiet commented rs marks x u k) env.here (at_stmt p s) true s f)) a (own_back (stmt_binders s) (stmts_binders ss) m)) h
 
-      first_used : (p : Place At) (i : StmtOption At) (env : Env) (b : List (List ℕ)) → W b → Fair (first_seen p i) → O (stmt_option_binders i) → Puts (first_seen p i) (calls_first D env b (new_first bc p i))
+      first_used : (p : Place At) (i : StmtOption At) (env : Env) (b : List (List ℕ)) → W b → Fair here (first_seen p i) → O (stmt_option_binders i) → Puts here m (first_seen p i) (calls_first D env b (new_first bc p i))
       first_used p no_stmt env b v h m = none []
       first_used p (some_stmt s) env b v h m = stmt_used _ _ s env b v h m
 
-      block_used : (p : Place At) (z : BlockOption At) (env : Env) (b : List (List ℕ)) → W b → Fair (block_seen p z) → O (block_option_binders z) → Puts (block_seen p z) (calls_block D env b (new_block bc p z))
+      block_used : (p : Place At) (z : BlockOption At) (env : Env) (b : List (List ℕ)) → W b → Fair here (block_seen p z) → O (block_option_binders z) → Puts here m (block_seen p z) (calls_block D env b (new_block bc p z))
       block_used p no_block env b v h m = none []
       block_used p (some_block s y) env b v h m = stmts_used _ y _ b v h m
 
-      left_used : (p : Place At) (y : RangeLeft At) (env : Env) (b : List (List ℕ)) → W b → Fair (left_seen p y) → O (left_binders y) → Puts (left_seen p y) (calls_left D env b (new_left bc p y))
+      left_used : (p : Place At) (y : RangeLeft At) (env : Env) (b : List (List ℕ)) → W b → Fair here (left_seen p y) → O (left_binders y) → Puts here m (left_seen p y) (calls_left D env b (new_left bc p y))
       left_used p nothing env b v h m = none []
       left_used p (assigns es) env b v h m = all_used _ _ es env b v h m
       left_used p (defines ns) env b v h m = none []
 
-      arms_used : (p : Place At) (bs : Arms At) (env : Env) (b : List (List ℕ)) → W b → Fair (arms_seen p bs) → O (arms_binders bs) → (zs : List (Seen At)) (final : Env → List (List ℕ) → List MarkRef) → ((e : Env) (y : List (List ℕ)) → W y → Puts zs (final e y))
-          → Puts (arms_seen p bs ++ zs) (calls_arms D env b final (new_arms bc p bs))
+      arms_used : (p : Place At) (bs : Arms At) (env : Env) (b : List (List ℕ)) → W b → Fair here (arms_seen p bs) → O (arms_binders bs) → (zs : List (Seen At)) (final : Env → List (List ℕ) → List MarkRef) → ((e : Env) (y : List (List ℕ)) → W y → Puts here m zs (final e y))
+          → Puts here m (arms_seen p bs ++ zs) (calls_arms D env b final (new_arms bc p bs))
       arms_used p no_arms env b v h m zs final f = f env b v
       arms_used p (arm s i t d y r) env b v h m zs final f =
           let H : Place At = in_heading true p in
@@ -412,7 +293,7 @@ module _ (commented : ℕ → ℕ → At → Bool) (rs : List (Package At)) (mar
           (stmts_used (block q) y (in_block e) l a (back (first_seen H i ++ expr_seen Q other t) (stmts_seen (block q) y) hs) (own_back (stmt_option_binders i ++ expr_binders t) (stmts_binders y) o)))
           (arms_used (block q) r (in_block e) l a (back xs (arms_seen (block q) r) h) (own_back (stmt_option_binders i ++ expr_binders t ++ stmts_binders y) (arms_binders r) m) zs final f))
 
-      cases_used : (p : Place At) (cs : Cases At) (env : Env) (b : List (List ℕ)) → W b → Fair (cases_seen p cs) → O (cases_binders cs) → Puts (cases_seen p cs) (calls_cases D env b (new_cases bc p cs))
+      cases_used : (p : Place At) (cs : Cases At) (env : Env) (b : List (List ℕ)) → W b → Fair here (cases_seen p cs) → O (cases_binders cs) → Puts here m (cases_seen p cs) (calls_cases D env b (new_cases bc p cs))
       cases_used p no_cases env b v h m = none []
       cases_used p (case s es y cs) env b v h m =
           let H : Place At = in_heading false p in
@@ -421,7 +302,7 @@ module _ (commented : ℕ → ℕ → At → Bool) (rs : List (Package At)) (mar
           (λ a. pair (all_seen H [] es) (stmts_seen (block p) y) (calls_all D env b (new_all bc H [] es)) (calls_stmts D (in_block env) b (new_stmts bc (block p) y)) (λ c. all_used H [] es env b v c (own_front (exprs_binders es) (stmts_binders y) o)) (λ c. stmts_used (block p) y (in_block env) b v c (own_back (exprs_binders es) (stmts_binders y) o)) a)
           (λ a. cases_used p cs env b v a (own_back (exprs_binders es ++ stmts_binders y) (cases_binders cs) m)) h
 
-      constants_used : (p : Place At) (r : Repeated) (i : ℕ) (ss : ValueSpecs At) (env : Env) (b : List (List ℕ)) → W b → (q : Repeated) (j : ℕ) → Fair (constants_seen p r i ss) → O (specs_binders ss) → Puts (constants_seen p r i ss) (calls_constants D env b q j (new_constants bc p r i ss))
+      constants_used : (p : Place At) (r : Repeated) (i : ℕ) (ss : ValueSpecs At) (env : Env) (b : List (List ℕ)) → W b → (q : Repeated) (j : ℕ) → Fair here (constants_seen p r i ss) → O (specs_binders ss) → Puts here m (constants_seen p r i ss) (calls_constants D env b q j (new_constants bc p r i ss))
       constants_used p r i no_specs env b v q j h m = none []
       constants_used p r i (spec s ns t es ss) env b v q j h m =
           let P : Place At = before_repeats (in_constant i p) ns ss in
@@ -436,7 +317,7 @@ module _ (commented : ℕ → ℕ → At → Bool) (rs : List (Package At)) (mar
           (λ a. pair (written_seen P t) (all_seen P us es) [] (calls_all D (at_member j env) b ds) (λ c. written_free P t) (λ c. all_used P us es (at_member j env) b v c (own_back (names_of ns) (exprs_binders es) o)) a)
           (λ a. constants_used A (repeated_by r t es) (suc i) ss (constants_env env (repeated_by q y ds) j l) (more_bound b l) (more (names_of (not_blank l)) v (names_own bc ns (own_front (names_of ns) (exprs_binders es) o))) (repeated_by q y ds) (suc j) a (own_back (names_of ns ++ exprs_binders es) (specs_binders ss) m)) h
 
-      variables_used : (p : Place At) (ss : ValueSpecs At) (env : Env) (b : List (List ℕ)) → W b → Fair (variables_seen p ss) → O (specs_binders ss) → Puts (variables_seen p ss) (calls_variables D env b (new_variables bc p ss))
+      variables_used : (p : Place At) (ss : ValueSpecs At) (env : Env) (b : List (List ℕ)) → W b → Fair here (variables_seen p ss) → O (specs_binders ss) → Puts here m (variables_seen p ss) (calls_variables D env b (new_variables bc p ss))
       variables_used p no_specs env b v h m = none []
       variables_used p (spec s ns t es ss) env b v h m =
           let us : List Use = alike (value_use p.env t) ns in

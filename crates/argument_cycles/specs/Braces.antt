@@ -68,21 +68,29 @@ module _ (commented : ℕ → ℕ → At → Bool) (rs : List (Package At)) (mar
         (body_changes same_here rs (call_of same_here commented rs marks x u)
         (names_for same_here commented rs marks x u k) (chosen_of same_here commented rs marks x u)) p w e
 
-    -- What a part of the body calls names, as it is written, at each place within no marked function, or one that the
-    -- function leads to. Keys of composite literals are plain.
-    abbrev pub CalleeLed : Seen At → Type 0
-    CalleeLed (seen p w (call s f xs r)) =
+    -- What a part of the body calls names, as it is written, at each place within no marked function, or one of these.
+    -- Keys of composite literals are plain.
+    abbrev pub CalleeAmong : (MarkRef → Type 0) → Seen At → Type 0
+    CalleeAmong These (seen p w (call s f xs r)) =
         (q : Place At) → IsWithin q → (b : MarkRef)
         → called_mark rs marks x.at q
         (written_there (callee_place (inner_slot p.slot (call s f xs r) 7 true false) f p) called f) ≡ Some b
-        → meets (inlinable rs b) is_function ≡ true → LeadsTo rs marks x.mark b
-    CalleeLed (seen p w (composite s t es)) = PlainKeys es
-    CalleeLed y = Unit {0}
+        → meets (inlinable rs b) is_function ≡ true → These b
+    CalleeAmong These (seen p w (composite s t es)) = PlainKeys es
+    CalleeAmong These y = Unit {0}
+
+    -- so in all parts of a list
+    abbrev pub AllCalleesAmong : (MarkRef → Type 0) → List (Seen At) → Type 0
+    AllCalleesAmong These [] = Unit {0}
+    AllCalleesAmong These (y ∷ ys) = CalleeAmong These y × AllCalleesAmong These ys
+
+    -- So it names at each place within no marked function, or one that the function leads to.
+    abbrev pub CalleeLed : Seen At → Type 0
+    CalleeLed y = CalleeAmong (λ b. LeadsTo rs marks x.mark b) y
 
     -- so in all parts of a list
     abbrev pub AllCalleesLed : List (Seen At) → Type 0
-    AllCalleesLed [] = Unit {0}
-    AllCalleesLed (y ∷ ys) = CalleeLed y × AllCalleesLed ys
+    AllCalleesLed ys = AllCalleesAmong (λ b. LeadsTo rs marks x.mark b) ys
 
     -- an argument, as it is written for its parameter, calls at each place within what the call does
     abbrev pub ArgumentLed : Given At → Type 0
@@ -93,7 +101,21 @@ module _ (commented : ℕ → ℕ → At → Bool) (rs : List (Package At)) (mar
         (names_for same_here commented rs marks x u k) (chosen_of same_here commented rs marks x u) w g))) b ≡ true
         → is_among_marks (called_among rs marks x.at x.decl (expr_seen x.place other u.tree)) b ≡ true
 
+    -- or it calls these there besides
+    abbrev pub ArgumentAmong : (MarkRef → Type 0) → Given At → Type 0
+    ArgumentAmong These g =
+        (w : Use) (q : Place At) → IsWithin q → (b : MarkRef)
+        → is_among_marks (called_among rs marks x.at x.decl (expr_seen q other
+        (written_arg same_here rs (call_of same_here commented rs marks x u)
+        (names_for same_here commented rs marks x u k) (chosen_of same_here commented rs marks x u) w g))) b ≡ true
+        → (is_among_marks (called_among rs marks x.at x.decl (expr_seen x.place other u.tree)) b ≡ true) ⊎ These b
+
     -- so do all
+    abbrev pub AllArgumentsAmong : (MarkRef → Type 0) → List (Given At) → Type 0
+    AllArgumentsAmong These [] = Unit {0}
+    AllArgumentsAmong These (g ∷ gs) = ArgumentAmong These g × AllArgumentsAmong These gs
+
+    -- all arguments call what the call does
     abbrev pub AllArgumentsLed : List (Given At) → Type 0
     AllArgumentsLed [] = Unit {0}
     AllArgumentsLed (g ∷ gs) = ArgumentLed g × AllArgumentsLed gs

@@ -19,7 +19,7 @@ use Rattle.constant_steps.specs.WrittenLiteral.Meant.{Serves}
 use Rattle.literal_steps.specs.CalledAt.{CalledAt}
 use Rattle.literal_cycles.specs.Uses.{place_of_use}
 use Rattle.literal_cycles.specs.BodyForms.Uses.{CalledUse, call_of, chosen_of, names_for, Becomes, LinkedUse}
-use Rattle.argument_cycles.specs.Braces.{IsWithin, written_there, CalleeLed, AllCalleesLed}
+use Rattle.argument_cycles.specs.Braces.{IsWithin, written_there, CalleeAmong, CalleeLed, AllCalleesLed}
 use Rattle.argument_cycles.specs.Uses.{is_declared}
 
 module _ (commented : ℕ → ℕ → At → Bool) (rs : List (Package At)) (marks : List MarkRef) (x : Site At)
@@ -32,31 +32,43 @@ module _ (commented : ℕ → ℕ → At → Bool) (rs : List (Package At)) (mar
 
   -- What a part of the body calls by a name alone is declared outside the function; if it is a member of another
   -- package than the call's, that package has a name at the call. So has a package before a dot. A literal of a function
-  -- has a type. A method that is called is asked for by itself, as it is written.
-  abbrev pub CalleeMeant : Seen At → Type 0
-  CalleeMeant (seen p w (call s (ident z n) xs r)) =
+  -- has a type. A method that is called is asked for by itself, as it is written: it is one of these.
+  abbrev pub CalleeMeantAmong : (MarkRef → Type 0) → Seen At → Type 0
+  CalleeMeantAmong These (seen p w (call s (ident z n) xs r)) =
       (is_declared (outer_meaning rs u.home p n) ≡ true)
       × (nat_eq u.home.number x.at.number ≡ false → is_some (given (outer_meaning rs u.home p n) mark_of) ≡ true
       → PackageNamed u.home.number)
-  CalleeMeant (seen p w (call s (selector z (ident y q) n) xs r)) =
+  CalleeMeantAmong These (seen p w (call s (selector z (ident y q) n) xs r)) =
       ((j : ℕ) → qualifier rs u.home p q ≡ Some j → PackageNamed j)
       × (qualifier rs u.home p q ≡ None
-      → CalleeLed commented rs marks x u k (seen p w (call s (selector z (ident y q) n) xs r)))
-  CalleeMeant (seen p w (func_lit s g z b)) = is_some (func_type p.env g) ≡ true
-  CalleeMeant y = CalleeLed commented rs marks x u k y
+      → CalleeAmong commented rs marks x u k These (seen p w (call s (selector z (ident y q) n) xs r)))
+  CalleeMeantAmong These (seen p w (func_lit s g z b)) = is_some (func_type p.env g) ≡ true
+  CalleeMeantAmong These y = CalleeAmong commented rs marks x u k These y
 
   -- so in all parts of a list
-  abbrev pub AllCalleesMeant : List (Seen At) → Type 0
-  AllCalleesMeant [] = Unit {0}
-  AllCalleesMeant (y ∷ ys) = CalleeMeant y × AllCalleesMeant ys
+  abbrev pub AllCalleesMeantAmong : (MarkRef → Type 0) → List (Seen At) → Type 0
+  AllCalleesMeantAmong These [] = Unit {0}
+  AllCalleesMeantAmong These (y ∷ ys) = CalleeMeantAmong These y × AllCalleesMeantAmong These ys
 
   -- so in all of the body, where the parameters that are chosen mean their arguments
-  abbrev pub BodyMeant : Type 0
-  BodyMeant =
-      AllCalleesMeant
+  abbrev pub BodyMeantAmong : (MarkRef → Type 0) → Type 0
+  BodyMeantAmong These =
+      AllCalleesMeantAmong These
       (stmts_seen
       (start_with same_here rs (call_of same_here commented rs marks x u) (chosen_of same_here commented rs marks x u))
       u.callee.body)
+
+  -- a method that is called in a part, as it is written, is one that the function leads to
+  abbrev pub CalleeMeant : Seen At → Type 0
+  CalleeMeant y = CalleeMeantAmong (λ b. LeadsTo rs marks x.mark b) y
+
+  -- so in all parts of a list
+  abbrev pub AllCalleesMeant : List (Seen At) → Type 0
+  AllCalleesMeant ys = AllCalleesMeantAmong (λ b. LeadsTo rs marks x.mark b) ys
+
+  -- and in all of the body
+  abbrev pub BodyMeant : Type 0
+  BodyMeant = BodyMeantAmong (λ b. LeadsTo rs marks x.mark b)
 
   -- ---- methods
 

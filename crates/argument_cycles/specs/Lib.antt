@@ -8,3 +8,7 @@ pub mod Quiet
 pub mod Stands
 pub mod Laws
 pub mod FreeSteps
+pub mod TypedBodies
+pub mod ImportingSteps
+pub mod TypedMethods
+pub mod ArgumentRuns

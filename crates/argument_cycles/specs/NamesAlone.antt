@@ -18,31 +18,6 @@ use Rattle.literal_cycles.specs.BodyForms.Uses.{CalledUse, call_of}
 use Rattle.argument_cycles.specs.Braces.{IsInside, AllArgumentsLed}
 use Rattle.argument_cycles.specs.Stays.{ArgumentKept}
 
-abbrev mutual
-  -- what the expression calls are names alone, and no literal of a function and no composite literal stands in it
-  pub CallsNames : Expr At → Type 0
-  CallsNames (composite s t es) = ⊥
-  CallsNames (selector s b n) = CallsNames b
-  CallsNames (index s b i) = CallsNames b × CallsNames i
-  CallsNames (slice s b i j) = CallsNames b × (OptionCallsNames i × OptionCallsNames j)
-  CallsNames (call s (ident z n) xs r) = AllCallNames xs
-  CallsNames (call s f xs r) = ⊥
-  CallsNames (func_lit s g z b) = ⊥
-  CallsNames (unary s o e) = CallsNames e
-  CallsNames (binary s o a b) = CallsNames a × CallsNames b
-  CallsNames (star s e) = CallsNames e
-  CallsNames e = Unit {0}
-
-  -- so of each of these
-  pub AllCallNames : Exprs At → Type 0
-  AllCallNames no_exprs = Unit {0}
-  AllCallNames (expr_and e es) = CallsNames e × AllCallNames es
-
-  -- and of one that may be left out
-  pub OptionCallsNames : ExprOption At → Type 0
-  OptionCallsNames no_expr = Unit {0}
-  OptionCallsNames (some_expr e) = CallsNames e
-
 -- no name that is called is among these
 module _ (binders : List (List ℕ)) where
   abbrev mutual
@@ -70,6 +45,10 @@ module _ (binders : List (List ℕ)) where
     pub OptionCallsApart : ExprOption At → Type 0
     OptionCallsApart no_expr = Unit {0}
     OptionCallsApart (some_expr e) = CallsApart e
+
+-- what the expression calls are names alone, and no literal of a function and no composite literal stands in it
+abbrev pub CallsNames : Expr At → Type 0
+CallsNames e = CallsApart [] e
 
 module _ (commented : ℕ → ℕ → At → Bool) (rs : List (Package At)) (marks : List MarkRef) (x : Site At)
     (u : CalledUse same_here commented rs marks x) where

@@ -97,6 +97,16 @@ module _ (commented : ℕ → ℕ → At → Bool) (rs : List (Package At)) (mar
         (names_for same_here commented rs marks x u k) (chosen_of same_here commented rs marks x u) w g)) b
         ≡ true
 
+    -- so it is of these that it calls
+    abbrev pub ArgumentKeptOf : (MarkRef → Type 0) → Given At → Type 0
+    ArgumentKeptOf These g =
+        (w : Use) (q : Place At) → IsWithin commented rs marks x u q → (b : MarkRef) → These b
+        → is_among_marks (calls_at x.place g.arg) b ≡ true
+        → is_among_marks (calls_at q
+        (written_arg same_here rs (call_of same_here commented rs marks x u)
+        (names_for same_here commented rs marks x u k) (chosen_of same_here commented rs marks x u) w g)) b
+        ≡ true
+
     -- Each argument calls within what it does at the call. An argument that takes its parameter's place stands where the
     -- body uses the parameter, which is no key there and which no `:=` assigns to; where the body doesn't use it, the
     -- argument calls nothing.
@@ -104,6 +114,20 @@ module _ (commented : ℕ → ℕ → At → Bool) (rs : List (Package At)) (mar
       pub gives : CallGives
       pub apart : ParametersApart commented rs marks x u
       pub kept : (i : ℕ) (g : Given At) → nth_param commented rs marks x u i ≡ Some g → ArgumentKept g
+      pub plain_uses :
+          (i : ℕ) (g : Given At) → nth_param commented rs marks x u i ≡ Some g
+          → has (chosen_of same_here commented rs marks x u) i ≡ true → (v : At) → declared_place g.param ≡ Some v
+          → AllPartsApart v parts_with
+      pub unused :
+          (i : ℕ) (g : Given At) → nth_param commented rs marks x u i ≡ Some g
+          → has (chosen_of same_here commented rs marks x u) i ≡ true
+          → list_any (uses same_here (declared_place g.param)) parts_with ≡ false → calls_at x.place g.arg ≡ []
+
+    -- So it is, where arguments call within these alone of what they do at the call.
+    pub record ArgumentsStayOf (These : MarkRef → Type 0) : Type 0 where
+      pub gives : CallGives
+      pub apart : ParametersApart commented rs marks x u
+      pub kept : (i : ℕ) (g : Given At) → nth_param commented rs marks x u i ≡ Some g → ArgumentKeptOf These g
       pub plain_uses :
           (i : ℕ) (g : Given At) → nth_param commented rs marks x u i ≡ Some g
           → has (chosen_of same_here commented rs marks x u) i ≡ true → (v : At) → declared_place g.param ≡ Some v

@@ -5,7 +5,11 @@
 //! Qualified identifiers; Blocks; Function literals). Definitions and laws alone, without code.
 #![tactic(auto)]
 
+pub mod argument_runs;
+pub mod importing_steps;
 mod laws;
+pub mod typed_bodies;
+pub mod typed_methods;
 
 pub use laws::{
     arguments_are_put, arguments_stay, callees_are_led, free_steps_keep_cycles,

@@ -1,0 +1,2 @@
+pub mod OneUse
+pub mod AddedSteps

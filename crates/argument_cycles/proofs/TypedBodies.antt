@@ -1,0 +1,9 @@
+pub mod TypedAnswers
+pub mod TypedHeads
+pub mod Alongside
+pub mod TypesAlongside
+pub mod CalleesDeclared
+pub mod MeantWalk
+pub mod ChosenNames
+pub mod BodiesMeant
+pub mod TypedSteps

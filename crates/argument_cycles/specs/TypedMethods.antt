@@ -1,0 +1,3 @@
+pub mod Methods
+pub mod Arguments
+pub mod Laws
