@@ -56,13 +56,14 @@ use Rattle.meaning_in_place.specs.Standing.{MentionedAlike, OperandStands}
 use Rattle.meaning_in_place.proofs.Operands.{operand_in}
 use Rattle.meaning_in_place.proofs.Packages.{each_below, all_bounded, all_below, packages_same}
 use Rattle.meaning_in_place.proofs.Runs.{step_same, run_means}
-use Rattle.literals_in_place.specs.Steps.{BodyPut, PackagesPut}
+use Rattle.literals_in_place.specs.Parts.{in_operand}
+use Rattle.literals_in_place.specs.Steps.{BodyPut, PackagesPut, ranks_of, function_called}
 use Rattle.literals_in_place.proofs.FurtherFacts.{same_beside, facts_beside, mentions_beside}
 use Rattle.literals_in_place.proofs.FurtherLiterals.{stand_beside}
 use Rattle.literals_in_place.proofs.FurtherSteps.{well_typed_beside}
 use Rattle.literals_in_place.proofs.Literals.{operand_stands}
 
-abbrev at : ℕ → Span
+abbrev pub at : ℕ → Span
 at n = record { start = n; end = n }
 
 abbrev name : ℕ → List ℕ → NameAt Span
@@ -87,13 +88,13 @@ sig_from at =
 abbrev add : Func Span
 add = record { span = at 10; receiver = None; name = name 11 (codes "add"); sig = sig_from at; body_span = at 17; body = body_from at }
 
-abbrev adding : Expr Span
+abbrev pub adding : Expr Span
 adding = call (at 43) (ident (at 44) (codes "add")) (expr_and (int_lit (at 45) (codes "2")) no_exprs) Plain
 
 abbrev printing : Stmt Span
 printing = eval (at 40) (call (at 41) (ident (at 42) (codes "println")) (expr_and adding no_exprs) Plain)
 
-abbrev main : Func Span
+abbrev pub main : Func Span
 main = record { span = at 30; receiver = None; name = name 31 (codes "main"); sig = record { params = []; results = [] }; body_span = at 32; body = stmt_and printing no_stmts }
 
 abbrev file : File Span
@@ -105,7 +106,7 @@ source = record { path = codes "main.go"; tree = file }
 abbrev pk : Package Span
 pk = record { path = codes "m"; name = codes "main"; files = source ∷ [] }
 
-abbrev rs : List (Package Span)
+abbrev pub rs : List (Package Span)
 rs = pk ∷ []
 
 abbrev here : Where Span
@@ -114,26 +115,26 @@ here = record { number = 0; of = pk; file_number = 0; source = source }
 abbrev mark_of_add : MarkRef
 mark_of_add = record { «package» = 0; file = 0; decl = 0; item = 0 }
 
-abbrev marks : List MarkRef
+abbrev pub marks : List MarkRef
 marks = mark_of_add ∷ []
 
-abbrev no_comments : ℕ → ℕ → Span → Bool
+abbrev pub no_comments : ℕ → ℕ → Span → Bool
 no_comments k f s = false
 
 abbrev there : Place Span
 there = in_slot (a_slot 1 false true) (at_stmt (body_place rs 0 pk file main) printing)
 
-abbrev use_of_add : Site Span
+abbrev pub use_of_add : Site Span
 use_of_add = record { at = here; decl = 1; place = there; use_ = whole; part = an_expr adding; mark = mark_of_add }
 
 -- func(x int) int { x = x + 1; return x }(2), all of whose nodes but the argument stand where the call stood
 abbrev new_at : ℕ → Span
 new_at n = at 43
 
-abbrev literal : Expr Span
+abbrev pub literal : Expr Span
 literal = call (at 43) (func_lit (at 43) (sig_from new_at) (at 43) (body_from new_at)) (expr_and (int_lit (at 45) (codes "2")) no_exprs) Plain
 
-is_literal_use : LiteralUse same_span no_comments rs marks use_of_add
+unfoldable pub is_literal_use : LiteralUse same_span no_comments rs marks use_of_add
 is_literal_use = record {
   tree = adding;
   part = refl;
@@ -147,11 +148,11 @@ is_literal_use = record {
   reduces = refl;
 }
 
-none_chosen : (i : ℕ) → has (false ∷ []) i ≡ false
+pub none_chosen : (i : ℕ) → has (false ∷ []) i ≡ false
 none_chosen zero = refl
 none_chosen (suc i) = refl
 
-is_plain_call : PlainCall same_span no_comments rs marks use_of_add is_literal_use
+unfoldable pub is_plain_call : PlainCall same_span no_comments rs marks use_of_add is_literal_use
 unfolding is_literal_use
 is_plain_call = record {
   span = at 43;
@@ -166,7 +167,7 @@ is_plain_call = record {
   counted = λ e. refl;
 }
 
-abbrev packages : List (translated.Package Span)
+abbrev pub packages : List (translated.Package Span)
 packages = record { path = codes "m"; source = linked_at rs here (at 1) } ∷ []
 
 add_stands : Standing rs here
@@ -183,7 +184,7 @@ add_stands = record {
   sound = refl;
 }
 
-is_linked : Linked rs packages use_of_add same_span no_comments marks is_literal_use
+pub is_linked : Linked rs packages use_of_add same_span no_comments marks is_literal_use
 unfolding is_literal_use
 is_linked = record {
   sources_are = refl;
@@ -201,7 +202,7 @@ is_linked = record {
 abbrev in_main : Here
 in_main = record { env = there.env; paths = paths_in packages; locals = []; results = []; types = [] }
 
-is_called : CalledAt rs packages use_of_add in_main
+pub is_called : CalledAt rs packages use_of_add in_main
 is_called = record {
   world_is = refl;
   home_is = refl;
@@ -212,7 +213,7 @@ is_called = record {
   locals = λ n e. refl;
 }
 
-no_packages : PackagesServe rs packages use_of_add same_span no_comments marks is_literal_use in_main
+pub no_packages : PackagesServe rs packages use_of_add same_span no_comments marks is_literal_use in_main
 unfolding is_literal_use
 no_packages = record { types = (tt, (tt, tt)); body = (tt, (tt, (tt, (tt, (tt, (tt, (tt, tt))))))); types_away = all_here rs here 0 (names_of_form same_span no_comments rs marks use_of_add is_literal_use) there.env.names [] refl (sig_seen (top rs (call_of same_span no_comments rs marks use_of_add is_literal_use)) add.sig); body_away = all_here rs here 0 (names_of_form same_span no_comments rs marks use_of_add is_literal_use) there.env.names [] refl (body_seen same_span rs (call_of same_span no_comments rs marks use_of_add is_literal_use)) }
 
@@ -254,7 +255,7 @@ rs_after = record pk { files = record source { tree = file_after } ∷ [] } ∷ 
 abbrev here_after : Where Span
 here_after = record { number = 0; of = record pk { files = record source { tree = file_after } ∷ [] }; file_number = 0; source = record source { tree = file_after } }
 
-abbrev packages_after : List (translated.Package Span)
+abbrev pub packages_after : List (translated.Package Span)
 packages_after = record { path = codes "m"; source = linked_at rs_after here_after (at 1) } ∷ []
 
 abbrev main_header : Headed Span
@@ -309,7 +310,7 @@ only_mark m h = by (same_mark m mark_of_add) refl h
 mark_here : (m : MarkRef) (w : Where Span) → is_among_marks marks m ≡ true → where_is rs m ≡ Some w → here ≡ w
 mark_here m w among e = some_same here w (subst (λ z. where_is rs z ≡ Some w) (sym (only_mark m among)) e)
 
-is_translated : Translated rs marks packages
+pub is_translated : Translated rs marks packages
 is_translated = record { sources_are = refl; distinct = refl; typed = refl; stand = λ m w among k e. subst (Standing rs) (mark_here m w among e) add_stands }
 
 func_in : Decl Span → Func Span
@@ -327,12 +328,15 @@ no_groups_in : (m : MarkRef) (g : Func Span) → is_among_marks marks m ≡ true
 no_groups_in m g among e =
     subst NoGroups (same_func add g (subst (λ (z : MarkRef). slice_get file.decls z.decl ≡ Some (func g)) (sym (only_mark m among)) e)) (tt, (tt, (tt, (tt, (tt, (tt, (tt, tt)))))))
 
-no_groups : NoConstantGroups rs marks
+pub no_groups : NoConstantGroups rs marks
 no_groups m w g among e d is_plain =
     subst (λ (w : Where Span). slice_get w.source.tree.decls m.decl ≡ Some (func g) → AllWithoutConstants (stmts_seen (body_place rs w.number w.of w.source.tree g) g.body)) (mark_here m w among e) (λ d. no_groups_in m g among d) d
 
 -- in `main` the literal is the argument of `println`, as the call was
-literal_put : PackagesPut in_main adding literal use_of_add packages packages_after
+abbrev called_function : FuncName
+called_function = function_called same_span no_comments rs marks use_of_add is_literal_use is_plain_call packages
+
+literal_put : PackagesPut in_main adding literal (ranks_of rs marks packages) called_function use_of_add packages packages_after
 literal_put =
     and_package refl
     (and_header header_stays
@@ -340,7 +344,7 @@ literal_put =
     (function_stands main_header main (record { params = []; results = [] }) (function_named (codes "m") (codes "main")) [] refl refl (λ n e. absurd (grind (arith, e)))
     (record {
       operands = 1;
-      statements = this_stmt no_stmts (in_eval (at 40) (in_argument (at 41) (ident (at 42) (codes "println")) Plain (this_expr (record { place = refl; before = refl; after = refl }))));
+      statements = this_stmt no_stmts (in_eval (at 40) (in_operand (in_argument (at 41) (ident (at 42) (codes "println")) Plain (this_expr (record { place = refl; before = refl; after = refl })))));
       local = λ n e. absurd (grind (arith, e));
     })) no_headers)) no_more_packages
 
@@ -348,7 +352,7 @@ step_shows : ShowTheSame (is_free rs marks (paths_in packages)) 1 packages packa
 unfolding is_literal_use is_plain_call
 step_shows =
     step_same (is_free rs marks (paths_in packages)) 1 packages packages_after
-    (well_typed_beside (BodyPut in_main adding literal use_of_add) (paths_in packages) (collected (sources packages)) packages packages_after refl literal_put (and_more (record { number = refl; name = refl; files = and_more tt no_more }) no_more) (and_more refl (and_more refl no_more)) refl refl)
+    (well_typed_beside (BodyPut in_main adding literal (ranks_of rs marks packages) called_function use_of_add) (paths_in packages) (collected (sources packages)) packages packages_after refl literal_put (and_more (record { number = refl; name = refl; files = and_more tt no_more }) no_more) (and_more refl (and_more refl no_more)) refl refl)
     (λ Q t. stand_beside same_span no_comments rs marks use_of_add is_literal_use is_plain_call packages is_linked [] in_main (called_beside is_called) no_packages literal refl is_translated no_groups Q t packages_after refl literal_put)
 
 -- so a run of this step means the same: within (1 + 1)(n + 1), since one function is marked

@@ -1,5 +1,5 @@
 -- The literal of a call stands for the call beside further packages, and packages in whose functions it does stand for those before.
-use Rattle.std.specs.Prelude.{◌≡◌, refl, ℕ, zero, suc, Bool, true, not, List, [], ◌∷◌, ◌++◌, length, Option, Some, None}
+use Rattle.std.specs.Prelude.{◌≡◌, ◌≤◌, refl, ℕ, zero, suc, Bool, true, not, List, [], ◌∷◌, ◌++◌, length, Option, Some, None}
 use mathlib.Core.Path.{ap, sym, ◌∙◌, subst}
 use Rattle.std.proofs.Common.{arith}
 use Rattle.go_tree.specs.declared.spans.Span.{Span}
@@ -14,16 +14,16 @@ use Rattle.go_tree.specs.GoTypes.TypeNames.{func_type}
 use Rattle.go_tree.specs.GoTypes.Types.{GoType, FuncType}
 use Rattle.pkg_graph.specs.Package.{Package}
 use Rattle.go_kernel.specs.Alike.{MeanSame, Below, Calls}
-use Rattle.go_kernel.specs.Kernel.{ImportPath, FuncName, Func, Program as Code, Term, Let, Alone, Call, code}
+use Rattle.go_kernel.specs.Kernel.{ImportPath, FuncName, Func, Program as Code, Term, Let, Alone, Call, Defer, DeferLit, code}
 use Rattle.go_kernel.specs.Laws.{Ranked}
 use Rattle.go_translation.specs.Calls.{function_named}
 use Rattle.go_translation.specs.Here.{Here, at_body}
-use Rattle.go_translation.specs.Mentions.{mentions, mentions_stmts}
+use Rattle.go_translation.specs.Mentions.{Way, Deferred, mentions, mentions_stmts}
 use Rattle.go_translation.specs.Operators.{no_type}
 use Rattle.go_translation.specs.Packages as translated
 use Rattle.go_translation.specs.Packages.{sources, paths_in, file_here, function_names, function_binds, called_name, are_well_typed, codes_of, program_of}
 use Rattle.go_translation.specs.SwappedPackages.{function_here}
-use Rattle.go_translation.specs.Translation.{expr_term}
+use Rattle.go_translation.specs.Translation.{expr_term, deferred_term}
 use Rattle.go_translation.specs.Values.{path_of}
 use Rattle.go_translation.proofs.ProgramScoped.{program_scoped}
 use Rattle.typed_in_place.specs.SameFacts.{SameOperand}
@@ -46,22 +46,22 @@ use Rattle.literal_steps.proofs.RankedMarks.ProgramRanked.{program-ranked, free-
 use Rattle.meaning_in_place.specs.InPackages.{NamesAround, EachBelow, rank_of_all, BodyStands, HeaderChanges, header_stays, function_stands, HeadersChange, no_headers, and_header, MembersChange, no_packages, and_package}
 use Rattle.meaning_in_place.specs.InStatements.{WithinStmts}
 use Rattle.meaning_in_place.specs.Runs.{StandBeside}
-use Rattle.meaning_in_place.specs.Standing.{TermStands, OperandStands, DeferredStands}
-use Rattle.meaning_in_place.proofs.Operands.{operand_in}
+use Rattle.meaning_in_place.specs.Standing.{MentionedAlike, TermStands, OperandStands, DeferredStands}
 use Rattle.meaning_in_place.proofs.Packages.{each_below, all_bounded, all_below}
 use Rattle.literals_in_place.specs.Reached.{in_program, HereWithin}
-use Rattle.literals_in_place.specs.Steps.{PutThere, NoneDeferred, PutWithin, BodyPut, PackagesPut}
+use Rattle.literals_in_place.specs.Steps.{PutThere, PutWithin, DeferredWithin, BodyPut, PackagesPut}
 use Rattle.literals_in_place.proofs.Facts.{same_facts}
 use Rattle.literals_in_place.proofs.FurtherCodes.{worlds, paths, zeros, within, function_beside}
 use Rattle.literals_in_place.proofs.FurtherFacts.{facts_there, mentions_moved}
-use Rattle.literals_in_place.proofs.FurtherPlaces.{stmts_moved, operand_moved}
+use Rattle.literals_in_place.proofs.FurtherPlaces.{stmts_moved, part_moved}
 use Rattle.literals_in_place.proofs.FurtherTyped.{members_beside}
 use Rattle.literals_in_place.proofs.Joined.{paths_both, sources_both}
-use Rattle.literals_in_place.proofs.Literals.{args, same_tries, call_anywhere, form_anywhere, call_is, literal_is, call_stands_where_called}
+use Rattle.literals_in_place.proofs.Literals.{args, same_tries, same_blank, lefts_alike, addresses_alike, call_anywhere, form_anywhere, call_is, literal_is, call_stands_where_called, defer_stands, deferred_call, deferred_form}
 use Rattle.literals_in_place.proofs.Mentions.{mentioned_alike}
 use Rattle.literals_in_place.proofs.MentionsReached.{mentions-reached, mentions_stmts-reached}
+use Rattle.literals_in_place.proofs.PartsStand.{part_in, deferred_in}
 use Rattle.literals_in_place.proofs.ReachedHeaders.{top, file_within, binds_within, binds_same, called_name_same}
-use Rattle.literals_in_place.proofs.ReachedTerms.{body_within, place_after, expr_term-reached}
+use Rattle.literals_in_place.proofs.ReachedTerms.{body_within, place_after, expr_term-reached, deferred_term-reached}
 use Rattle.literals_in_place.proofs.ReachedValues.{untyped_shared}
 
 -- ---- free functions
@@ -163,9 +163,24 @@ module _ (same : Span → Span → Bool) (commented : ℕ → ℕ → Span → B
         form_anywhere same commented rs marks x u v ms l names d h y e q there s ∙ sym (reached e) ∙ literal_is same commented rs marks x u v ms l names d h y e q no_type
         ∙ ap (λ (g : Func). Let g.params passed (Alone (code g))) (sym (free_beside rs marks ms all plain Q t callee callee_free))
 
+    -- so deferred
+    reached_deferred : (f : Expr Span) → deferred_term d f ≡ deferred_term there f
+    reached_deferred f = ap (λ c. deferred_term c f) here_same ∙ deferred_term-reached (worlds ms Q t) before after (paths ms Q t) (zeros ms Q t) d i f
+
+    call_deferred : deferred_term there u.tree ≡ Defer callee passed
+    call_deferred = sym (reached_deferred u.tree) ∙ deferred_call same commented rs marks x u v ms l names d h y e q
+
+    literal_deferred : deferred_term there e ≡ DeferLit (W callee).params passed (code (W callee))
+    literal_deferred =
+        sym (reached_deferred e) ∙ deferred_form same commented rs marks x u v ms l names d h y e q
+        ∙ ap (λ (g : Func). DeferLit g.params passed (code g)) (sym (free_beside rs marks ms all plain Q t callee callee_free))
+
     module _ (around : List (List ℕ)) (a : (n : List ℕ) → is_among n around ≡ true → is_local x.place n ≡ true) where
       facts : SameOperand around (at right d.env) u.tree e
       facts = facts_there (worlds ms Q t) d.env i.place around u.tree e (subst (λ w. SameOperand around (at w d.env) u.tree e) world_same (same_facts same commented rs marks x u v ms l names d h y around a e q))
+
+      mentioned_there : (way : Way) → MentionedAlike around (mentions way there.env u.tree) (mentions way there.env e)
+      mentioned_there way = mentions_moved around (ap (λ w. mentions way (at w d.env) u.tree) world_same ∙ mentions-reached (worlds ms Q t) way d.env i.place u.tree) (ap (λ w. mentions way (at w d.env) e) world_same ∙ mentions-reached (worlds ms Q t) way d.env i.place e) (mentioned_alike same commented rs marks x u v ms l names d h y way around a e q)
 
       pub operand_there : (j : ℕ) → OperandStands (MeanSame W G N j) (Below G R j) around there u.tree e
       operand_there j =
@@ -173,9 +188,19 @@ module _ (same : Span → Span → Bool) (commented : ℕ → ℕ → Span → B
             parts = facts.operand;
             place = facts.place;
             before_dot = facts.before_dot;
-            mentioned = λ way. mentions_moved around (ap (λ w. mentions way (at w d.env) u.tree) world_same ∙ mentions-reached (worlds ms Q t) way d.env i.place u.tree) (ap (λ w. mentions way (at w d.env) e) world_same ∙ mentions-reached (worlds ms Q t) way d.env i.place e) (mentioned_alike same commented rs marks x u v ms l names d h y way around a e q);
+            mentioned = mentioned_there;
             terms = λ s. subst (λ z. TermStands (MeanSame W G N j) (Below G R j) z (expr_term there s e)) (sym (call_there s)) (subst (TermStands (MeanSame W G N j) (Below G R j) (Call callee passed)) (sym (literal_there s)) (call_stands_where_called W G N R (ranked_all rs marks ms all plain Q t) callee callee_free j (program_scoped (ms ++ Q)) passed));
             tries = same_tries same commented rs marks x u v ms l names d h y e q there;
+            blank = same_blank same commented rs marks x u v ms l names d h y e q;
+            left = lefts_alike same commented rs marks x u v ms l names d h y e q there;
+            address_is = addresses_alike same commented rs marks x u v ms l names d h y e q there;
+          }
+
+      pub deferred_there : (j : ℕ) → suc (R callee) ≤ j → DeferredStands (MeanSame W G N j) (Below G R j) around there u.tree e
+      deferred_there j k =
+          record {
+            mentioned = mentioned_there Deferred;
+            terms = subst (λ z. TermStands (MeanSame W G N j) (Below G R j) z (deferred_term there e)) (sym call_deferred) (subst (TermStands (MeanSame W G N j) (Below G R j) (Defer callee passed)) (sym literal_deferred) (defer_stands W G N R (ranked_all rs marks ms all plain Q t) callee callee_free j k (program_scoped (ms ++ Q) callee) passed));
           }
 
   -- the place of the call in the whole program
@@ -183,6 +208,11 @@ module _ (same : Span → Span → Bool) (commented : ℕ → ℕ → Span → B
   operand_beside i around a j =
       subst (λ z. OperandStands (MeanSame W G N j) (Below G R j) around (in_program (collected (sources (ms ++ Q))) z d) u.tree e) (sym (paths_both ms Q))
       (subst (λ z. OperandStands (MeanSame W G N j) (Below G R j) around (in_program (collected z) after d) u.tree e) (sym (sources_both ms Q)) (operand_there i around a j))
+
+  pub deferred_beside : HereWithin (own_reach (sources ms)) d → (around : List (List ℕ)) → ((n : List ℕ) → is_among n around ≡ true → is_local x.place n ≡ true) → (j : ℕ) → suc (R callee) ≤ j → DeferredStands (MeanSame W G N j) (Below G R j) around (in_program (collected (sources (ms ++ Q))) (paths_in (ms ++ Q)) d) u.tree e
+  deferred_beside i around a j k =
+      subst (λ z. DeferredStands (MeanSame W G N j) (Below G R j) around (in_program (collected (sources (ms ++ Q))) z d) u.tree e) (sym (paths_both ms Q))
+      (subst (λ z. DeferredStands (MeanSame W G N j) (Below G R j) around (in_program (collected z) after d) u.tree e) (sym (sources_both ms Q)) (deferred_there i around a j k))
 
   -- ---- in the body of a function
 
@@ -193,26 +223,52 @@ module _ (same : Span → Span → Bool) (commented : ℕ → ℕ → Span → B
     abbrev Stands : Here → Expr Span → Expr Span → Type 0
     Stands = OperandStands (MeanSame W G N j) (Below G R j) around
 
+    abbrev Defers : Here → Expr Span → Expr Span → Type 0
+    Defers = DeferredStands (MeanSame W G N j) (Below G R j) around
+
+    abbrev Lower : Type 0
+    Lower = suc (R callee) ≤ j
+
+    abbrev Within : ℕ → Here → Expr Span → Expr Span → Type 0
+    Within n = PutWithin d u.tree e Lower around n
+
+    abbrev Deferring : ℕ → Here → Expr Span → Expr Span → Type 0
+    Deferring n = DeferredWithin d u.tree e Lower around n
+
+    within_there : (k : Here) → HereWithin (own_reach (sources ms)) k → (f g : Expr Span) → Put (in_program left before k) f g → HereWithin (own_reach (sources ms)) d
+    within_there k i f g p = subst (λ (c : Here). HereWithin (own_reach (sources ms)) c) (sym p.place) (record { place = i.place; types = i.types })
+
     put_there : (k : Here) → HereWithin (own_reach (sources ms)) k → (f g : Expr Span) → Put (in_program left before k) f g → Stands (in_program right after k) f g
     put_there k i f g p =
         subst (λ z. Stands z f g) (ap (in_program right after) p.place)
         (subst (λ z. Stands there z g) (sym p.before)
         (subst (λ z. Stands there u.tree z) (sym p.after)
-        (operand_there (subst (λ (c : Here). HereWithin (own_reach (sources ms)) c) (sym p.place) (record { place = i.place; types = i.types })) around a j)))
+        (operand_there (within_there k i f g p) around a j)))
 
-    none_there : (k : Here) → HereWithin (own_reach (sources ms)) k → (f g : Expr Span) → NoneDeferred d u.tree e (in_program left before k) f g → DeferredStands (MeanSame W G N j) (Below G R j) around (in_program right after k) f g
-    none_there k i f g p = absurd (grind (arith, p))
+    -- so deferred
+    put_deferred : (k : Here) → HereWithin (own_reach (sources ms)) k → (f g : Expr Span) → Put (in_program left before k) f g → Lower → Defers (in_program right after k) f g
+    put_deferred k i f g p b =
+        subst (λ z. Defers z f g) (ap (in_program right after) p.place)
+        (subst (λ z. Defers there z g) (sym p.before)
+        (subst (λ z. Defers there u.tree z) (sym p.after)
+        (deferred_there (within_there k i f g p) around a j b)))
 
     -- within operands too
-    put_within : (n : ℕ) (k : Here) → HereWithin (own_reach (sources ms)) k → (f g : Expr Span) → PutWithin d u.tree e around n (in_program left before k) f g → Stands (in_program right after k) f g
-    put_within zero k i f g p = put_there k i f g p
-    put_within (suc n) k i f g p =
-        operand_in Span (MeanSame W G N j) (Below G R j) around (in_program right after k)
-        (operand_moved (worlds ms Q t) before after around (PutWithin d u.tree e around n) Stands (NoneDeferred d u.tree e) (DeferredStands (MeanSame W G N j) (Below G R j) around) (put_within n) none_there k i p)
+    mutual
+      put_within : (n : ℕ) (k : Here) → HereWithin (own_reach (sources ms)) k → (f g : Expr Span) → Within n (in_program left before k) f g → Stands (in_program right after k) f g
+      put_within zero k i f g p = put_there k i f g p
+      put_within (suc n) k i f g p =
+          part_in Span (MeanSame W G N j) (Below G R j) around (in_program right after k)
+          (part_moved (worlds ms Q t) before after around (Within n) Stands (Deferring n) Defers (put_within n) (defer_within n) k i p)
 
-    body_there : (n : ℕ) (k : Here) → HereWithin (own_reach (sources ms)) k → (b c : Stmts Span) → WithinStmts (PutWithin d u.tree e around n) (NoneDeferred d u.tree e) around (in_program left before k) b c
-        → WithinStmts Stands (DeferredStands (MeanSame W G N j) (Below G R j) around) around (in_program right after k) b c
-    body_there n k i b c p = stmts_moved (worlds ms Q t) before after around (PutWithin d u.tree e around n) Stands (NoneDeferred d u.tree e) (DeferredStands (MeanSame W G N j) (Below G R j) around) (put_within n) none_there k i p
+      defer_within : (n : ℕ) (k : Here) → HereWithin (own_reach (sources ms)) k → (f g : Expr Span) → Deferring n (in_program left before k) f g → Defers (in_program right after k) f g
+      defer_within zero k i f g p = put_deferred k i f g p.0 p.1
+      defer_within (suc n) k i f g p =
+          deferred_in Span (MeanSame W G N j) (Below G R j) around (in_program right after k)
+          (part_moved (worlds ms Q t) before after around (Within n) Stands (Deferring n) Defers (put_within n) (defer_within n) k i p)
+
+    body_there : (n : ℕ) (k : Here) → HereWithin (own_reach (sources ms)) k → (b c : Stmts Span) → WithinStmts (Within n) (Deferring n) around (in_program left before k) b c → WithinStmts Stands Defers around (in_program right after k) b c
+    body_there n k i b c p = stmts_moved (worlds ms Q t) before after around (Within n) Stands (Deferring n) Defers (put_within n) (defer_within n) k i p
 
   module _ (hd : Headed Span) (k : HeaderWithin (own_reach (sources ms)) hd) (f : Function Span) (g : FuncType) (r : FunctionWithin (own_reach (sources ms)) g) where
     start_within : HereWithin (own_reach (sources ms)) (function_here before left hd f g)
@@ -228,7 +284,7 @@ module _ (same : Span → Span → Bool) (commented : ℕ → ℕ → Span → B
         at_body c bs (function_names f g) (mentions_stmts (extend bs (in_block c.env)) f.body))
 
   abbrev Before : FuncName → List (List ℕ) → Here → Stmts Span → Stmts Span → Type 0
-  Before = BodyPut d u.tree e x
+  Before = BodyPut d u.tree e R callee x
 
   abbrev After : FuncName → List (List ℕ) → Here → Stmts Span → Stmts Span → Type 0
   After = BodyStands W G N R
@@ -262,7 +318,7 @@ module _ (same : Span → Span → Bool) (commented : ℕ → ℕ → Span → B
 
   -- ---- packages
 
-  module _ (qs : List (translated.Package Span)) (same_paths : paths_in ms ≡ paths_in qs) (put : PackagesPut d u.tree e x ms qs) where
+  module _ (qs : List (translated.Package Span)) (same_paths : paths_in ms ≡ paths_in qs) (put : PackagesPut d u.tree e R callee x ms qs) where
     members : MembersChange After (paths_in (ms ++ Q)) (collected (sources (ms ++ Q))) (ms ++ Q) (qs ++ Q)
     members =
         members_beside After (paths_in (ms ++ Q)) (collected (sources (ms ++ Q))) Q

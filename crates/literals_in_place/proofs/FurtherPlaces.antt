@@ -2,7 +2,7 @@
 -- part there stands for the other.
 use Rattle.std.specs.Prelude.{◌≡◌, ℕ, List, [], ◌++◌}
 use mathlib.Core.Path.{sym, ◌∙◌, subst}
-use Rattle.go_tree.specs.Tree.{Sig, func_lit, Expr, Exprs, ExprOption, some_expr, Stmt, const_decl, var_decl, empty, eval, step, assign, define, return_, break_, continue_, inner, if_, for_, range_, switch, defer, label, Stmts, StmtOption, no_stmt, some_stmt, BlockOption, RangeLeft, Arms, Cases, ValueSpecs, no_specs, spec}
+use Rattle.go_tree.specs.Tree.{Sig, func_lit, Expr, Exprs, Elems, Value, ExprOption, some_expr, Stmt, const_decl, var_decl, empty, eval, step, assign, define, return_, break_, continue_, inner, if_, for_, range_, switch, defer, label, Stmts, StmtOption, no_stmt, some_stmt, BlockOption, RangeLeft, Arms, Cases, ValueSpecs, no_specs, spec}
 use Rattle.go_tree.specs.GoTypes.Entities.{Env, Binds, extend, in_block}
 use Rattle.go_tree.specs.GoTypes.Types.{FuncType}
 use Rattle.go_kernel.specs.Kernel.{ImportPath}
@@ -18,8 +18,9 @@ use Rattle.imported_typing.proofs.DefinedAlike.{Worlds}
 use Rattle.imported_typing.proofs.TypeNamesAlike.{func_type_alike}
 use Rattle.imported_typing.proofs.TypingAlike.{parts-reached}
 use Rattle.meaning_in_place.specs.InOperands.{WithinOperand, in_left, in_right, in_unary, in_star, in_selected, in_indexed, in_index, in_sliced, in_low, in_high, in_argument, in_called_literal}
-use Rattle.meaning_in_place.specs.InStatements.{WithinExprs, this_expr, later_expr, WithinStmt, in_var, in_eval, in_assign, in_update, in_define, in_return, in_braces, in_if, in_for_first, in_for_test, in_for_post, in_for_block, in_range, in_range_block, in_switch_first, in_switch_tag, in_switch_cases, in_defer, in_label, WithinFirst, in_first, WithinStmts, this_stmt, later_stmt, WithinArms, last_block, arm_first, arm_test, arm_block, later_arm, WithinCases, case_exprs, case_block, later_case}
+use Rattle.meaning_in_place.specs.InStatements.{WithinExprs, this_expr, later_expr, WithinStmt, in_var, in_eval, in_step, in_left_side, in_updated, in_assign, in_update, in_define, in_return, in_braces, in_if, in_for_first, in_for_test, in_for_post, in_for_block, in_range, in_range_left, in_range_block, in_switch_first, in_switch_tag, in_switch_cases, in_defer, in_label, WithinFirst, in_first, WithinStmts, this_stmt, later_stmt, WithinArms, last_block, arm_first, arm_test, arm_block, later_arm, WithinCases, case_exprs, case_block, later_case}
 use Rattle.meaning_in_place.specs.Standing.{BoundAround, SpecsAround, GroupAround, StmtAround, FirstAround}
+use Rattle.literals_in_place.specs.Parts.{WithinElems, this_elem, this_key, later_elem, WithinValue, a_plain, in_inner_braces, WithinPart, in_operand, in_function, in_element, in_receiver}
 use Rattle.literals_in_place.specs.Reached.{in_program, HereWithin}
 use Rattle.literals_in_place.proofs.MentionsReached.{mentions-reached, mentions_option-reached, mentions_first-reached, mentions_block-reached, mentions_arms-reached, mentions_cases-reached, mentions_stmts-reached}
 use Rattle.literals_in_place.proofs.ReachedFacts.{binds_after_shared, binds_first_shared, range_binds_shared, spec_binds_shared, own_mentions_same}
@@ -149,6 +150,10 @@ module _ (w : Worlds) (pl pr : List (ℕ × ImportPath)) {S : Type 0} where
         stmt_moved : (h : Here) → HereWithin w.reach h → {ms us : List Mention} {x y : Stmt S} → WithinStmt X XD around (in_program w.left pl h) ms x y → WithinStmt Y YD around (in_program w.right pr h) us x y
         stmt_moved h i (in_var s z g ns t r) = in_var s z g ns t (exprs_moved h i r)
         stmt_moved h i (in_eval s {e = e} {f = f} x) = in_eval s (move h i e f x)
+        stmt_moved h i (in_step s {e = e} {f = f} up x) = in_step s up (move h i e f x)
+        stmt_moved h i (in_left_side s es r) = in_left_side s es (exprs_moved h i r)
+        stmt_moved h i (in_updated s op es r) = in_updated s op es (exprs_moved h i r)
+        stmt_moved h i (in_range_left s r e b q) = in_range_left s r e b (exprs_moved h i q)
         stmt_moved h i (in_assign s ls r) = in_assign s ls (exprs_moved h i r)
         stmt_moved h i (in_update s ls op r) = in_update s ls op (exprs_moved h i r)
         stmt_moved h i (in_define s ns r) = in_define s ns (exprs_moved h i r)
@@ -224,10 +229,10 @@ module _ (w : Worlds) (pl pr : List (ℕ × ImportPath)) {S : Type 0} where
           subst (λ ms. WithinStmts Y YD around (at_body (in_program w.right pr h) bs (literal_names g f) ms) b c) (mentions_stmts-reached w (extend bs (in_block h.env)) (place_after w (in_block h.env) i.place bs k) b)
           (stmts_moved (at_body h bs (literal_names g f) (mentions_stmts (extend bs (in_block (at w.left h.env))) b)) (body_within w h i bs k (literal_names g f) (mentions_stmts (extend bs (in_block (at w.left h.env))) b) l.1) x)
 
-      pub operand_moved : (h : Here) → HereWithin w.reach h → {e f : Expr S} → WithinOperand X XD around (in_program w.left pl h) e f → WithinOperand Y YD around (in_program w.right pr h) e f
+      operand_moved : (h : Here) → HereWithin w.reach h → {e f : Expr S} → WithinOperand X XD around (in_program w.left pl h) e f → WithinOperand Y YD around (in_program w.right pr h) e f
       operand_moved h i (in_left s op {e = e} {f = f} y x) = in_left s op y (move h i e f x)
       operand_moved h i (in_right s op y {e = e} {f = f} x) = in_right s op y (move h i e f x)
-      operand_moved h i (in_unary s op {e = e} {f = f} a x) = in_unary s op a (move h i e f x)
+      operand_moved h i (in_unary s op {e = e} {f = f} x) = in_unary s op (move h i e f x)
       operand_moved h i (in_star s {e = e} {f = f} x) = in_star s (move h i e f x)
       operand_moved h i (in_selected s {e = e} {f = f} n x) = in_selected s n (move h i e f x)
       operand_moved h i (in_indexed s {e = e} {f = f} y x) = in_indexed s y (move h i e f x)
@@ -241,3 +246,24 @@ module _ (w : Worlds) (pl pr : List (ℕ × ImportPath)) {S : Type 0} where
           in_called_literal s s1 s2 g f bs xs z (sym (same_of (func_type_alike w h.env i.place g)) ∙ d) k
           (sym (same_of (parts-reached w h.env i.place (func_lit s1 g s2 b))) ∙ p ∙ same_of (parts-reached w h.env i.place (func_lit s1 g s2 c))) a
           (literal_moved h i g f l bs (subst (IfAny (BindsWithin w.reach)) k (holds_of (body_binds_alike w.reach [] g f tt l))) b c r)
+
+      module _ (h : Here) (i : HereWithin w.reach h) where
+        mutual
+          elems_moved : {es fs : Elems S} → WithinElems X (in_program w.left pl h) es fs → WithinElems Y (in_program w.right pr h) es fs
+          elems_moved (this_elem s k es q) = this_elem s k es (value_moved q)
+          elems_moved (this_key s v es n q) = this_key s v es n (value_moved q)
+          elems_moved (later_elem s k v q) = later_elem s k v (elems_moved q)
+
+          value_moved : {v u : Value S} → WithinValue X (in_program w.left pl h) v u → WithinValue Y (in_program w.right pr h) v u
+          value_moved (a_plain {e = e} {f = f} x) = a_plain (move h i e f x)
+          value_moved (in_inner_braces s q) = in_inner_braces s (elems_moved q)
+
+      pub part_moved : (h : Here) → HereWithin w.reach h → {e f : Expr S} → WithinPart X XD around (in_program w.left pl h) e f → WithinPart Y YD around (in_program w.right pr h) e f
+      part_moved h i (in_operand r) = in_operand (operand_moved h i r)
+      part_moved h i (in_function s z g f bs {b = b} {c = c} d k p a r) =
+          let l : FunctionWithin w.reach f = subst (IfAny (FunctionWithin w.reach)) d (holds_of (func_type_alike w h.env i.place g)) in
+          in_function s z g f bs (sym (same_of (func_type_alike w h.env i.place g)) ∙ d) k
+          (sym (same_of (parts-reached w h.env i.place (func_lit s g z b))) ∙ p ∙ same_of (parts-reached w h.env i.place (func_lit s g z c))) a
+          (literal_moved h i g f l bs (subst (IfAny (BindsWithin w.reach)) k (holds_of (body_binds_alike w.reach [] g f tt l))) b c r)
+      part_moved h i (in_element s t q) = in_element s t (elems_moved h i q)
+      part_moved h i (in_receiver s t n {e = e} {f = f} xs z x) = in_receiver s t n xs z (move h i e f x)

@@ -67,11 +67,11 @@ module _ {S : Type 0} where
     files_same [] = refl
     files_same (f ∷ fs) = ap₂ (λ (a b : Bool). a && b) (imports_same f.imports) (files_same fs)
 
-  linked_same : (before after ms : List (Package S)) → paths_in before ≡ paths_in after → are_linked before ms ≡ are_linked after ms
+  pub linked_same : (before after ms : List (Package S)) → paths_in before ≡ paths_in after → are_linked before ms ≡ are_linked after ms
   linked_same before after [] e = refl
   linked_same before after (m ∷ ms) e = ap₂ (λ (a b : Bool). a && b) (files_same before after e m.source.files) (linked_same (m ∷ before) (m ∷ after) ms (ap (λ l. (m.source.number, m.path) ∷ l) e))
 
-  linked_both : (before ms Q : List (Package S)) → are_linked before (ms ++ Q) ≡ (are_linked before ms && are_linked (turned before ms) Q)
+  pub linked_both : (before ms Q : List (Package S)) → are_linked before (ms ++ Q) ≡ (are_linked before ms && are_linked (turned before ms) Q)
   linked_both before [] Q = refl
   linked_both before (m ∷ ms) Q = ap (λ b. list_all (imports_known before) m.source.files && b) (linked_both (m ∷ before) ms Q) ∙ in_turn (list_all (imports_known before) m.source.files) (are_linked (m ∷ before) ms) (are_linked (turned (m ∷ before) ms) Q)
 

@@ -21,6 +21,8 @@ pub mod ZerosEnd
 pub mod FurtherZeros
 pub mod FurtherCodes
 pub mod FurtherPlaces
+pub mod PartsStand
 pub mod FurtherLiterals
-mod Example
+pub mod StepsInBodies
+pub mod Example
 mod CircleExample

@@ -8,7 +8,7 @@ use Rattle.go_tree.specs.ScopeNames.Means.{Environment}
 use Rattle.go_tree.specs.Tree.{Expr, call}
 use Rattle.go_tree.specs.GoTypes.Answers.{is_among}
 use Rattle.go_tree.specs.GoTypes.Entities.{Entity}
-use Rattle.go_tree.specs.GoTypes.Statements.{package_before}
+use Rattle.go_tree.specs.GoTypes.Statements.{package_before, is_blank_name}
 use Rattle.go_tree.specs.GoTypes.Types.{GoType}
 use Rattle.go_tree.specs.GoTypes.Typing.{place}
 use Rattle.pkg_graph.specs.Package.{Package}
@@ -27,7 +27,7 @@ use Rattle.go_translation.specs.Mentions.{Deferred}
 use Rattle.go_translation.specs.Operators.{no_type}
 use Rattle.go_translation.specs.Packages as translated
 use Rattle.go_translation.specs.Packages.{paths_in, codes_of, program_of}
-use Rattle.go_translation.specs.Translation.{expr_term, args_term, try_term, deferred_term}
+use Rattle.go_translation.specs.Translation.{expr_term, args_term, try_term, place_term, address, deferred_term}
 use Rattle.go_translation.specs.Values.{path_of}
 use Rattle.go_translation.proofs.ProgramScoped.{program_scoped}
 use Rattle.run_rules.specs.FormTrees.{Form, as_expr, as_dropped, as_block, as_type}
@@ -41,8 +41,9 @@ use Rattle.literal_steps.specs.LiteralUse.{LiteralUse, call_of, chosen_of, Plain
 use Rattle.literal_steps.proofs.CallMeant.{meant, call_of_literal, term_is, deferred_is, typed_beside}
 use Rattle.literal_steps.proofs.NoObstacle.{named_so, clear}
 use Rattle.literals_in_place.proofs.Mentions.{mentioned_alike}
-use Rattle.meaning_in_place.specs.Standing.{TermStands, OperandStands, DeferredStands}
+use Rattle.meaning_in_place.specs.Standing.{TermStands, PlaceStands, OperandStands, DeferredStands}
 use Rattle.meaning_in_place.proofs.Packages.{calls_under}
+use Rattle.meaning_in_place.proofs.Places.{same_left}
 use Rattle.meaning_in_place.proofs.Terms.{as_is}
 
 from_zero : (j : ℕ) → zero ≤ j
@@ -68,7 +69,7 @@ module _ (P : Program) (free : FuncName → Bool) (A : ℕ) (rank : FuncName →
             (mean_up P free A (suc (rank f)) j l (Call f a) (Let (P f).params a (Alone (code (P f)))) (call_is_literal P free A rank ranked scoped f is_free a)));
       }
 
-  defer_stands : Scoped (P f).params (code (P f)) → (a : Term) → TermStands (MeanSame P free A j) (Below free rank j) (Defer f a) (DeferLit (P f).params a (code (P f)))
+  pub defer_stands : Scoped (P f).params (code (P f)) → (a : Term) → TermStands (MeanSame P free A j) (Below free rank j) (Defer f a) (DeferLit (P f).params a (code (P f)))
   defer_stands scoped a =
       record {
         same =
@@ -109,6 +110,16 @@ module _ (same : Span → Span → Bool) (commented : ℕ → ℕ → Span → B
   pub same_tries : (c : Here) {E : Term → Term → Type 0} {C : FuncName → Type 0} → TermStands E C (try_term c u.tree) (try_term c e)
   same_tries c {E = E} {C = C} = subst (λ z. TermStands E C (try_term c z) (try_term c e)) (sym v.tree_is) (subst (λ z. TermStands E C (try_term c (call v.span v.called v.args Plain)) (try_term c z)) (sym is_form) as_is)
 
+  pub same_blank : is_blank_name u.tree ≡ is_blank_name e
+  same_blank = ap is_blank_name v.tree_is ∙ sym (ap is_blank_name is_form)
+
+  -- neither is stored to, nor has it an address
+  pub lefts_alike : (c : Here) {E : Term → Term → Type 0} {C : FuncName → Type 0} → PlaceStands E C (place_term c u.tree) (place_term c e)
+  lefts_alike c {E = E} {C = C} = subst (λ z. PlaceStands E C (place_term c z) (place_term c e)) (sym v.tree_is) (subst (λ z. PlaceStands E C (place_term c (call v.span v.called v.args Plain)) (place_term c z)) (sym is_form) same_left)
+
+  pub addresses_alike : (c : Here) {E : Term → Term → Type 0} {C : FuncName → Type 0} → TermStands E C (address c u.tree) (address c e)
+  addresses_alike c {E = E} {C = C} = subst (λ z. TermStands E C (address c z) (address c e)) (sym v.tree_is) (subst (λ z. TermStands E C (address c (call v.span v.called v.args Plain)) (address c z)) (sym is_form) as_is)
+
   -- and their terms are the same at places of all types
   pub call_anywhere : (c : Here) (t : GoType) → expr_term c t u.tree ≡ expr_term c no_type u.tree
   call_anywhere c t = ap (expr_term c t) v.tree_is ∙ sym (ap (expr_term c no_type) v.tree_is)
@@ -125,10 +136,10 @@ module _ (same : Span → Span → Bool) (commented : ℕ → ℕ → Span → B
   pub literal_is : (t : GoType) → expr_term d t e ≡ Let (P F).params args (Alone (code (P F)))
   literal_is t = let o = call_of_literal same commented rs marks x u v ms l more d h y v.span v.span in sym (term_is same commented rs marks x u v ms l more d h y e q t) ∙ literal_term_is o v.span t v.args Plain
 
-  deferred_call : deferred_term d u.tree ≡ Defer F args
+  pub deferred_call : deferred_term d u.tree ≡ Defer F args
   deferred_call = let o = call_of_literal same commented rs marks x u v ms l more d h y v.span v.span in ap (deferred_term d) v.tree_is ∙ deferred_call_is o v.span v.args Plain
 
-  deferred_form : deferred_term d e ≡ DeferLit (P F).params args (code (P F))
+  pub deferred_form : deferred_term d e ≡ DeferLit (P F).params args (code (P F))
   deferred_form = let o = call_of_literal same commented rs marks x u v ms l more d h y v.span v.span in sym (deferred_is same commented rs marks x u v ms l more d h y e q) ∙ deferred_literal_is o v.span v.args Plain
 
   module _ (free : FuncName → Bool) (A : ℕ) (rank : FuncName → ℕ) (ranked : Ranked P free rank) (is_free : free F ≡ true) (j : ℕ) (k : suc (rank F) ≤ j) (around : List (List ℕ)) (a : (n : List ℕ) → is_among n around ≡ true → is_local x.place n ≡ true) where
@@ -144,6 +155,9 @@ module _ (same : Span → Span → Bool) (commented : ℕ → ℕ → Span → B
           mentioned = λ w. mentioned_alike same commented rs marks x u v ms l more d h y w around a e q;
           terms = λ t. subst (λ z. Stands z (expr_term d t e)) (sym (call_is t)) (subst (Stands (Call F args)) (sym (literal_is t)) (call_stands P free A rank ranked F is_free j k (program_scoped ms) args));
           tries = same_tries d;
+          blank = same_blank;
+          left = lefts_alike d;
+          address_is = addresses_alike d;
         }
 
     pub deferred_stands : DeferredStands (MeanSame P free A j) (Below free rank j) around d u.tree e

@@ -8,6 +8,7 @@ ghost use Rattle.literals_in_place.specs.Laws.{BodiesKeepTheirTermAfter, BodiesS
 ghost use Rattle.literals_in_place.specs.Laws.{DeferredLiteralsStand, LiteralsHaveTheFactsOfCalls};
 ghost use Rattle.literals_in_place.specs.Laws.{LiteralsMentionAlike, LiteralsStand};
 ghost use Rattle.literals_in_place.specs.Laws.{ModulesShowTheSame, ModulesAreCovered};
+ghost use Rattle.literals_in_place.specs.Steps.{DeferredLiteralsStandBesideOthers};
 ghost use Rattle.literals_in_place.specs.Steps.{FunctionsKeepTheirCode, LiteralStepsShowTheSame};
 ghost use Rattle.literals_in_place.specs.Steps.{LiteralStepsStandBeside, LiteralsStandBesideOthers};
 ghost use Rattle.literals_in_place.specs.Steps.{PackagesKeepTheirCode, TermsReachedAlone, ZerosStayBesideOthers};
@@ -77,12 +78,14 @@ pub fn packages_keep_their_code_beside_others()
     ensures functions { FunctionsKeepTheirCode }
 {}
 
-/// So beside all further packages a literal stands for its call as an operand, in every function, and packages in
-/// one of whose functions it stands in the call's place stand for those before. Where each body is typed as
+/// So beside all further packages a literal stands for its call as an operand, in every function, and for its
+/// deferred call, in a function of higher rank; and packages in one of whose functions it stands in the call's place
+/// stand for those before. Where each body is typed as
 /// before, and the imports are right and of packages before, such a step leaves packages that show the same, as
 /// runs of steps ask.
 pub fn literal_steps_show_the_same()
     ensures operands { LiteralsStandBesideOthers }
+    ensures deferred { DeferredLiteralsStandBesideOthers }
     ensures steps { LiteralStepsStandBeside }
     ensures shows { LiteralStepsShowTheSame }
 {}

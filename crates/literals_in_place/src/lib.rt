@@ -4,10 +4,14 @@
 #![tactic(auto)]
 
 mod laws;
+mod steps_in_bodies;
 
 pub use laws::{
     bodies_stay_with_imports, facts_stay_beside_others, literal_steps_show_the_same,
     literals_stand_for_calls, mentions_stay_beside_others, modules_with_literals_show_the_same,
     packages_keep_their_code_beside_others, packages_stay_typed_beside_others,
     terms_need_what_they_reach,
+};
+pub use steps_in_bodies::{
+    found_uses_stand_once, steps_in_bodies_show_the_same, steps_put_literals_in_bodies,
 };

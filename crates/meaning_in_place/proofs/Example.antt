@@ -14,6 +14,7 @@ use Rattle.go_translation.specs.Packages.{Package, sources, paths_in, codes_of, 
 use Rattle.go_translation.specs.Calls.{function_named}
 use Rattle.go_translation.specs.SwappedPackages.{function_here}
 use Rattle.meaning_in_place.specs.Standing.{OperandStands}
+use Rattle.meaning_in_place.proofs.Places.{same_left}
 use Rattle.meaning_in_place.specs.InOperands.{in_right}
 use Rattle.meaning_in_place.specs.InPackages.{function_stands, no_headers, and_header, no_packages, and_package, EachBelow, PackagesStand}
 use Rattle.meaning_in_place.specs.InStatements.{InStmts, in_for_test, this_stmt, later_stmt}
@@ -37,7 +38,7 @@ packages e = record { path = codes "m"; source = pack 0 (codes "main") (file [] 
 
 -- a constant sum stands for its value, at any place
 two_stands : (E : Term → Term → Type 0) (C : FuncName → Type 0) (around : List (List ℕ)) (h : Here) → OperandStands E C around h sum two
-two_stands E C around h = record { parts = refl; place = refl; before_dot = refl; mentioned = λ w. alike_self; terms = λ t. as_is; tries = as_is }
+two_stands E C around h = record { parts = refl; place = refl; before_dot = refl; mentioned = λ w. alike_self; terms = λ t. as_is; tries = as_is; blank = refl; left = same_left; address_is = as_is }
 
 abbrev main_func : Expr ℕ → Func ℕ
 main_func e = record { span = 2; receiver = None; name = record { span = 0; name = codes "main" }; sig = sig [] []; body_span = 0; body = ss (body e) }

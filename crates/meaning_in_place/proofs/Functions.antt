@@ -1,9 +1,9 @@
 -- A function in whose body a part stands for another.
-use Rattle.std.specs.Prelude.{◌≡◌, refl, ℕ, true, List, [], ◌∷◌, ◌++◌, Option, Some, None}
+use Rattle.std.specs.Prelude.{◌≡◌, refl, ℕ, Bool, true, false, List, [], ◌∷◌, ◌++◌, Option, Some, None, if◌then◌else◌}
 use mathlib.Core.Path.{ap, ◌∙◌, subst}
 use Rattle.go_tree.specs.File.{Func as Function}
 use Rattle.go_tree.specs.Tree.{Stmts}
-use Rattle.go_tree.specs.ScopeNames.Means.{Environment}
+use Rattle.go_tree.specs.ScopeNames.Means.{Environment, is_blank}
 use Rattle.go_tree.specs.GoTypes.Answers.{is_among}
 use Rattle.go_tree.specs.GoTypes.Types.{FuncType}
 use Rattle.go_tree.specs.GoTypes.Entities.{World, Binds, extend, in_block}
@@ -25,7 +25,11 @@ use Rattle.meaning_in_place.proofs.Terms.{as_is, let_stands, within_stands, cell
 given_apart : (ns ms : List (Option (List ℕ))) → given_names (ns ++ ms) ≡ given_names ns ++ given_names ms
 given_apart [] ms = refl
 given_apart (None ∷ ns) ms = given_apart ns ms
-given_apart (Some n ∷ ns) ms = ap (λ l. n ∷ l) (given_apart ns ms)
+given_apart (Some n ∷ ns) ms = go (is_blank n) (given_apart ns ms)
+  where
+    go : (b : Bool) → given_names (ns ++ ms) ≡ given_names ns ++ given_names ms → (if b then given_names (ns ++ ms) else n ∷ given_names (ns ++ ms)) ≡ (if b then given_names ns else n ∷ given_names ns) ++ given_names ms
+    go true e = e
+    go false e = ap (λ l. n ∷ l) e
 
 -- a body at any place, after which the parameters and results of the function are bound
 module _ {S : Type 0} {E : Term → Term → Type 0} {C : FuncName → Type 0} {around : List (List ℕ)} (h : Here) (bs : Binds) (ns : BodyNames) {b c : Stmts S} (a : NamesAround around ns) (q : InStmts E C around (at_body h bs ns (mentions_stmts (extend bs (in_block h.env)) b)) b c) where

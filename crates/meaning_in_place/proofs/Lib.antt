@@ -1,4 +1,5 @@
 pub mod Terms
+pub mod Places
 pub mod Mentioned
 pub mod Unchanged
 pub mod Statements

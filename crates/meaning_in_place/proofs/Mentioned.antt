@@ -75,14 +75,22 @@ first_bound around env (some_stmt s) a = a.0
 pub names_same : (f g : List ℕ → Bool) (named : List ℕ → Name) (ns : List (Option (List ℕ))) → ((n : List ℕ) → is_among n (given_names ns) ≡ true → f n ≡ g n) → located_names f named ns ≡ located_names g named ns
 names_same f g named [] e = refl
 names_same f g named (None ∷ ns) e = names_same f g named ns e
-names_same f g named (Some n ∷ ns) e =
-    ap₂ (λ (b : Bool) (l : Environment Location). (if is_blank n then [] else (n, location_at b (named n)) ∷ []) ++ l) (e n (own_name n (given_names ns))) (names_same f g named ns (λ m i. e m (later_true (bytes_eq m n) i)))
+names_same f g named (Some n ∷ ns) e = go (is_blank n) e (names_same f g named ns)
+  where
+    go : (b : Bool) → ((m : List ℕ) → is_among m (if b then given_names ns else n ∷ given_names ns) ≡ true → f m ≡ g m) → (((m : List ℕ) → is_among m (given_names ns) ≡ true → f m ≡ g m) → located_names f named ns ≡ located_names g named ns)
+        → ((if b then [] else (n, location_at (f n) (named n)) ∷ []) ++ located_names f named ns) ≡ ((if b then [] else (n, location_at (g n) (named n)) ∷ []) ++ located_names g named ns)
+    go true e r = r e
+    go false e r = ap₂ (λ (b : Bool) (l : Environment Location). (n, location_at b (named n)) ∷ l) (e n (own_name n (given_names ns))) (r (λ m i. e m (later_true (bytes_eq m n) i)))
 
 pub slots_same : (f g : List ℕ → Bool) (i : ℕ) (ns : List (Option (List ℕ))) → ((n : List ℕ) → is_among n (given_names ns) ≡ true → f n ≡ g n) → slots_at f i ns ≡ slots_at g i ns
 slots_same f g i [] e = refl
 slots_same f g i (None ∷ ns) e = ap (λ l. slot_at (named_and f None) (frame_name named_result (result_name i) None) ∷ l) (slots_same f g (suc i) ns e)
-slots_same f g i (Some n ∷ ns) e =
-    ap₂ (λ (b : Bool) (l : List Slot). slot_at (not (is_blank n) && b) (frame_name named_result (result_name i) (Some n)) ∷ l) (e n (own_name n (given_names ns))) (slots_same f g (suc i) ns (λ m k. e m (later_true (bytes_eq m n) k)))
+slots_same f g i (Some n ∷ ns) e = go (is_blank n) (frame_name named_result (result_name i) (Some n)) e (slots_same f g (suc i) ns)
+  where
+    go : (b : Bool) (x : Name) → ((m : List ℕ) → is_among m (if b then given_names ns else n ∷ given_names ns) ≡ true → f m ≡ g m) → (((m : List ℕ) → is_among m (given_names ns) ≡ true → f m ≡ g m) → slots_at f (suc i) ns ≡ slots_at g (suc i) ns)
+        → (slot_at (not b && f n) x ∷ slots_at f (suc i) ns) ≡ (slot_at (not b && g n) x ∷ slots_at g (suc i) ns)
+    go true x e r = ap (λ l. slot_at false x ∷ l) (r e)
+    go false x e r = ap₂ (λ (b : Bool) (l : List Slot). slot_at b x ∷ l) (e n (own_name n (given_names ns))) (r (λ m k. e m (later_true (bytes_eq m n) k)))
 
 pub among_first : (n : List ℕ) (xs ys : List (List ℕ)) → is_among n xs ≡ true → is_among n (xs ++ ys) ≡ true
 among_first n [] ys e = absurd (grind (arith, e))

@@ -1,34 +1,36 @@
 -- Statements in which a part stands for another stand for the statements before it: what they bind and mention, and
 -- their terms.
-use Rattle.std.specs.Prelude.{◌≡◌, refl, ℕ, List, [], ◌∷◌, ◌++◌, length, Option, Some, None, if◌then◌else◌}
+use Rattle.std.specs.Prelude.{◌≡◌, refl, ℕ, suc, pos, List, [], ◌∷◌, ◌++◌, length, Option, Some, None, if◌then◌else◌}
 use mathlib.Core.Path.{ap, ◌∙◌, subst}
-use Rattle.go_tree.specs.Tree.{NameAt, TypeExpr, Expr, Exprs, ExprOption, some_expr, Stmt, var_decl, assign, define, for_, range_, switch, label, Stmts, stmt_and, StmtOption, BlockOption, RangeLeft, Arms, Cases, case, no_specs, spec}
+use Rattle.go_tree.specs.Tree.{NameAt, TypeExpr, Expr, Exprs, no_exprs, expr_and, ExprOption, some_expr, Stmt, var_decl, step, assign, assigns, define, for_, range_, switch, label, Stmts, stmt_and, StmtOption, BlockOption, RangeLeft, Arms, Cases, case, no_specs, spec}
 use Rattle.go_tree.specs.ScopeNames.FreeNames.{names_of, specs_names, defined}
 use Rattle.go_tree.specs.ScopeNames.Means.{Environment}
-use Rattle.go_tree.specs.GoTypes.Answers.{given, both}
-use Rattle.go_tree.specs.GoTypes.Types.{GoType}
-use Rattle.go_tree.specs.GoTypes.Entities.{Env, Binds, extend, in_block}
+use Rattle.go_tree.specs.GoTypes.Answers.{given, both, meets}
+use Rattle.go_tree.specs.GoTypes.Types.{GoType, is_untyped}
+use Rattle.go_tree.specs.declared.const_eval.consts.Const.TheVariants.{Whole}
+use Rattle.go_tree.specs.GoTypes.Entities.{run, Env, Binds, extend, in_block}
 use Rattle.go_tree.specs.GoTypes.TypeNames.{written_type}
-use Rattle.go_tree.specs.GoTypes.Operands.{Operand}
+use Rattle.go_tree.specs.GoTypes.Operands.{Operand, Typed}
 use Rattle.go_tree.specs.GoTypes.Jumps.{is_breakable}
 use Rattle.go_tree.specs.GoTypes.Declarations.{Declared, and_then, unused_after}
-use Rattle.go_tree.specs.GoTypes.Statements.{no_values}
-use Rattle.go_tree.specs.GoTypes.Typing.{parts, all_parts, place, places, binds_of, declares_variables, used_variables, range_declares, new_variables, new_by_define, right_values}
-use Rattle.go_kernel.specs.Kernel.{FuncName, Term, Vals, Prim, If, Let, Leave, Catch, in_cells, temporary, return_label, break_label}
-use Rattle.go_translation.specs.Values.{one_value, typed_of}
+use Rattle.go_tree.specs.GoTypes.Statements.{no_values, is_blank_name}
+use Rattle.go_tree.specs.GoTypes.Typing.{parts, all_parts, place, places, binds_of, declares_variables, used_variables, range_declares, new_variables, new_by_define, right_values, step_op}
+use Rattle.go_kernel.specs.Kernel.{FuncName, Term, Vals, Prim, If, Let, Leave, Catch, in_cells, Name, temporary, return_label, break_label}
+use Rattle.go_translation.specs.Values.{one_value, as_value, typed_of}
 use Rattle.go_translation.specs.Values as v
 use Rattle.go_translation.specs.Facts.{value_types, first_typed, spec_binds, define_binds, binds_after, binds_first, following, after, target_types, count_exprs, range_type, typed_option}
 use Rattle.go_translation.specs.Here.{Here, defined_here, in_inner, Location, located, cells_in, new_cells, declaring}
-use Rattle.go_translation.specs.Mentions.{Mention, Read, mentions, mentions_all, mentions_first, mentions_stmt, mentions_stmts, mentions_block, mentions_range, mentions_arms, mentions_cases, own_mentions, beyond}
+use Rattle.go_translation.specs.Mentions.{Mention, Read, Stored, mentions, mentions_all, mentions_left, mentions_first, mentions_stmt, mentions_stmts, mentions_block, mentions_range, mentions_arms, mentions_cases, own_mentions, beyond}
 use Rattle.go_translation.specs.Names.{gives_two, first_value}
 use Rattle.go_translation.specs.Operators.{no_type, own_type, operator_term, settled_option, first_type, other_types}
 use Rattle.go_translation.specs.Places.{assignment, update}
-use Rattle.go_translation.specs.Statements.{first_place, update_type, RangeForm, range_form, range_term, loop_term, renewed, return_term, new_names, variable_names, old_stored, defined_types, spec_types, tag_type, truth_type}
+use Rattle.go_translation.specs.Statements.{first_place, update_type, RangeForm, range_form, range_term, turn_values, loop_term, renewed, return_term, new_names, variable_names, old_stored, defined_types, spec_types, tag_type, truth_type}
 use Rattle.go_translation.specs.Swapped.{loop_mentions, loop_uses, loop_here, range_bound, range_uses, switch_mentions, switch_uses, switch_here, arm_mentions, arm_uses, arm_here}
-use Rattle.go_translation.specs.Translation.{expr_term, values_term, try_term, place_terms, stmts_term, stmt_term, first_term, test_term, tag_term, block_term, arms_term, turn_term, cases_term, fits_term, default_term}
-use Rattle.meaning_in_place.specs.Standing.{MentionedAlike, FirstAround, TermStands, OperandStands}
-use Rattle.meaning_in_place.specs.InStatements.{InExprs, this_expr, later_expr, InStmt, in_var, in_eval, in_assign, in_update, in_define, in_return, in_braces, in_if, in_for_first, in_for_test, in_for_post, in_for_block, in_range, in_range_block, in_switch_first, in_switch_tag, in_switch_cases, in_defer, in_label, InFirst, in_first, InStmts, this_stmt, later_stmt, InArms, last_block, arm_first, arm_test, arm_block, later_arm, InCases, case_exprs, case_block, later_case}
+use Rattle.go_translation.specs.Translation.{expr_term, values_term, try_term, place_term, place_terms, stmts_term, stmt_term, first_term, test_term, tag_term, block_term, arms_term, turn_term, cases_term, fits_term, default_term}
+use Rattle.meaning_in_place.specs.Standing.{MentionedAlike, FirstAround, TermStands, PlaceStands, OperandStands}
+use Rattle.meaning_in_place.specs.InStatements.{InExprs, this_expr, later_expr, InStmt, in_var, in_eval, in_step, in_left_side, in_updated, in_assign, in_update, in_define, in_return, in_braces, in_if, in_for_first, in_for_test, in_for_post, in_for_block, in_range, in_range_left, in_range_block, in_switch_first, in_switch_tag, in_switch_cases, in_defer, in_label, InFirst, in_first, InStmts, this_stmt, later_stmt, InArms, last_block, arm_first, arm_test, arm_block, later_arm, InCases, case_exprs, case_block, later_case}
 use Rattle.meaning_in_place.proofs.Mentioned.{alike_self, alike_both, alike_beyond, located_same, first_bound}
+use Rattle.meaning_in_place.proofs.Places.{PlacesStand, no_places, and_place, same_left, assignment_left, update_left}
 use Rattle.meaning_in_place.proofs.Terms.{as_is, operator_stands, let_stands, both_stands, prim_stands, choice_stands, catch_stands, cells_stand, if_stands, first_stands, return_stands, assignment_stands, loop_stands, renewed_stands, range_stands}
 use Rattle.meaning_in_place.proofs.Unchanged.{define_rest, stmt_rest, first_rest, turn_rest, cases_rest, stmt_moved, first_moved}
 
@@ -39,6 +41,11 @@ placed h bs k = record h { env = extend bs h.env; locals = k ++ h.locals }
 abbrev tag_and_cases : {S : Type 0} → Here → Binds → Environment Location → GoType → ExprOption S → Cases S → Term
 tag_and_cases h bs k u t cs =
     Let (temporary 0 ∷ []) (tag_term (placed h bs k) u t) (Catch (break_label None) (cases_term (placed h bs k) u (default_term (placed h bs k) cs) cs))
+
+module _ {S : Type 0} {E : Term → Term → Type 0} {C : FuncName → Type 0} where
+  all_left : (h : Here) (es : Exprs S) → PlacesStand E C (place_terms h es) (place_terms h es)
+  all_left h no_exprs = no_places
+  all_left h (expr_and e es) = and_place same_left (all_left h es)
 
 module _ {S : Type 0} {E : Term → Term → Type 0} {C : FuncName → Type 0} {around : List (List ℕ)} where
   -- ---- lists of expressions
@@ -92,12 +99,50 @@ module _ {S : Type 0} {E : Term → Term → Type 0} {C : FuncName → Type 0} {
   range_bound_in : (h : Here) (x : RangeLeft S) {e f : Expr S} → OperandStands E C around h e f → range_bound h x e ≡ range_bound h x f
   range_bound_in h x o = ap (λ z. binds_of (defined x) (range_declares h.env z x)) o.parts
 
+  -- ---- left sides
+
+  lefts_mentions : (h : Here) {es fs : Exprs S} → InExprs E C around h es fs → MentionedAlike around (mentions_left h.env es) (mentions_left h.env fs)
+  lefts_mentions h (this_expr o) = alike_both (o.mentioned Stored) alike_self
+  lefts_mentions h (later_expr q) = alike_both alike_self (lefts_mentions h q)
+
+  lefts_in : (h : Here) {es fs : Exprs S} → InExprs E C around h es fs → PlacesStand E C (place_terms h es) (place_terms h fs)
+  lefts_in h (this_expr {es = es} o) = and_place o.left (all_left h es)
+  lefts_in h (later_expr q) = and_place same_left (lefts_in h q)
+
+  first_left : (h : Here) {es fs : Exprs S} → InExprs E C around h es fs → PlaceStands E C (first_place (place_terms h es)) (first_place (place_terms h fs))
+  first_left h (this_expr o) = o.left
+  first_left h (later_expr q) = same_left
+
+  count_in : (h : Here) {es fs : Exprs S} → InExprs E C around h es fs → count_exprs es ≡ count_exprs fs
+  count_in h (this_expr o) = refl
+  count_in h (later_expr q) = ap suc (count_in h q)
+
+  targets_in : (h : Here) (ts : List GoType) {es fs : Exprs S} → InExprs E C around h es fs → target_types h.env es ts ≡ target_types h.env fs ts
+  targets_in h ts (this_expr {es = es} o) = λ w. (if o.blank w then first_type ts else own_type no_type (typed_of (o.parts w))) ∷ target_types h.env es (other_types ts)
+  targets_in h ts (later_expr {e = e} q) = ap (λ us. (if is_blank_name e then first_type ts else own_type no_type (typed_of (parts h.env e))) ∷ us) (targets_in h (other_types ts) q)
+
+  left_values : (h : Here) (rs : Exprs S) {es fs : Exprs S} → InExprs E C around h es fs → values_term h (target_types h.env es (value_types h.env (count_exprs es) rs)) rs ≡ values_term h (target_types h.env fs (value_types h.env (count_exprs fs) rs)) rs
+  left_values h rs {es = es} {fs = fs} q =
+      ap (λ ts. values_term h ts rs) (targets_in h (value_types h.env (count_exprs es) rs) q ∙ ap (λ n. target_types h.env fs (value_types h.env n rs)) (count_in h q))
+
+  range_type_in : (h : Here) (v : Option Typed) {es fs : Exprs S} → InExprs E C around h es fs → range_type h.env v (assigns es) ≡ range_type h.env v (assigns fs)
+  range_type_in h v (this_expr o) = λ w. if o.blank w then tag_type h.env.world.defined v else (if meets v (λ v. is_untyped v.0) then own_type no_type (typed_of (o.parts w)) else tag_type h.env.world.defined v)
+  range_type_in h v (later_expr q) = refl
+
+  turn_left : (h : Here) (f : RangeForm) (cells : List Name) (body : Term) {es fs : Exprs S} → InExprs E C around h es fs → TermStands E C (turn_term f h cells (assigns es) body) (turn_term f h cells (assigns fs) body)
+  turn_left h f cells body {es = es} {fs = fs} q =
+      subst (λ ts. TermStands E C (turn_term f h cells (assigns es) body) (Let [] (assignment 5 (place_terms h fs) (turn_values f ts)) body)) (targets_in h [] q)
+      (let_stands (assignment_left 5 (lefts_in h q) as_is) as_is)
+
   -- ---- what statements bind
 
   binds_in : (h : Here) (ms : List Mention) {x y : Stmt S} → InStmt E C around h ms x y → binds_after h.env x ≡ binds_after h.env y
   binds_in h ms (in_var s z g ns t {es = es} {fs = fs} q) =
       ap (λ (m : Option Declared). binds_of (specs_names (spec z ns t es no_specs)) (given m (λ d. given (declares_variables {S = S} (extend d.binds h.env) no_specs) (λ e. Some (and_then (unused_after (used_variables {S = S} (extend d.binds h.env) no_specs) d) e))))) (new_in h ns t q)
   binds_in h ms (in_eval s o) = refl
+  binds_in h ms (in_step s up o) = refl
+  binds_in h ms (in_left_side s es q) = refl
+  binds_in h ms (in_updated s op es q) = refl
   binds_in h ms (in_assign s ls q) = refl
   binds_in h ms (in_update s ls op q) = refl
   binds_in h ms (in_define s ns q) = define_binds_in h ns q
@@ -109,6 +154,7 @@ module _ {S : Type 0} {E : Term → Term → Type 0} {C : FuncName → Type 0} {
   binds_in h ms (in_for_post s r i t b a q) = refl
   binds_in h ms (in_for_block s r i t p a q) = refl
   binds_in h ms (in_range s r x b o) = refl
+  binds_in h ms (in_range_left s r e b q) = refl
   binds_in h ms (in_range_block s r x e a q) = refl
   binds_in h ms (in_switch_first s t cs q) = refl
   binds_in h ms (in_switch_tag s i cs a o) = refl
@@ -122,6 +168,9 @@ module _ {S : Type 0} {E : Term → Term → Type 0} {C : FuncName → Type 0} {
   own_in : (h : Here) (ms : List Mention) {x y : Stmt S} → InStmt E C around h ms x y → own_mentions h.env x ≡ own_mentions h.env y
   own_in h ms (in_var s z g ns t q) = refl
   own_in h ms (in_eval s o) = refl
+  own_in h ms (in_step s up o) = refl
+  own_in h ms (in_left_side s es q) = refl
+  own_in h ms (in_updated s op es q) = refl
   own_in h ms (in_assign s ls q) = refl
   own_in h ms (in_update s ls op q) = refl
   own_in h ms (in_define s ns q) = refl
@@ -133,6 +182,7 @@ module _ {S : Type 0} {E : Term → Term → Type 0} {C : FuncName → Type 0} {
   own_in h ms (in_for_post s r i t b a q) = refl
   own_in h ms (in_for_block s r i t p a q) = refl
   own_in h ms (in_range s r x b o) = refl
+  own_in h ms (in_range_left s r e b q) = refl
   own_in h ms (in_range_block s r x e a q) = refl
   own_in h ms (in_switch_first s t cs q) = refl
   own_in h ms (in_switch_tag s i cs a o) = refl
@@ -143,6 +193,9 @@ module _ {S : Type 0} {E : Term → Term → Type 0} {C : FuncName → Type 0} {
   breakable_in : (h : Here) (ms : List Mention) {x y : Stmt S} → InStmt E C around h ms x y → is_breakable x ≡ is_breakable y
   breakable_in h ms (in_var s z g ns t q) = refl
   breakable_in h ms (in_eval s o) = refl
+  breakable_in h ms (in_step s up o) = refl
+  breakable_in h ms (in_left_side s es q) = refl
+  breakable_in h ms (in_updated s op es q) = refl
   breakable_in h ms (in_assign s ls q) = refl
   breakable_in h ms (in_update s ls op q) = refl
   breakable_in h ms (in_define s ns q) = refl
@@ -154,6 +207,7 @@ module _ {S : Type 0} {E : Term → Term → Type 0} {C : FuncName → Type 0} {
   breakable_in h ms (in_for_post s r i t b a q) = refl
   breakable_in h ms (in_for_block s r i t p a q) = refl
   breakable_in h ms (in_range s r x b o) = refl
+  breakable_in h ms (in_range_left s r e b q) = refl
   breakable_in h ms (in_range_block s r x e a q) = refl
   breakable_in h ms (in_switch_first s t cs q) = refl
   breakable_in h ms (in_switch_tag s i cs a o) = refl
@@ -167,6 +221,10 @@ module _ {S : Type 0} {E : Term → Term → Type 0} {C : FuncName → Type 0} {
     pub stmt_mentions : (h : Here) (ms : List Mention) {x y : Stmt S} → InStmt E C around h ms x y → MentionedAlike around (mentions_stmt h.env x) (mentions_stmt h.env y)
     stmt_mentions h ms (in_var s z g ns t q) = alike_both (exprs_mentions h q) alike_self
     stmt_mentions h ms (in_eval s o) = o.mentioned Read
+    stmt_mentions h ms (in_step s up o) = o.mentioned Stored
+    stmt_mentions h ms (in_left_side s es q) = alike_both (lefts_mentions h q) alike_self
+    stmt_mentions h ms (in_updated s op es q) = alike_both (lefts_mentions h q) alike_self
+    stmt_mentions h ms (in_range_left s r e b q) = alike_both (alike_both (lefts_mentions h q) alike_self) alike_self
     stmt_mentions h ms (in_assign s ls q) = alike_both alike_self (exprs_mentions h q)
     stmt_mentions h ms (in_update s ls op q) = alike_both alike_self (exprs_mentions h q)
     stmt_mentions h ms (in_define s ns q) = alike_both alike_self (exprs_mentions h q)
@@ -238,6 +296,24 @@ module _ {S : Type 0} {E : Term → Term → Type 0} {C : FuncName → Type 0} {
         (λ w. Let (variable_names 0 (names_of ns)) (if no_values_in h q w then Vals (v.zeros_of (defined_here h) (types (value_types_in h (length ns) q w))) else values_term h (types (value_types_in h (length ns) q w)) fs) (in_cells (new_cells (spec_binds_in h ns t q w) ms) r'))
         (let_stands (if_stands (no_values es) as_is (values_in h (types (value_types h.env (length ns) es)) q)) (cells_stand (new_cells (spec_binds h.env ns t es) ms) y))
     stmt_in h ms (in_eval s o) l r r' y = let_stands (o.terms no_type) y
+    stmt_in h ms (in_step s {e = e} {f = f} up o) l r r' y =
+        let t : (Option Operand → GoType) = (λ z. own_type no_type (typed_of z)) in
+        subst (λ z. TermStands E C (stmt_term h l ms (step s e up) r) (Let [] (update (place_term h f) (λ x. operator_term (defined_here h) (step_op up) (t z) (Some (t z, run)) x (one_value (as_value (defined_here h) (t z) (Whole (pos 1)))))) r')) o.parts
+        (let_stands (update_left (λ x. operator_term (defined_here h) (step_op up) (t (parts h.env e)) (Some (t (parts h.env e), run)) x (one_value (as_value (defined_here h) (t (parts h.env e)) (Whole (pos 1))))) o.left) y)
+    stmt_in h ms (in_left_side s {ls = ls} {rs = rs} es q) l r r' y =
+        subst (λ z. TermStands E C (stmt_term h l ms (assign s ls None es) r) (Let [] (assignment 0 (place_terms h rs) z) r')) (left_values h es q)
+        (let_stands (assignment_left 0 (lefts_in h q) as_is) y)
+    stmt_in h ms (in_updated s {ls = ls} {rs = rs} op es q) l r r' y =
+        let f : (Option Typed → Term → Term) = (λ v x. operator_term (defined_here h) op (own_type no_type v) (first_typed h.env es) x (values_term h (update_type (defined_here h) op (own_type no_type v) (first_typed h.env es) ∷ []) es)) in
+        subst (λ v. TermStands E C (stmt_term h l ms (assign s ls (Some op) es) r) (Let [] (update (first_place (place_terms h rs)) (f v)) r')) (first_typed_in h q)
+        (let_stands (update_left (f (first_typed h.env ls)) (first_left h q)) y)
+    stmt_in h ms (in_range_left s z {ls = ls} {rs = rs} e b q) l r r' y =
+        let us : List Mention = mentions_stmts (in_block (extend [] (in_block h.env))) b in
+        let type : (RangeLeft S → GoType) = range_type h.env (typed_of (parts h.env e)) in
+        let form : (GoType → RangeForm) = (λ t. range_form (defined_here h) t (typed_of (parts h.env e))) in
+        let body : Term = stmts_term (in_inner (declaring [] us (in_inner h))) b in
+        subst (λ t. TermStands E C (stmt_term h l ms (range_ s (assigns ls) e z b) r) (Let [] (range_term (form t) l (expr_term h t e) (turn_term (form t) h (new_cells [] us) (assigns rs) body)) r')) (range_type_in h (typed_of (parts h.env e)) q)
+        (let_stands (range_stands (form (type (assigns ls))) l as_is (turn_left h (form (type (assigns ls))) (new_cells [] us) body q)) y)
     stmt_in h ms (in_assign s ls {es = es} {fs = fs} q) l r r' y =
         subst (TermStands E C (stmt_term h l ms (assign s ls None es) r))
         (λ w. Let [] (assignment 0 (place_terms h ls) (values_term h (target_types h.env ls (value_types_in h (count_exprs ls) q w)) fs)) r')

@@ -1,13 +1,12 @@
 -- Expressions of which one operand stands for another: operands of operators, what is indexed, sliced or selected from,
 -- arguments of calls, and the body of a literal that is called (Go specification, Operators; Index expressions; Slice
 -- expressions; Selectors; Calls; Function literals).
-use Rattle.std.specs.Prelude.{◌≡◌, ℕ, false, List, [], Some}
+use Rattle.std.specs.Prelude.{◌≡◌, ℕ, List, [], Some}
 use Rattle.go_tree.specs.declared.exprs.Rest.{Rest}
 use Rattle.go_tree.specs.declared.operators.BinOp.{BinOp}
 use Rattle.go_tree.specs.declared.operators.UnOp.{UnOp}
 use Rattle.go_tree.specs.Tree.{NameAt, Sig, Expr, selector, index, slice, call, func_lit, unary, binary, star, Exprs}
 use Rattle.go_tree.specs.Tree.{ExprOption, some_expr, Stmts}
-use Rattle.go_tree.specs.GoTypes.Initial.{is_address}
 use Rattle.go_tree.specs.GoTypes.Entities.{Binds, extend, in_block}
 use Rattle.go_tree.specs.GoTypes.Statements.{body_binds}
 use Rattle.go_tree.specs.GoTypes.TypeNames.{func_type}
@@ -32,7 +31,7 @@ module _ {S : Type 0} (Stands Deferred : Here → Expr S → Expr S → Type 0) 
         (s : S) (op : BinOp) (x : Expr S) {e f : Expr S} → Stands h e f →
         WithinOperand (binary s op x e) (binary s op x f)
     in_unary :
-        (s : S) (op : UnOp) {e f : Expr S} → is_address op ≡ false → Stands h e f →
+        (s : S) (op : UnOp) {e f : Expr S} → Stands h e f →
         WithinOperand (unary s op e) (unary s op f)
     in_star : (s : S) {e f : Expr S} → Stands h e f → WithinOperand (star s e) (star s f)
     in_selected :

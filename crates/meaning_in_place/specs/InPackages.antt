@@ -3,6 +3,7 @@
 use Rattle.std.specs.Prelude.{◌≡◌, ℕ, Bool, true, List, [], ◌∷◌, ◌++◌, Option, Some, None, if◌then◌else◌}
 use Rattle.go_tree.specs.Tree.{Stmts}
 use Rattle.go_tree.specs.File.{Func as Function}
+use Rattle.go_tree.specs.ScopeNames.Means.{is_blank}
 use Rattle.go_tree.specs.GoTypes.Answers.{is_among}
 use Rattle.go_tree.specs.GoTypes.Types.{FuncType}
 use Rattle.go_tree.specs.GoTypes.Entities.{World}
@@ -16,11 +17,11 @@ use Rattle.go_translation.specs.Packages.{Package, sources, paths_in, function_n
 use Rattle.go_translation.specs.SwappedPackages.{function_here}
 use Rattle.meaning_in_place.specs.InStatements.{InStmts}
 
--- the names that are given, of names that may be left out
+-- the names that are given, of names that may be left out; `_` names nothing
 abbrev pub given_names : List (Option (List ℕ)) → List (List ℕ)
 given_names [] = []
 given_names (None ∷ ns) = given_names ns
-given_names (Some n ∷ ns) = n ∷ given_names ns
+given_names (Some n ∷ ns) = if is_blank n then given_names ns else n ∷ given_names ns
 
 -- the parameters and results of a body are among these names
 abbrev pub NamesAround : List (List ℕ) → BodyNames → Type 0

@@ -1,13 +1,14 @@
 -- Statements in which a part stands for another, in one place: in the headers and the blocks of `if`, `for`, `range`
--- and `switch`, in assignments, declarations, returns and deferred calls, and behind declarations (Go specification,
--- Statements; Blocks; Declarations and scope). All that is declared around the part is among the names `around`.
+-- and `switch`, in assignments on both sides, declarations, returns and deferred calls, and behind declarations (Go
+-- specification, Statements; Blocks; Declarations and scope). All that is declared around the part is among the names
+-- `around`.
 use Rattle.std.specs.Prelude.{ℕ, List, [], Some, None}
 use Rattle.std.specs.Prelude.{Option, Bool}
 use Rattle.go_tree.specs.declared.operators.BinOp.{BinOp}
-use Rattle.go_tree.specs.Tree.{NameAt, TypeExpr, Expr, Exprs, expr_and, ExprOption, some_expr, Stmt, var_decl, eval}
-use Rattle.go_tree.specs.Tree.{assign, define, return_, inner, if_, for_, range_, switch, defer, label, Stmts, stmt_and}
-use Rattle.go_tree.specs.Tree.{StmtOption, some_stmt, BlockOption, some_block, RangeLeft, Arms, no_arms, arm, Cases}
-use Rattle.go_tree.specs.Tree.{case, no_specs, spec}
+use Rattle.go_tree.specs.Tree.{NameAt, TypeExpr, Expr, Exprs, expr_and, ExprOption, some_expr, Stmt, var_decl}
+use Rattle.go_tree.specs.Tree.{eval, step, assign, define, return_, inner, if_, for_, range_, switch, defer}
+use Rattle.go_tree.specs.Tree.{label, Stmts, stmt_and, StmtOption, some_stmt, BlockOption, some_block, RangeLeft}
+use Rattle.go_tree.specs.Tree.{assigns, Arms, no_arms, arm, Cases, case, no_specs, spec}
 use Rattle.go_tree.specs.GoTypes.Entities.{in_block}
 use Rattle.go_kernel.specs.Kernel.{FuncName, Term}
 use Rattle.go_translation.specs.Facts.{following, after}
@@ -36,6 +37,15 @@ module _ {S : Type 0} (Stands Deferred : Here → Expr S → Expr S → Type 0) 
       in_eval :
           {h : Here} {ms : List Mention} (s : S) {e f : Expr S} → Stands h e f →
           WithinStmt h ms (eval s e) (eval s f)
+      in_step :
+          {h : Here} {ms : List Mention} (s : S) {e f : Expr S} (up : Bool) → Stands h e f →
+          WithinStmt h ms (step s e up) (step s f up)
+      in_left_side :
+          {h : Here} {ms : List Mention} (s : S) {ls rs : Exprs S} (es : Exprs S) → WithinExprs h ls rs →
+          WithinStmt h ms (assign s ls None es) (assign s rs None es)
+      in_updated :
+          {h : Here} {ms : List Mention} (s : S) {ls rs : Exprs S} (op : BinOp) (es : Exprs S) → WithinExprs h ls rs →
+          WithinStmt h ms (assign s ls (Some op) es) (assign s rs (Some op) es)
       in_assign :
           {h : Here} {ms : List Mention} (s : S) (ls : Exprs S) {es fs : Exprs S} → WithinExprs h es fs →
           WithinStmt h ms (assign s ls None es) (assign s ls None fs)
@@ -74,6 +84,9 @@ module _ {S : Type 0} (Stands Deferred : Here → Expr S → Expr S → Type 0) 
       in_range :
           {h : Here} {ms : List Mention} (s r : S) (x : RangeLeft S) {e f : Expr S} (b : Stmts S) →
           Stands h e f → WithinStmt h ms (range_ s x e r b) (range_ s x f r b)
+      in_range_left :
+          {h : Here} {ms : List Mention} (s r : S) {ls rs : Exprs S} (e : Expr S) (b : Stmts S) →
+          WithinExprs h ls rs → WithinStmt h ms (range_ s (assigns ls) e r b) (range_ s (assigns rs) e r b)
       in_range_block :
           {h : Here} {ms : List Mention} (s r : S) (x : RangeLeft S) (e : Expr S) {b c : Stmts S} →
           BoundAround around (range_bound h x e) → WithinStmts (in_inner (range_here h x e b)) b c →

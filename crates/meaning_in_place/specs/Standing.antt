@@ -6,14 +6,15 @@ use Rattle.go_tree.specs.Tree.{Expr, Stmt, var_decl, label, StmtOption, no_stmt,
 use Rattle.go_tree.specs.GoTypes.Answers.{is_among}
 use Rattle.go_tree.specs.GoTypes.Types.{GoType}
 use Rattle.go_tree.specs.GoTypes.Entities.{Env, Binds, extend}
-use Rattle.go_tree.specs.GoTypes.Statements.{bound_names, package_before}
+use Rattle.go_tree.specs.GoTypes.Statements.{bound_names, package_before, is_blank_name}
 use Rattle.go_tree.specs.GoTypes.Typing as typing
 use Rattle.go_kernel.specs.Alike.{Same, Calls}
-use Rattle.go_kernel.specs.Kernel.{FuncName, Term}
+use Rattle.go_kernel.specs.Kernel.{FuncName, Value, Term}
 use Rattle.go_translation.specs.Facts.{binds_after, spec_binds}
 use Rattle.go_translation.specs.Here.{Here}
 use Rattle.go_translation.specs.Mentions.{Way, Mention, Deferred, mentions, any_mention}
-use Rattle.go_translation.specs.Translation.{expr_term, try_term, deferred_term}
+use Rattle.go_translation.specs.Places.{Root, pointed, at_index, at_key, Place}
+use Rattle.go_translation.specs.Translation.{expr_term, try_term, place_term, address, deferred_term}
 
 -- ---- what is mentioned
 
@@ -55,9 +56,21 @@ module _ (E : Term → Term → Type 0) (C : FuncName → Type 0) where
   pub record TermStands (t r : Term) : Type 0 where
     pub same : Calls C t → Same E C r t
 
+  -- where a place begins: alike but for the operands that are evaluated before the place is used
+  pub data RootStands : Root → Root → Type 0 where
+    same_root : {r : Root} → RootStands r r
+    by_pointer : {p q : Term} → TermStands p q → RootStands (pointed p) (pointed q)
+    by_index : {a b : Term} → TermStands a b → RootStands (at_index a) (at_index b)
+    by_key : (z : Value) {a b : Term} → TermStands a b → RootStands (at_key z a) (at_key z b)
+
+  -- a place that may stand for another: the same field, from such a root
+  pub record PlaceStands (p q : Place) : Type 0 where
+    pub path : p.path ≡ q.path
+    pub root : RootStands p.root q.root
+
   module _ {S : Type 0} (around : List (List ℕ)) (h : Here) where
     -- an expression that may stand for another: it is typed alike, mentions the names around alike, however it stands,
-    -- and its term may stand for the other's at a place of any type
+    -- and its term may stand for the other's at a place of any type; so on a left side, and its address
     pub record OperandStands (e f : Expr S) : Type 0 where
       pub parts : typing.parts h.env e ≡ typing.parts h.env f
       pub place : typing.place h.env e ≡ typing.place h.env f
@@ -65,6 +78,9 @@ module _ (E : Term → Term → Type 0) (C : FuncName → Type 0) where
       pub mentioned : (w : Way) → MentionedAlike around (mentions w h.env e) (mentions w h.env f)
       pub terms : (t : GoType) → TermStands (expr_term h t e) (expr_term h t f)
       pub tries : TermStands (try_term h e) (try_term h f)
+      pub blank : is_blank_name e ≡ is_blank_name f
+      pub left : PlaceStands (place_term h e) (place_term h f)
+      pub address_is : TermStands (address h e) (address h f)
 
     -- a call that may be deferred in place of another
     pub record DeferredStands (e f : Expr S) : Type 0 where

@@ -1,0 +1,27 @@
+//! Laws of steps in the bodies of functions, as a run makes them.
+
+ghost use Rattle.literals_in_place.specs.StepsInBodies.Laws.{BodiesWithForms, BodiesWithFormsAreTyped};
+ghost use Rattle.literals_in_place.specs.StepsInBodies.Laws.{FoundUsesStandOnce, PackagesWithForms};
+ghost use Rattle.literals_in_place.specs.StepsInBodies.Laws.{StepsInBodiesShowTheSame};
+
+/// What a run makes of a body, with the form of a call in its place, is a body in which the form stands in the
+/// place of the call, where that stands once in it and clear: in a statement, an operand, an argument, a literal of
+/// a function or a deferred call, behind declarations. So it is in the packages of the run. Where the form has the
+/// same facts to the rules of typing as the call, each body is typed as before.
+pub fn steps_put_literals_in_bodies()
+    ensures bodies { BodiesWithForms }
+    ensures packages { PackagesWithForms }
+    ensures typed { BodiesWithFormsAreTyped }
+{}
+
+/// So a step of a run that puts a literal in the place of its call, in the body of a function, leaves packages that
+/// show the same, beside all further packages, where each import is used.
+pub fn steps_in_bodies_show_the_same()
+    ensures { StepsInBodiesShowTheSame }
+{}
+
+/// The use that a step of a run takes stands once in the body of the function around it, where the files of the
+/// program read from their texts.
+pub fn found_uses_stand_once()
+    ensures { FoundUsesStandOnce }
+{}
