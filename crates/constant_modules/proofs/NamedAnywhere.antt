@@ -12,6 +12,7 @@ pub mod HeadersUse
 pub mod NamedImports
 pub mod NamedLinked
 pub mod StepsAnywhere
+pub mod Puts
 pub mod Added
 pub mod Nexts
 pub mod Steps

@@ -1,3 +1,4 @@
+pub mod ApartKeys
 pub mod ConstantNames
 pub mod ConstantRuns
 pub mod CountedUses
@@ -6,5 +7,6 @@ pub mod KeptUses
 pub mod LookUps
 pub mod NamedAnywhere
 pub mod NamedThere
+pub mod NamesAndKeys
 pub mod TypedForms
 pub mod TypedUses

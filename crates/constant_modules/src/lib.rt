@@ -3,6 +3,7 @@
 //! execution).
 #![tactic(auto)]
 
+pub mod apart_keys;
 pub mod constant_names;
 pub mod constant_runs;
 pub mod counted_uses;
@@ -11,5 +12,6 @@ pub mod kept_uses;
 pub mod look_ups;
 pub mod named_anywhere;
 pub mod named_there;
+pub mod names_and_keys;
 pub mod typed_forms;
 pub mod typed_uses;

@@ -40,7 +40,7 @@ use Rattle.typed_in_place.specs.HeaderReplaced.{SameReceiver, no_receiver, one_r
 use Rattle.typed_in_place.specs.Replaced.{SameName, no_name, one_name}
 use Rattle.constant_modules.specs.CountedUses.Typed.{TypesHaveValues, IsFileOf, AllHaveValues, AllImportsUsed, NoneStandBeside}
 use Rattle.constant_modules.specs.CountedUses.Laws.{AllUsedAreCounted, ReadFilesHaveValues}
-use Rattle.constant_modules.specs.CountedUses.Steps.{NoneStoodBeside, DeclarationsAreTypedBetween, DeclarationsStayTyped, ImportsStayLookedUp, ImportsStayUsed, StepsTakeNames}
+use Rattle.constant_modules.specs.CountedUses.Steps.{DeclarationsAreTypedBetween, DeclarationsStayTyped, ImportsStayLookedUp, ImportsStayUsed, StepsTakeNames}
 use Rattle.constant_modules.specs.KeptUses.Laws.{UsedInPlace, ImportsReadAgainAreUsed}
 use Rattle.constant_modules.specs.LookUps.Laws.{TypedImportsAreLookedUp}
 use Rattle.constant_modules.specs.NamedAnywhere.Taken.{TakesNameThere}
@@ -51,6 +51,7 @@ use Rattle.constant_modules.proofs.LookUps.Bare.{looked-up-with}
 use Rattle.constant_modules.proofs.LookUps.Removed.{name_between}
 use Rattle.constant_modules.proofs.LookUps.Uses.{was_used}
 use Rattle.constant_modules.proofs.NamedAnywhere.Added.{distinct-of, linked-of}
+use Rattle.constant_modules.proofs.NamedAnywhere.Puts.{puts_of}
 use Rattle.constant_modules.proofs.NamedAnywhere.Steps.{likened, numbers-after}
 
 -- ---- a receiver stays where an expression is put
@@ -78,7 +79,7 @@ module _ (P : File At → Type 0) (ps : List (Package At)) (w : Where At) (tree 
   abbrev in_package : Package At → Package At
   in_package p = record p { files = change_nth w.file_number with_tree p.files }
 
-  with_other : (v : Where At) → IsFileOf (with_file same_here ps w tree) v → P v.source.tree
+  pub with_other : (v : Where At) → IsFileOf (with_file same_here ps w tree) v → P v.source.tree
   with_other v there = let p = changed_nth in_package w.number v.number ps v.of there.0 in by p.0 p.1 p.2
     where
       before : (p : Package At) → slice_get ps v.number ≡ Some p → (f : SourceTree At) → slice_get p.files v.file_number ≡ Some f → P f.tree
@@ -99,7 +100,7 @@ all_same (d ∷ ds) = λ z. looked-up-with origin_of d z ++ all_same ds z
 -- ---- a step
 
 module _ (kept : ImportsReadAgainAreUsed) (look : TypedImportsAreLookedUp) (marks : List MarkRef) (st : Standing) (l : Logged) (after : Standing) (n : Next marks st l after) (e : Expr At) (part : n.found.site.part ≡ an_expr e) (ready : IsReady st) (files : HaveFiles st.packages)
-    (typed : are_well_typed (members_of st.packages) ≡ true) (all_named : AllNamed st.packages marks) (small : texts_size st.texts ≤ the_limits.total) (write : WritesFile n) (h : TakesNameThere n) (apart : NoneStoodBeside n) where
+    (typed : are_well_typed (members_of st.packages) ≡ true) (all_named : AllNamed st.packages marks) (small : texts_size st.texts ≤ the_limits.total) (write : WritesFile n) (h : TakesNameThere n) where
   abbrev w : Where At
   w = n.found.site.at
 
@@ -112,11 +113,11 @@ module _ (kept : ImportsReadAgainAreUsed) (look : TypedImportsAreLookedUp) (mark
 
   own : (i : ℕ) (s : ImportSpec At) → slice_get (import_specs n.tree) i ≡ Some s → is_blank (import_name st.packages s) ≡ false → In (import_name st.packages s) (decls_looked_up n.tree.decls)
   own i s g b =
-      let u : UsedInPlace marks st n.found (import_key s) = kept marks st l after n e part ready.reads ready.paths ready.named ready.links typed all_named small write (literals_stand marks st l after n h typed) i s g b (apart i s g b) in
+      let u : UsedInPlace marks st n.found (import_key s) = kept marks st l after n e part ready.reads ready.paths ready.named ready.links typed all_named small write (literals_stand marks st l after n (puts_of marks st l after n h) typed) i s g b in
       subst (λ (ns : List (List ℕ)). In (import_name st.packages s) ns) looked_same
       (subst (λ (q : List ℕ). In q (decls_looked_up ds))
       (name_between marks st l after n ready.reads u.spec ∙ name-by st.packages u.spec ∙ (λ z. key_name st.packages (u.alike z)) ∙ sym (name-by st.packages s))
-      (between_looks marks st l after n h typed ready.links.own files u.number u.spec u.there u.used))
+      (between_looks marks st l after n (puts_of marks st l after n h) typed ready.links.own files u.number u.spec u.there u.used))
 
   pub look_after : LookUpImports after.packages
   look_after = subst (λ (ps : List (Package At)). LookUpImports ps) (sym n.packages_are) (with_look st.packages w n.tree (look st.packages ready.links.ordered typed) own)
@@ -155,23 +156,23 @@ module _ (kept : ImportsReadAgainAreUsed) (look : TypedImportsAreLookedUp) (mark
 -- ---- laws
 
 pub between_typed : DeclarationsAreTypedBetween
-between_typed marks st l after n h typed = declared_between marks st l after n h typed
+between_typed marks st l after n h typed = declared_between marks st l after n (puts_of marks st l after n h) typed
 
 pub stay_typed : DeclarationsStayTyped
 stay_typed marks st l after n h typed = declared_after marks st l after n h typed
 
 pub stay_looked_up : ImportsReadAgainAreUsed → TypedImportsAreLookedUp → ImportsStayLookedUp
-stay_looked_up kept look marks st l after n e part ready files typed all_named small write h apart = look_after kept look marks st l after n e part ready files typed all_named small write h apart
+stay_looked_up kept look marks st l after n e part ready files typed all_named small write h = look_after kept look marks st l after n e part ready files typed all_named small write h
 
 module _ (kept : ImportsReadAgainAreUsed) (look : TypedImportsAreLookedUp) (sound : SettledImportsMayBeDeclared) (count : AllUsedAreCounted) (have : ReadFilesHaveValues) where
   pub stay_used : ImportsStayUsed
-  stay_used marks st l after n e part ready files typed all_named small write few h apart beside more beside_typed =
-      counted_after kept look marks st l after n e part ready files typed all_named small write h apart sound few beside count have more beside_typed
+  stay_used marks st l after n e part ready files typed all_named small write few h beside more beside_typed =
+      counted_after kept look marks st l after n e part ready files typed all_named small write h sound few beside count have more beside_typed
 
   pub take_names : UsedImportsStand → StepsTakeNames
-  take_names stand marks st l after n e part ready files typed all_named small write few h apart beside = record {
+  take_names stand marks st l after n e part ready files typed all_named small write few h beside = record {
     there = h;
     imports = λ marked Q beside_typed.
         stand marks st l after n h.use_.new h.form ready.links files typed few write Q
-        (stay_used marks st l after n e part ready files typed all_named small write few h apart beside Q beside_typed);
+        (stay_used marks st l after n e part ready files typed all_named small write few h beside Q beside_typed);
   }

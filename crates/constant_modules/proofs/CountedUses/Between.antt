@@ -35,11 +35,13 @@ use Rattle.typed_in_place.specs.ImportRule.{declarations_ok, imports_ok}
 use Rattle.typed_in_place.proofs.ImportRule.{well_typed_apart}
 use Rattle.typed_in_place.proofs.Rising.{and_first}
 use Rattle.constant_modules.specs.CountedUses.Typed.{NoTypesAlone, TypesHaveValues, IsFileOf}
+use Rattle.constant_modules.specs.NamedAnywhere.Puts.{PutsNameThere}
 use Rattle.constant_modules.specs.NamedAnywhere.Taken.{TakesNameThere}
 use Rattle.constant_modules.proofs.CountedUses.Imports.{linked_distinct, import_themselves, reading_have}
 use Rattle.constant_modules.proofs.CountedUses.Programs.{looks}
 use Rattle.constant_modules.proofs.NamedAnywhere.Added.{nothing-behind, distinct-of, typed-of}
 use Rattle.constant_modules.proofs.NamedAnywhere.AddedParts.{changed-have}
+use Rattle.constant_modules.proofs.NamedAnywhere.Puts.{puts_of}
 use Rattle.constant_modules.proofs.NamedAnywhere.Steps.{likened, put-likened, ordered-put}
 
 -- ---- types of constants with other spans
@@ -92,7 +94,7 @@ module _ {S T : Type 0} (to : S → T) where
 
 -- ---- a step
 
-module _ (marks : List MarkRef) (st : Standing) (l : Logged) (after : Standing) (n : Next marks st l after) (h : TakesNameThere n) (typed : are_well_typed (members_of st.packages) ≡ true) where
+module _ (marks : List MarkRef) (st : Standing) (l : Logged) (after : Standing) (n : Next marks st l after) (h : PutsNameThere n) (typed : are_well_typed (members_of st.packages) ≡ true) where
   abbrev rs : List (run.Package At)
   rs = st.packages
 
@@ -120,9 +122,6 @@ module _ (marks : List MarkRef) (st : Standing) (l : Logged) (after : Standing) 
   -- where packages are likened to those before
   linked_ok : (xs : List (run.Package At)) → Likened (members_of rs ++ []) (members_of xs ++ []) → declarations_ok (linked xs) ≡ true
   linked_ok xs k = (λ z. declarations_ok (sym (sources-linked xs) z)) ∙ (λ z. declarations_ok (sources (sym (nothing-behind (members_of xs)) z))) ∙ sym k.typed ∙ declared_before
-
-  pub declared_after : declarations_ok (linked after.packages) ≡ true
-  declared_after = linked_ok after.packages (likened marks st l after n h [] alone)
 
   between : Likened (members_of rs ++ []) (members_of qs ++ [])
   between = put-likened marks st l after n h [] alone
@@ -184,3 +183,11 @@ module _ (marks : List MarkRef) (st : Standing) (l : Logged) (after : Standing) 
     -- an import that is used is looked up
     pub between_looks : (k : ℕ) (y : ImportSpec At) → slice_get (import_specs v.source.tree) k ≡ Some y → used_after marks st n.found k ≡ true → In (import_name qs y) (decls_looked_up v.source.tree.decls)
     between_looks k y e u = looks qs ordered_between declared_between (linked_distinct qs distinct_between) v file_there.0 file_there.1 [] themselves refl values_between k y e u
+
+-- ---- after the step
+
+module _ (marks : List MarkRef) (st : Standing) (l : Logged) (after : Standing) (n : Next marks st l after) (h : TakesNameThere n) (typed : are_well_typed (members_of st.packages) ≡ true) where
+  pub declared_after : declarations_ok (linked after.packages) ≡ true
+  declared_after =
+      linked_ok marks st l after n (puts_of marks st l after n h) typed after.packages
+      (likened marks st l after n h [] (alone marks st l after n (puts_of marks st l after n h) typed))

@@ -62,7 +62,7 @@ module _ {S : Type 0} (m : List ℕ) (is_name : is_blank m ≡ false) (ps : List
   behind_one u = record { header = u.header; there = later u.there; uses = u.uses }
 
   -- outside all functions nothing is declared around
-  outside : (i : Option ℕ) (env : Env) → env.here ≡ [] → NamesOutside {S = S} top [] (file_env W w.number is i) env []
+  pub outside : (i : Option ℕ) (env : Env) → env.here ≡ [] → NamesOutside {S = S} top [] (file_env W w.number is i) env []
   outside i env e = record {
     outer = λ n j. refl;
     listed = λ n b j. no_name n j;

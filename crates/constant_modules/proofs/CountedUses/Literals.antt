@@ -23,10 +23,11 @@ use Rattle.run_rules.specs.Sites.{MarkRef, Site, part_span}
 use Rattle.run_rules.specs.Steps.{At, same_here, changes_for, new_decl}
 use Rattle.run_rules.specs.Surroundings.{Use, a_slot, Place, Seen, seen, into_type, elem_use, key_use, in_slot, elem_closed}
 use Rattle.constant_modules.specs.CountedUses.Steps.{LiteralsStandThere}
-use Rattle.constant_modules.specs.NamedAnywhere.Taken.{TakesNameThere}
+use Rattle.constant_modules.specs.NamedAnywhere.Puts.{PutsNameThere}
 use Rattle.constant_modules.proofs.CountedUses.Between.{qs, v, declared_now, distinct_now, declared_between, distinct_between, ordered_between, file_there, file_then}
 use Rattle.constant_modules.proofs.CountedUses.Imports.{linked_distinct}
 use Rattle.constant_modules.proofs.CountedUses.Programs.{file_parts_typed}
+use Rattle.constant_modules.proofs.NamedAnywhere.Puts.{puts_of}
 
 -- ---- keys that name fields, or are typed, are names where they name fields
 
@@ -63,13 +64,13 @@ module _ {S : Type 0} where
   one_named (seen p u (composite s t es)) h = elems_named (in_slot (a_slot 1 false false) p) (given (type_meant p.env t) (λ v. Some (under (defined_in p.env) v))) 0 es (all_keyed (seen p u (composite s t es) ∷ []) h).0
   one_named x h = tt
 
-  each_named : (xs : List (Seen S)) → AllTyped xs → EachSeen FieldsNamed xs
+  pub each_named : (xs : List (Seen S)) → AllTyped xs → EachSeen FieldsNamed xs
   each_named [] h = tt
   each_named (x ∷ xs) h = (one_named x (h.0, tt), each_named xs h.1)
 
 -- ---- a step
 
-module _ (marks : List MarkRef) (st : Standing) (l : Logged) (after : Standing) (n : Next marks st l after) (h : TakesNameThere n) (typed : are_well_typed (members_of st.packages) ≡ true) where
+module _ (marks : List MarkRef) (st : Standing) (l : Logged) (after : Standing) (n : Next marks st l after) (h : PutsNameThere n) (typed : are_well_typed (members_of st.packages) ≡ true) where
   abbrev x : Site At
   x = n.found.site
 
@@ -91,4 +92,4 @@ module _ (marks : List MarkRef) (st : Standing) (l : Logged) (after : Standing) 
   }
 
 pub literals_there : LiteralsStandThere
-literals_there marks st l after n h typed = literals_stand marks st l after n h typed
+literals_there marks st l after n h typed = literals_stand marks st l after n (puts_of marks st l after n h) typed

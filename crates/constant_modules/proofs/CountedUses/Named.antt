@@ -89,7 +89,7 @@ module _ (ps : List (Package At)) (w : Where At) (k : ℕ) where
 
   -- ---- a name of an import
 
-  meant : (o : Option Target) → means_import k (given o imported_by) ≡ true → (j : ℕ) × (o ≡ Some (imported j))
+  pub meant : (o : Option Target) → means_import k (given o imported_by) ≡ true → (j : ℕ) × (o ≡ Some (imported j))
   meant None e = absurd cc
   meant (Some (local z)) e = absurd cc
   meant (Some (imported j)) e = (j, refl)

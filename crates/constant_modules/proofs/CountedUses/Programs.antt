@@ -33,6 +33,7 @@ use Rattle.order_runs.proofs.RunSteps.SeatedUses.{Among}
 use Rattle.printed_constants.specs.TypedParts.Parts.{AllTyped}
 use Rattle.printed_constants.specs.TypedParts.StandingUses.ImportUses.Parts.{DottedImports}
 use Rattle.printed_constants.specs.UsedImports.Uses.{decls_looked_up}
+use Rattle.printed_constants.proofs.DeclaredMembers.Values.{IsTyped}
 use Rattle.printed_constants.proofs.RemovedImports.Imports.{ImportAt, import_there}
 use Rattle.printed_constants.proofs.StandingForms.Unnamed.{behind, none_behind, in_turn}
 use Rattle.printed_constants.proofs.UsedImports.HeaderUses.{among_in}
@@ -147,6 +148,10 @@ module _ (ps : List (run.Package At)) (ordered : AllOrdered ps) (ok : declaratio
     in_file i d de =
         in_files (types_declared (linked ps) (headed (linked ps))) (world ps) w.number (is_main its) (block_names its.files) 0 w.file_number i its.files (linked_file ps w.source) d
         (in_package (types_declared (linked ps) (headed (linked ps))) (world ps) its s.nth w.file_number i s.there typed) (nth_mapped (linked_file ps) w.of.files w.file_number w.source fe) de
+
+    -- a declaration of the file is typed
+    pub file_is_typed : (i : ℕ) (d : Decl At) → slice_get w.source.tree.decls i ≡ Some d → IsTyped ps w d
+    file_is_typed i d de = let t = in_file i d de in record { in_main = is_main its; nth = t.nth; typed = t.typed }
 
     pub file_dotted : (i : ℕ) (d : Decl At) → slice_get w.source.tree.decls i ≡ Some d → DottedImports ps w (decl_seen ps w.number w.of w.source.tree d)
     file_dotted i d de = let t = in_file i d de in decl_dotted ps w (is_main its) t.nth d t.typed

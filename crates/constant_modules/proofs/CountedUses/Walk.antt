@@ -112,28 +112,28 @@ module _ {S : Type 0} (m : List ℕ) (is_name : is_blank m ≡ false) (top : Env
   abbrev holds : HoldsWithin (NamesOutside {S = S} top)
   holds = outside_holds top
 
-  block_beside : (a : Env) (p : Place S) → Beside a p → Beside (in_block a) (around.block p)
+  pub block_beside : (a : Env) (p : Place S) → Beside a p → Beside (in_block a) (around.block p)
   block_beside a p r = (r.0, holds.in_blocks r.0 a p.env p.bound r.1)
 
-  stmt_beside : (a : Env) (p : Place S) (s : Stmt S) → Beside a p → Beside (extend (stmt_binds a s) a) (after_stmt p s)
+  pub stmt_beside : (a : Env) (p : Place S) (s : Stmt S) → Beside a p → Beside (extend (stmt_binds a s) a) (after_stmt p s)
   stmt_beside a p s r = (declared s ++ r.0, holds.after_stmts r.0 a p s r.1)
 
-  first_beside : (a : Env) (p : Place S) (i : StmtOption S) → Beside a p → Beside (extend (first_binds a i) a) (after_first p i)
+  pub first_beside : (a : Env) (p : Place S) (i : StmtOption S) → Beside a p → Beside (extend (first_binds a i) a) (after_first p i)
   first_beside a p i r = (declared_option i ++ r.0, holds.after_firsts r.0 a p i r.1)
 
-  range_beside : (a : Env) (p : Place S) (l : RangeLeft S) (x : Expr S) → Beside a p → Beside (extend (range_left_binds a x l) (in_block a)) (ranged p l x)
+  pub range_beside : (a : Env) (p : Place S) (l : RangeLeft S) (x : Expr S) → Beside a p → Beside (extend (range_left_binds a x l) (in_block a)) (ranged p l x)
   range_beside a p l x r = (defined l ++ r.0, holds.in_ranges r.0 a p l x r.1)
 
-  specs_beside : (a : Env) (p : Place S) (ns : List (NameAt S)) (t : Option (TypeExpr S)) (es : Exprs S) → Beside a p → Beside (extend (variable_binds a ns t es) a) (after_variables p ns t es)
+  pub specs_beside : (a : Env) (p : Place S) (ns : List (NameAt S)) (t : Option (TypeExpr S)) (es : Exprs S) → Beside a p → Beside (extend (variable_binds a ns t es) a) (after_variables p ns t es)
   specs_beside a p ns t es r = (names_of ns ++ r.0, holds.after_specs r.0 a p ns t es r.1)
 
-  members_beside : (a : Env) (p : Place S) (again : Repeated) (i : ℕ) (ns : List (NameAt S)) → Beside a p → Beside (extend (bind_each refused (names_of ns)) a) (after_constants p again i ns)
+  pub members_beside : (a : Env) (p : Place S) (again : Repeated) (i : ℕ) (ns : List (NameAt S)) → Beside a p → Beside (extend (bind_each refused (names_of ns)) a) (after_constants p again i ns)
   members_beside a p again i ns r = (names_of ns ++ r.0, holds.after_refused r.0 a p again i ns r.1)
 
-  literal_beside : (a : Env) (p : Place S) (g : Sig S) (f : FuncType) → func_type p.env g ≡ Some f → Beside a p → Beside (literal_env a g) (in_literal p g)
+  pub literal_beside : (a : Env) (p : Place S) (g : Sig S) (f : FuncType) → func_type p.env g ≡ Some f → Beside a p → Beside (literal_env a g) (in_literal p g)
   literal_beside a p g f e r = (sig_names g ++ r.0, holds.in_literals r.0 a p g f e r.1)
 
-  member_beside : (a : Env) (p : Place S) (i : ℕ) → Beside a p → Beside a (in_constant i p)
+  pub member_beside : (a : Env) (p : Place S) (i : ℕ) → Beside a p → Beside a (in_constant i p)
   member_beside a p i r = (
     r.0,
     record {
@@ -172,7 +172,7 @@ module _ {S : Type 0} (m : List ℕ) (is_name : is_blank m ≡ false) (top : Env
   at-callee l (func_lit _ _ _ _) p h = h
   at-callee l f p h = h
 
-  callee_beside : (a : Env) (l : Slot) (f : Expr S) (p : Place S) → Beside a p → Beside a (callee_place l f p)
+  pub callee_beside : (a : Env) (l : Slot) (f : Expr S) (p : Place S) → Beside a p → Beside a (callee_place l f p)
   callee_beside a l (func_lit _ _ _ _) p r = r
   callee_beside a l f p r = r
 

@@ -18,7 +18,6 @@ use Rattle.order_runs.specs.CycleRuns.Linked.{Linked}
 use Rattle.order_runs.specs.CycleRuns.LedImports.Led.{IsSpelled}
 use Rattle.order_runs.specs.ImportSteps.ImportingSteps.{MayBeDeclared}
 use Rattle.order_runs.specs.RunSteps.RunPackages.{members_of}
-use Rattle.order_runs.proofs.CycleRuns.ImportCycles.ImportStep.{placed}
 use Rattle.order_runs.proofs.CycleRuns.Runs.{linked-names}
 use Rattle.printed_constants.specs.TypedParts.MarkedRuns.NamedMarks.Named.{AllNamed}
 use Rattle.printed_constants.proofs.NamedUses.Forms.{Writes, writes_name, writes_member, step_writes}
@@ -37,12 +36,9 @@ use Rattle.run_rules.specs.Sites.{MarkRef, Where, Site, a_constant, an_expr, par
 use Rattle.run_rules.specs.Steps.{At, same_here, spec_for, added_decls, file_between}
 use Rattle.splice_laws.specs.RunLaws.Reading.{ProgramReads}
 use Rattle.order_runs.specs.CycleRuns.OrderCycles.NewNames.{AvoidsFew, EachFresh}
-use Rattle.constant_modules.specs.LookUps.Laws.{NotBeside}
 use Rattle.order_runs.proofs.CycleRuns.OrderCycles.FreshNames.{step-fresh}
 use Rattle.constant_modules.proofs.KeptUses.Added.{added_named, comes_used}
-use Rattle.constant_modules.proofs.LookUps.Imports.{typed_look_up}
-use Rattle.constant_modules.proofs.LookUps.Removed.{stays}
-use Rattle.constant_modules.proofs.LookUps.Uses.{was_used}
+use Rattle.constant_modules.proofs.NamesAndKeys.UsedImports.{stays_used}
 
 itself : (k : ℕ) → nat_eq k k ≡ true
 itself k = grind (arith, nat_tests)
@@ -153,12 +149,10 @@ module _ (marks : List MarkRef) (st : Standing) (l : Logged) (after : Standing) 
 
   -- ---- each import of the file
 
-  module _ (typed : are_well_typed (members_of st.packages) ≡ true) (sound : MayBeDeclared st.packages w) (j : ℕ) (s : ImportSpec At) (named : is_blank (import_name st.packages s) ≡ false) (apart : NotBeside st.packages w (import_name st.packages s)) (left : list_any (same_span (here_of s.span)) (removed_specs marks st n.found) ≡ false) where
+  module _ (typed : are_well_typed (members_of st.packages) ≡ true) (sound : MayBeDeclared st.packages w) (j : ℕ) (s : ImportSpec At) (named : is_blank (import_name st.packages s) ≡ false) (left : list_any (same_span (here_of s.span)) (removed_specs marks st n.found) ≡ false) where
     old_used : slice_get (import_specs w.source.tree) j ≡ Some s → used_after marks st n.found j ≡ true
     old_used there =
-        let here = placed marks st l after n in
-        stays marks st l after n reads j s there left
-        (was_used st.packages w sound j s there named (typed_look_up st.packages linked_so.ordered typed w here.package_is here.file_is j s there named) apart)
+        stays_used marks st l after n reads linked_so.ordered typed sound j s there named left
 
     new_used : (k : ℕ) → j ≡ J + k → slice_get (specs_in (added_decls n.found.range (imports_added n.found.named))) k ≡ Some s → used_after marks st n.found j ≡ true
     new_used k e there =

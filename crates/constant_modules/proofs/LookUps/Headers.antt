@@ -160,7 +160,7 @@ module _ {S : Type 0} (m : List ℕ) (is_name : is_blank m ≡ false) (w : World
     named_so [] = refl
     named_so (n ∷ ns) = λ v. n ∷ named_so ns v
 
-    body_out : is_among m (receiver_names f.receiver ++ sig_names f.sig) ≡ false → Outside m is_name (body_env w h f) (map at_body (bound_names bound)) (names_around f)
+    pub body_out : is_among m (receiver_names f.receiver ++ sig_names f.sig) ≡ false → Outside m is_name (body_env w h f) (map at_body (bound_names bound)) (names_around f)
     body_out e = record {
       sub = λ k i. ap (is_among k) (named_so (bound_names bound)) ∙ of_either k (bound_names bound) [] (λ j. j) (λ j. no_name k j) i;
       free = ap (is_among m) (named_so (bound_names bound)) ∙ body_free h f e (func_type (in_block (env_of w h None)) f.sig);

@@ -5,6 +5,7 @@ use Rattle.std.specs.List.{list_all}
 use Rattle.std.proofs.lemmas.Bool.Decides.{nat_tests}
 use Rattle.std.proofs.lemmas.List.Folds.{list_any-append}
 use Rattle.std.proofs.lemmas.Option.{same_Some}
+use Rattle.go_tree.specs.File.{ImportSpec}
 use Rattle.go_tree.specs.ScopeNames.Means.{Environment, is_blank}
 use Rattle.go_tree.specs.GoTypes.Agreement.{In}
 use Rattle.go_tree.specs.GoTypes.Answers.{is_among}
@@ -35,14 +36,14 @@ use Rattle.typed_in_place.proofs.ImportRule.{well_typed_apart, file_imports}
 use Rattle.typed_in_place.proofs.Rising.{and_first, and_second}
 use Rattle.constant_modules.proofs.LookUps.Headers.{EachLooks, decls_look}
 
-same_number : (a b : ℕ) → nat_eq a b ≡ true → a ≡ b
+pub same_number : (a b : ℕ) → nat_eq a b ≡ true → a ≡ b
 same_number a b e = grind (arith, nat_tests, e)
 
 either : (a b : Bool) → (a || b) ≡ true → (a ≡ true) ⊎ (b ≡ true)
 either true b e = inl refl
 either false b e = inr e
 
-three : (a b c : Bool) → (a && (b && c)) ≡ true → (a ≡ true) × ((b ≡ true) × (c ≡ true))
+pub three : (a b c : Bool) → (a && (b && c)) ≡ true → (a ≡ true) × ((b ≡ true) × (c ≡ true))
 three true true true e = (refl, (refl, refl))
 three true true false e = absurd cc
 three true false c e = absurd cc
@@ -64,7 +65,7 @@ module _ {S : Type 0} (w : World) (K M : ℕ) (n : List ℕ) (is_name : is_blank
   abbrev test : Headed S → Bool
   test h = nat_eq h.home K && (nat_eq h.file M && is_among n (header_uses w h))
 
-  used_either : (hs ks : List (Headed S)) → Used (hs ++ ks) → Used hs ⊎ Used ks
+  pub used_either : (hs ks : List (Headed S)) → Used (hs ++ ks) → Used hs ⊎ Used ks
   used_either hs ks e = either (is_used_in w K M n hs) (is_used_in w K M n ks) (sym (list_any-append test hs ks) ∙ e)
 
   in_file : (home : ℕ) (in_main : Bool) (file : ℕ) (is : Environment Entity) (b : List (List ℕ)) (ls : List (List ℕ)) (hs : List (S × Header S)) → EachLooks n is_name w ls hs → Used (headed_file home in_main file is b hs) → InFile K M n home file ls
@@ -187,11 +188,15 @@ module _ (ps : List (Package At)) (ordered : AllOrdered ps) (typed_so : are_well
   linked_distinct : Distinct (linked ps)
   linked_distinct = subst Distinct (sources-linked ps) (distinct_sources (members_of ps) [] ((λ v. are_distinct (nothing_behind (members_of ps) v)) ∙ distinct))
 
-  pub typed_look_up : LookUpImports ps
-  typed_look_up w p f i s g b =
+  -- each import but `_` is used in its file, as typing counts it
+  pub typed_used : (w : Where At) → slice_get ps w.number ≡ Some w.of → slice_get w.of.files w.file_number ≡ Some w.source → (i : ℕ) (s : ImportSpec At) → slice_get (import_specs w.source.tree) i ≡ Some s → is_blank (import_name ps s) ≡ false
+      → is_used_in (collected (linked ps)) w.number w.file_number (import_name ps s) (headed (linked ps)) ≡ true
+  typed_used w p f i s g b =
       let k : StandsAt ps w (linked ps) = package-stands ps w w.file_number w.source f (in_dependency_order ps) (among-order ps w.number w.of p (ordered w.number w.of p)) linked_distinct in
       let right : imports_ok (linked ps) ≡ true = and_second (declarations_ok (linked ps)) (imports_ok (linked ps)) (sym (well_typed_apart (linked ps)) ∙ linked_typed ps typed_so) in
       let used : imports_used (collected (linked ps)) (headed (linked ps)) w.number w.file_number (linked_imports ps w.source.tree) ≡ true =
       package_all_used (collected (linked ps)) (headed (linked ps)) (linked_at ps w k.at) k.nth w.file_number (linked_file ps w.source) k.there right (nth_mapped (linked_file ps) w.of.files w.file_number w.source f) in
-      used_looked ps (collected (linked ps)) w p f (import_name ps s) b
-      (one_used (collected (linked ps)) (headed (linked ps)) w.number w.file_number (linked_imports ps w.source.tree) i (linked_import ps s) used (nth_mapped (linked_import ps) (import_specs w.source.tree) i s g) b)
+      one_used (collected (linked ps)) (headed (linked ps)) w.number w.file_number (linked_imports ps w.source.tree) i (linked_import ps s) used (nth_mapped (linked_import ps) (import_specs w.source.tree) i s g) b
+
+  pub typed_look_up : LookUpImports ps
+  typed_look_up w p f i s g b = used_looked ps (collected (linked ps)) w p f (import_name ps s) b (typed_used w p f i s g b)

@@ -233,7 +233,7 @@ module _ (marks : List MarkRef) (st : Standing) (l : Logged) (after : Standing) 
   abbrev with_tree : File At → Package At → Package At
   with_tree t p = record p { files = change_nth w.file_number (λ (s : SourceTree At). record s { tree = t }) p.files }
 
-  name_added : (s : ImportSpec At) → import_name mid s ≡ import_name st.packages s
+  pub name_added : (s : ImportSpec At) → import_name mid s ≡ import_name st.packages s
   name_added s = λ z. name_or s.name (name-stays (with_tree (file_added n.found)) (λ p. refl) (λ p. refl) w.number st.packages s.path z)
 
   pub name_between : (s : ImportSpec At) → import_name qs s ≡ import_name st.packages s
@@ -299,7 +299,7 @@ module _ (marks : List MarkRef) (st : Standing) (l : Logged) (after : Standing) 
   -- ---- a name that stands uses the import that it used
 
   module _ (m : List ℕ) (j : ℕ) (before : means_import j (given (means (outer st.packages w) m) imported_by) ≡ true) where
-    it_means : means_import j (given (means (outer qs v) m) imported_by) ≡ true
+    pub it_means : means_import j (given (means (outer qs v) m) imported_by) ≡ true
     it_means =
         (λ z. means_import j (given (means (in_turn m qs v z) m) imported_by))
         ∙ (λ z. means_import j (given (means (numbered imported 0 (names_there z) ++ behind m qs v) m) imported_by))
@@ -311,23 +311,26 @@ module _ (marks : List MarkRef) (st : Standing) (l : Logged) (after : Standing) 
         any_true (λ (c : Decl At). list_any (uses_import qs v j) (decl_seen qs v.number v.of v.source.tree c)) (nth_among ds k d e)
         (any_true (uses_import qs v j) a (stands_uses qs v j m it_means y h))
 
-  none_named : (k : ℕ) (d : Decl At) → slice_get ds k ≡ Some d → (m : List ℕ) (y : Seen At) → Among y (decl_seen qs v.number v.of v.source.tree d) → StandsAt m y → RemovesNoneNamed n m
-  none_named k d e m y at h j s there listed its_name =
-      let u = unused j s there listed in
-      let b : UsedBy st.packages w j = by_decls st.packages w j w.number w.of w.source.tree w.source.tree.decls u.0 in
+  -- the name of one that goes meant it
+  pub meant_it : (j : ℕ) (s : ImportSpec At) → slice_get (import_specs w.source.tree) j ≡ Some s → list_any (same_span (here_of s.span)) (removed_specs marks st n.found) ≡ true
+      → means_import j (given (means (outer st.packages w) (import_name st.packages s)) imported_by) ≡ true
+  meant_it j s there listed =
+      let b : UsedBy st.packages w j = by_decls st.packages w j w.number w.of w.source.tree w.source.tree.decls (unused j s there listed).0 in
       let a : ImportAt b.name st.packages 0 j (import_specs w.source.tree) =
       import_there b.name st.packages 0 j (import_specs w.source.tree) (behind b.name st.packages w) (none_behind b.name st.packages w)
       (sym (λ z. means_import j (given (means (in_turn b.name st.packages w z) b.name) imported_by)) ∙ b.means_it) in
       let nth : a.nth ≡ j = number a.nth j a.number in
       let spec : a.spec ≡ s = same_Some a.spec s (sym a.there ∙ (λ z. slice_get (import_specs w.source.tree) (nth z)) ∙ there) in
-      let is : b.name ≡ m = sym a.named ∙ (λ z. import_name st.packages (spec z)) ∙ sym (name_added s) ∙ its_name in
-      let now : used_after marks st n.found j ≡ true =
-      it_uses m j (subst (λ (q : List ℕ). means_import j (given (means (outer st.packages w) q) imported_by) ≡ true) is b.means_it) k d e y at h in
-      clash (used_after marks st n.found j) u.1 now
+      subst (λ (q : List ℕ). means_import j (given (means (outer st.packages w) q) imported_by) ≡ true) (sym a.named ∙ (λ z. import_name st.packages (spec z))) b.means_it
     where
       number : (a b : ℕ) → b ≡ 0 + a → a ≡ b
       number a b g = omega (arith, g)
 
+  none_named : (k : ℕ) (d : Decl At) → slice_get ds k ≡ Some d → (m : List ℕ) (y : Seen At) → Among y (decl_seen qs v.number v.of v.source.tree d) → StandsAt m y → RemovesNoneNamed n m
+  none_named k d e m y at h j s there listed its_name =
+      let before = subst (λ (q : List ℕ). means_import j (given (means (outer st.packages w) q) imported_by) ≡ true) (sym (name_added s) ∙ its_name) (meant_it j s there listed) in
+      clash (used_after marks st n.found j) (unused j s there listed).1 (it_uses m j before k d e y at h)
+    where
       clash : (b : Bool) → b ≡ false → b ≡ true → ⊥
       clash true p q = cc
       clash false p q = cc

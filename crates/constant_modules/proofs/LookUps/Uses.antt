@@ -102,7 +102,7 @@ module _ (ps : List (Package At)) (members : List (List ℕ)) where
 -- ---- an import is used
 
 module _ (ps : List (Package At)) (w : Where At) (sound : MayBeDeclared ps w) (j : ℕ) (s : ImportSpec At) (there : slice_get (import_specs w.source.tree) j ≡ Some s) (named : is_blank (import_name ps s) ≡ false) where
-  its_meaning : means_import j (given (means (outer ps w) (import_name ps s)) imported_by) ≡ true
+  pub its_meaning : means_import j (given (means (outer ps w) (import_name ps s)) imported_by) ≡ true
   its_meaning =
       (λ z. means_import j (given (means (in_turn (import_name ps s) ps w z) (import_name ps s)) imported_by))
       ∙ sound_means ps (block_names (map (linked_file ps) w.of.files)) (behind (import_name ps s) ps w) 0 [] (import_specs w.source.tree) sound j j s there (zero_behind j) named

@@ -1,6 +1,6 @@
 -- Each free name of a part stands at a part that run_rules' walk over it lists, or beside: one line a clause.
 use Rattle.std.proofs.Common.{◌≡◌, refl, sym, subst, ◌∙◌, ◌⊎◌, inl, inr, ℕ, suc, ◌+◌, Bool, true, false, if◌then◌else◌, List, [], ◌∷◌, ◌++◌, Option, Some, None}
-use Rattle.go_tree.specs.Tree.{Param, TypeExpr, named, pointer, slice_type, map_type, struct_type, Fields, no_fields, field, Expr, ident, int_lit, rune_lit, str_lit, composite, selector, index, slice, call, func_lit, type_operand, unary, binary, star, Exprs, no_exprs, expr_and, ExprOption, no_expr, some_expr, Elems, no_elems, elem, Value, plain, braced, ValueOption, no_value, some_value, Stmt, const_decl, var_decl, empty, eval, step, assign, define, return_, break_, continue_, inner, if_, for_, range_, switch, defer, label, Stmts, no_stmts, stmt_and, StmtOption, no_stmt, some_stmt, BlockOption, no_block, some_block, RangeLeft, nothing, assigns, defines, Arms, no_arms, arm, Cases, no_cases, case, ValueSpecs, no_specs, spec}
+use Rattle.go_tree.specs.Tree.{NameAt, Param, TypeExpr, named, pointer, slice_type, map_type, struct_type, Fields, no_fields, field, Expr, ident, int_lit, rune_lit, str_lit, composite, selector, index, slice, call, func_lit, type_operand, unary, binary, star, Exprs, no_exprs, expr_and, ExprOption, no_expr, some_expr, Elems, no_elems, elem, Value, plain, braced, ValueOption, no_value, some_value, Stmt, const_decl, var_decl, empty, eval, step, assign, define, return_, break_, continue_, inner, if_, for_, range_, switch, defer, label, Stmts, no_stmts, stmt_and, StmtOption, no_stmt, some_stmt, BlockOption, no_block, some_block, RangeLeft, nothing, assigns, defines, Arms, no_arms, arm, Cases, no_cases, case, ValueSpecs, no_specs, spec}
 use Rattle.go_tree.specs.ScopeNames.FreeNames.{unless_declared, names_of, declared, declared_option, arms_declared, defined, sig_names, free_type, free_fields, free_type_option, free_params, free_expr, free_exprs, free_expr_option, free_elems, free_value, free_value_option, free_stmt, free_stmts, free_stmt_option, free_block_option, free_left, free_arms, free_cases, free_specs}
 use Rattle.go_tree.specs.ScopeNames.Identifiers.{value_identifiers}
 use Rattle.go_tree.specs.GoWords.Terminals.{level_of}
@@ -18,7 +18,7 @@ use Rattle.order_runs.proofs.CycleRuns.ImportCycles.FreeIdentifiers.{in-left, in
 use Rattle.order_runs.proofs.RunSteps.SeatedUses.{Among, first, later}
 use Rattle.run_rules.specs.Places.{written_seen, params_seen, old_seen, after_arms, expr_seen, all_seen, option_seen, elems_seen, key_seen, value_seen, stmt_seen, stmts_seen, first_seen, block_seen, left_seen, arms_seen, cases_seen, constants_seen, variables_seen}
 use Rattle.run_rules.specs.Sites.{named_in, named_in_fields}
-use Rattle.run_rules.specs.Surroundings.{Use, whole, stored, updated, called, deferred_call, alone, other, a_slot, Place, Seen, seen, seen_type, seen_stmt, alike, into_type, head_use, later_uses, arg_uses, unary_use, operand_use, first_operand_use, right_uses, every_use, value_use, return_uses, elem_use, key_use, inner_slot, last_slot, in_slot, callee_place, comma_slot, elem_closed, after_stmt, after_first, block, looping, switching, in_heading, at_stmt, plain_slot, ranged, in_literal, repeated_by, in_constant, after_constants, before_repeats, after_variables}
+use Rattle.run_rules.specs.Surroundings.{Use, whole, stored, updated, called, deferred_call, alone, other, a_slot, Place, is_local, Seen, seen, seen_type, seen_stmt, alike, into_type, head_use, later_uses, arg_uses, unary_use, operand_use, first_operand_use, right_uses, every_use, value_use, return_uses, elem_use, key_use, inner_slot, last_slot, in_slot, callee_place, comma_slot, elem_closed, after_stmt, after_first, block, looping, switching, in_heading, at_stmt, plain_slot, ranged, in_literal, repeated_by, in_constant, after_constants, before_repeats, after_variables}
 use Rattle.constant_modules.specs.LookUps.Beside.{names_over, fields_named, key_fields, value_fields, type_alone, package_before, beside_part, StandsAt}
 use Rattle.constant_modules.proofs.LookUps.Clear.{Clear, callee_clear, stmt_clear, first_clear, left_clear, names_clear, literal_clear, arms_clear}
 
@@ -138,41 +138,46 @@ module _ {S : Type 0} (m : List ℕ) where
 
   -- ---- types
 
-  abbrev OfTypes : List (List ℕ) → List (TypeExpr S) → Type 0
-  OfTypes env ts = (In m (names_over package_before ts) × (is_among m env ≡ false)) ⊎ In m (names_over type_alone ts)
+  abbrev OfTypes : Place S → List (List ℕ) → List (TypeExpr S) → Type 0
+  OfTypes p env ts = (In m (names_over package_before ts) × (is_among m env ≡ false)) ⊎ In m (names_over (type_alone p) ts)
 
-  types-front : (env : List (List ℕ)) (ts us : List (TypeExpr S)) → OfTypes env ts → OfTypes env (ts ++ us)
-  types-front env ts us (inl j) = inl (over-front package_before m ts us j.0, j.1)
-  types-front env ts us (inr j) = inr (over-front type_alone m ts us j)
+  -- a name of a type alone that nothing declares there
+  alone-in : (p : Place S) (s : S) (n : NameAt S) → m ≡ n.name → is_local p m ≡ false → In m (type_alone p (named s None n))
+  alone-in p s n e free = subst (λ (b : Bool). In m (if b then [] else n.name ∷ [])) (sym free ∙ (λ v. is_local p (e v))) (one-in m n.name e)
 
-  types-back : (env : List (List ℕ)) (ts us : List (TypeExpr S)) → OfTypes env us → OfTypes env (ts ++ us)
-  types-back env ts us (inl j) = inl (over-back package_before m ts us j.0, j.1)
-  types-back env ts us (inr j) = inr (over-back type_alone m ts us j)
+  module _ (p : Place S) where
+    types-front : (env : List (List ℕ)) (ts us : List (TypeExpr S)) → OfTypes p env ts → OfTypes p env (ts ++ us)
+    types-front env ts us (inl j) = inl (over-front package_before m ts us j.0, j.1)
+    types-front env ts us (inr j) = inr (over-front (type_alone p) m ts us j)
 
-  types-two : (env xs ys : List (List ℕ)) (ts us : List (TypeExpr S)) → (In m xs → OfTypes env ts) → (In m ys → OfTypes env us) → In m (xs ++ ys) → OfTypes env (ts ++ us)
-  types-two env xs ys ts us h k i = by (in-either m xs ys i)
-    where
-      by : In m xs ⊎ In m ys → OfTypes env (ts ++ us)
-      by (inl j) = types-front env ts us (h j)
-      by (inr j) = types-back env ts us (k j)
+    types-back : (env : List (List ℕ)) (ts us : List (TypeExpr S)) → OfTypes p env us → OfTypes p env (ts ++ us)
+    types-back env ts us (inl j) = inl (over-back package_before m ts us j.0, j.1)
+    types-back env ts us (inr j) = inr (over-back (type_alone p) m ts us j)
 
-  mutual
-    type-in : (env : List (List ℕ)) (t : TypeExpr S) → In m (free_type env t) → OfTypes env (named_in t)
-    type-in env (named s None n) i = let b = bare m env n.name i in inr (one-in m n.name b.same)
-    type-in env (named s (Some q) n) i = let b = bare m env q.name i in inl (one-in m q.name b.same, b.undeclared)
-    type-in env (pointer s t) i = type-in env t i
-    type-in env (slice_type s t) i = type-in env t i
-    type-in env (map_type s k t) i = types-two env (free_type env k) (free_type env t) (named_in k) (named_in t) (type-in env k) (type-in env t) i
-    type-in env (struct_type s fs) i = fields-in env fs i
+    types-two : (env xs ys : List (List ℕ)) (ts us : List (TypeExpr S)) → (In m xs → OfTypes p env ts) → (In m ys → OfTypes p env us) → In m (xs ++ ys) → OfTypes p env (ts ++ us)
+    types-two env xs ys ts us h k i = by (in-either m xs ys i)
+      where
+        by : In m xs ⊎ In m ys → OfTypes p env (ts ++ us)
+        by (inl j) = types-front env ts us (h j)
+        by (inr j) = types-back env ts us (k j)
 
-    fields-in : (env : List (List ℕ)) (fs : Fields S) → In m (free_fields env fs) → OfTypes env (named_in_fields fs)
-    fields-in env no_fields i = elim i [ ]
-    fields-in env (field s n t fs) i = types-two env (free_type env t) (free_fields env fs) (named_in t) (named_in_fields fs) (type-in env t) (fields-in env fs) i
+    mutual
+      type-in : (env : List (List ℕ)) → Clear m env p.bound → (t : TypeExpr S) → In m (free_type env t) → OfTypes p env (named_in t)
+      type-in env c (named s None n) i = let b = bare m env n.name i in inr (in-left m (type_alone p (named s None n)) [] (alone-in p s n b.same (c b.undeclared)))
+      type-in env c (named s (Some q) n) i = let b = bare m env q.name i in inl (one-in m q.name b.same, b.undeclared)
+      type-in env c (pointer s t) i = type-in env c t i
+      type-in env c (slice_type s t) i = type-in env c t i
+      type-in env c (map_type s k t) i = types-two env (free_type env k) (free_type env t) (named_in k) (named_in t) (type-in env c k) (type-in env c t) i
+      type-in env c (struct_type s fs) i = fields-in env c fs i
+
+      fields-in : (env : List (List ℕ)) → Clear m env p.bound → (fs : Fields S) → In m (free_fields env fs) → OfTypes p env (named_in_fields fs)
+      fields-in env c no_fields i = elim i [ ]
+      fields-in env c (field s n t fs) i = types-two env (free_type env t) (free_fields env fs) (named_in t) (named_in_fields fs) (type-in env c t) (fields-in env c fs) i
 
   pub type-keeps : (env : List (List ℕ)) (p : Place S) (t : TypeExpr S) → Clear m env p.bound → Keeps (free_type env t) (seen_type p t ∷ [])
-  type-keeps env p t c = record { go = λ i. record { part = seen_type p t; among = first; has = by (type-in env t i) } }
+  type-keeps env p t c = record { go = λ i. record { part = seen_type p t; among = first; has = by (type-in p env c t i) } }
     where
-      by : OfTypes env (named_in t) → Has (seen_type p t)
+      by : OfTypes p env (named_in t) → Has (seen_type p t)
       by (inl j) = inl (j.0, c j.1)
       by (inr j) = inr j
 

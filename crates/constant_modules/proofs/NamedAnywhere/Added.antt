@@ -24,7 +24,6 @@ use Rattle.order_runs.proofs.CycleRuns.ImportCycles.ImportStep.{placed, added-sa
 use Rattle.order_runs.proofs.CycleRuns.ImportCycles.ImportsAdded.{path-stays, reads-added}
 use Rattle.order_runs.proofs.CycleRuns.ImportCycles.LeadAlike.{same-beside}
 use Rattle.order_runs.specs.CycleRuns.OrderCycles.Orders.{AllOrdered}
-use Rattle.order_runs.specs.CycleRuns.OrderCycles.Steps.{KeepsImportLookUps}
 use Rattle.order_runs.specs.RunSteps.RunPackages.{members_among, members_of}
 use Rattle.order_runs.proofs.RunSteps.PackageStands.{distinct-front}
 use Rattle.order_runs.specs.ImportCodes.PackagesMoved.{PackagesMoved}
@@ -38,6 +37,7 @@ use Rattle.order_runs.proofs.SameCodes.OrdersTyped.{orders-typed}
 use Rattle.order_runs.proofs.SameCodes.OrdersAlike.{sources-reordered}
 use Rattle.order_runs.proofs.Likened.{Likened, likened-then, likened-link, likened-reordered, any-reordered, typed-reordered}
 use Rattle.order_runs.proofs.RunOrders.{to-numbers, from-numbers}
+use Rattle.constant_modules.specs.NamedAnywhere.Puts.{AddsImports}
 
 -- packages of a run by their numbers, under other imports
 pub numbers-moved : {S : Type 0} (ps qs : List (run.Package S)) → PathsUnder ps qs → PackagesMoved (members_among ps (numbered ps)) (members_among qs (numbered qs))
@@ -65,7 +65,7 @@ reordered-own ps all d x =
     ∙ any-reordered (has_number x) (to-numbers ps [] all ((λ z. are_distinct (nothing-behind (members_of ps) z)) ∙ d))
     ∙ (λ z. list_any (has_number x) (nothing-behind (members_among ps (numbered ps)) z))
 
-module _ (marks : List MarkRef) (st : Standing) (l : Logged) (after : Standing) (n : Next marks st l after) (names : KeepsImportLookUps n) where
+module _ (marks : List MarkRef) (st : Standing) (l : Logged) (after : Standing) (n : Next marks st l after) (names : AddsImports n) where
   abbrev x : Site At
   x = n.found.site
 

@@ -19,7 +19,6 @@ use Rattle.constants_anywhere.proofs.Ordered.{linked_order}
 use Rattle.imported_typing.specs.Further.{imports_itself, are_others, in_order, chains_end}
 use Rattle.imported_typing.proofs.InOrder.{first_import_themselves, later_are_others}
 use Rattle.order_runs.specs.CycleRuns.ImportCycles.ImportSteps.{file_added, packages_added}
-use Rattle.order_runs.specs.CycleRuns.OrderCycles.Steps.{KeepsImportLookUps}
 use Rattle.order_runs.specs.CycleRuns.OrderedSteps.Ranks.{OwnPaths}
 use Rattle.order_runs.proofs.CycleRuns.OrderedSteps.Members.{changed-one}
 use Rattle.order_runs.proofs.CycleRuns.OrderedSteps.Steps.{own-after}
@@ -30,6 +29,7 @@ use Rattle.order_runs.proofs.ImportCodes.PackagesCode.{sources-append}
 use Rattle.order_runs.proofs.ImportSteps.TypedUnder.{AllTyped}
 use Rattle.printed_constants.specs.TypedParts.MarkedRuns.LinkedMembers.Laws.{HaveFiles}
 use Rattle.printed_constants.proofs.TypedParts.MarkedRuns.LinkedMembers.Linked.{members-linked}
+use Rattle.constant_modules.specs.NamedAnywhere.Puts.{AddsImports}
 use Rattle.constant_modules.specs.NamedAnywhere.Use.{NamedUseAnywhere, PartsStand, ConstantUse}
 use Rattle.constant_modules.proofs.NamedAnywhere.Added.{nothing-behind, linked-of, added-distinct, added-numbers, added-typed}
 use Rattle.constant_modules.proofs.NamedAnywhere.HeadersEnd.{headers_end}
@@ -56,7 +56,7 @@ module _ (i n : ℕ) (F : SourceTree At → SourceTree At) where
 
 -- ---- the program with the imports added
 
-module _ (marks : List MarkRef) (st : Standing) (l : Logged) (after : Standing) (n : Next marks st l after) (names : KeepsImportLookUps n) (own : OwnPaths st.packages) (files : HaveFiles st.packages) (typed : are_well_typed (members_of st.packages) ≡ true) where
+module _ (marks : List MarkRef) (st : Standing) (l : Logged) (after : Standing) (n : Next marks st l after) (names : AddsImports n) (own : OwnPaths st.packages) (files : HaveFiles st.packages) (typed : are_well_typed (members_of st.packages) ≡ true) where
   abbrev rs : List (run.Package At)
   rs = st.packages
 

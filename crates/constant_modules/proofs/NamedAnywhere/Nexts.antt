@@ -30,7 +30,7 @@ use Rattle.constant_steps.proofs.MarksFound.{StandsThere, stands_there}
 use Rattle.constant_steps.proofs.PlainImports.{Distinct, distinct_sources}
 use Rattle.constant_steps.specs.QualifiedSteps.NamedUse.{PackageStands}
 use Rattle.order_runs.specs.CycleRuns.ImportCycles.OtherImports.{FileUnder}
-use Rattle.order_runs.specs.CycleRuns.ImportCycles.ImportSteps.{file_added, packages_added, where_added, decl_put}
+use Rattle.order_runs.specs.CycleRuns.ImportCycles.ImportSteps.{file_added, packages_added, where_added, decl_put, KeepsLookUps}
 use Rattle.order_runs.proofs.CycleRuns.ImportCycles.ImportStep.{placed, twice}
 use Rattle.order_runs.specs.CycleRuns.OrderCycles.Steps.{PutsTheSame}
 use Rattle.order_runs.proofs.CycleRuns.OrderCycles.StepAdded.{puts-the-same}
@@ -41,7 +41,8 @@ use Rattle.order_runs.proofs.RunSteps.PackageStands.{StandsAt, package-stands}
 use Rattle.order_runs.specs.ImportRuns.PathsUnder.{PathUnder, PathsUnder}
 use Rattle.order_runs.proofs.ImportRuns.Listed.{among-order}
 use Rattle.order_runs.proofs.ImportRuns.PathsAlike.{SamePath, files-change, paths-alike}
-use Rattle.constant_modules.specs.NamedAnywhere.Taken.{site_there, TakesNameThere}
+use Rattle.constant_modules.specs.NamedAnywhere.Puts.{PutsNameThere}
+use Rattle.constant_modules.specs.NamedAnywhere.Taken.{site_there}
 use Rattle.constant_modules.proofs.NamedAnywhere.NamedLinked.{named_linked}
 use Rattle.constant_modules.specs.NamedAnywhere.Use.{ConstantUse, PackagesStandAnywhere}
 use Rattle.constant_modules.specs.NamedAnywhere.Runs.{found_anywhere, members_anywhere}
@@ -74,7 +75,7 @@ change-same f g n [] h = refl
 change-same f g zero (x ∷ xs) h = λ z. h x refl z ∷ xs
 change-same f g (suc n) (x ∷ xs) h = λ z. x ∷ change-same f g n xs h z
 
-module _ (marks : List MarkRef) (st : Standing) (l : Logged) (after : Standing) (n : Next marks st l after) (h : TakesNameThere n) where
+module _ (marks : List MarkRef) (st : Standing) (l : Logged) (after : Standing) (n : Next marks st l after) (h : PutsNameThere n) where
   abbrev x : Site At
   x = n.found.site
 
@@ -117,8 +118,8 @@ module _ (marks : List MarkRef) (st : Standing) (l : Logged) (after : Standing) 
   last-itself : (f : SourceTree At) → FileUnder back (changed n.tree) f f
   last-itself f = record { decls = refl; imports = λ k d e m i. paths-alike (trees-alike tree_read n.tree) (import_specs f.tree) m }
 
-  pub under-last : PathsUnder back (changed n.tree)
-  under-last = both-changed (PathUnder back (changed n.tree)) (λ p. record { path = refl; name = refl; files = each_one last-itself p.files }) (in_package tree_read) (in_package n.tree) x.at.number rs x.at.of here.package_is
+  pub under-last : KeepsLookUps n → PathsUnder back (changed n.tree)
+  under-last kept = both-changed (PathUnder back (changed n.tree)) (λ p. record { path = refl; name = refl; files = each_one last-itself p.files }) (in_package tree_read) (in_package n.tree) x.at.number rs x.at.of here.package_is
       (record {
         path = refl;
         name = refl;
@@ -127,7 +128,7 @@ module _ (marks : List MarkRef) (st : Standing) (l : Logged) (after : Standing) 
               decls = refl;
               imports = λ k d e m i.
                   paths-alike (trees-alike (file_added n.found) n.tree) (import_specs n.tree) m
-                  ∙ h.names.kept_names k d e m i
+                  ∙ kept k d e m i
                   ∙ sym (paths-alike (trees-alike (file_added n.found) tree_read) (import_specs (file_added n.found)) m);
             });
       })

@@ -28,19 +28,21 @@ use Rattle.order_runs.proofs.ImportSteps.Links.{moved-link, declarations-of, bar
 use Rattle.order_runs.proofs.ImportSteps.ImportingSteps.{put-numbers}
 use Rattle.constant_steps.specs.Alone.{PackageAt}
 use Rattle.constant_steps.specs.PlainUse.{linked_at}
+use Rattle.constant_modules.specs.NamedAnywhere.Puts.{PutsNameThere}
 use Rattle.constant_modules.specs.NamedAnywhere.Taken.{TakesNameThere, TakesNameAnywhere}
 use Rattle.constant_modules.specs.NamedAnywhere.Use.{PartsStand, PackagesStandAnywhere}
 use Rattle.order_runs.proofs.RunSteps.MembersViewed.{sources-linked}
 use Rattle.constant_modules.proofs.NamedAnywhere.Added as added
 use Rattle.constant_modules.proofs.NamedAnywhere.Added.{numbers-moved, linked-of, reordered-own}
 use Rattle.constant_modules.proofs.NamedAnywhere.Nexts as next
+use Rattle.constant_modules.proofs.NamedAnywhere.Puts.{puts_of}
 use Rattle.constant_modules.proofs.NamedAnywhere.Swaps.{swaps_there}
 use Rattle.order_runs.specs.SameCodes.Orders.{PackagesReordered}
 use Rattle.order_runs.specs.SameProgram.{SameProgram}
 use Rattle.order_runs.proofs.Likened.{Likened, likened-then, likened-link, likened-reordered, likened-typed}
 use Rattle.order_runs.proofs.RunOrders.{to-numbers, from-numbers}
 
-module _ (marks : List MarkRef) (st : Standing) (l : Logged) (after : Standing) (n : Next marks st l after) (h : TakesNameThere n) where
+module _ (marks : List MarkRef) (st : Standing) (l : Logged) (after : Standing) (n : Next marks st l after) (h : PutsNameThere n) where
   abbrev rs : List (run.Package At)
   rs = st.packages
 
@@ -50,18 +52,12 @@ module _ (marks : List MarkRef) (st : Standing) (l : Logged) (after : Standing) 
   abbrev back : List (run.Package At)
   back = next.back marks st l after n h
 
-  abbrev last : List (run.Package At)
-  last = next.changed marks st l after n h n.tree
-
   abbrev there : Site At
   there = next.there marks st l after n h
 
   -- each package stands in the order, with the file read again
   ordered-back : AllOrdered back
   ordered-back = ordered-alike mid back (one_by_one (λ p q r. record { path = r.path; imports = r.imports }) (next.pathed marks st l after n h)) h.names.ordered_added
-
-  ordered-last : AllOrdered last
-  ordered-last = subst AllOrdered n.packages_are h.names.ordered_after
 
   module _ (Q : List (Package At)) (w : are_well_typed (members_of rs ++ Q) ≡ true) where
     d3 : are_distinct (members_of mid ++ Q) ≡ true
@@ -114,52 +110,6 @@ module _ (marks : List MarkRef) (st : Standing) (l : Logged) (after : Standing) 
     to-back : Likened (members_of rs ++ Q) (members_among back (numbered back) ++ Q)
     to-back = likened-then (added.added-likened marks st l after n h.names Q w) (likened-then k4 (likened-then k5 k6))
 
-    m7 : PackagesMoved (members_among back (numbered back)) (members_among last (numbered last))
-    m7 = numbers-moved back last (next.under-last marks st l after n h)
-
-    k7 : Likened (members_among back (numbered back) ++ Q) (members_among last (numbered last) ++ Q)
-    k7 = likened-link (moved-link (members_among back (numbered back) ++ Q) (members_among last (numbered last) ++ Q) (beside Q (members_among back (numbered back)) (members_among last (numbered last)) m7) (sym to-back.typed ∙ declarations-of (members_of rs ++ Q) w))
-
-    d7 : are_distinct (members_among last (numbered last) ++ Q) ≡ true
-    d7 = sym (k6.distinct ∙ k7.distinct) ∙ d5
-
-    r8 : PackagesReordered (members_among last (numbered last) ++ Q) (members_of last ++ Q)
-    r8 = from-numbers last Q ordered-last d7
-
-    k8 : Likened (members_among last (numbered last) ++ Q) (members_of last ++ Q)
-    k8 = likened-reordered (members_among last (numbered last) ++ Q) (members_of last ++ Q) d7 r8
-
-    to-last : Likened (members_of rs ++ Q) (members_of last ++ Q)
-    to-last = likened-then to-back (likened-then k7 k8)
-
-    pub likened : Likened (members_of rs ++ Q) (members_of after.packages ++ Q)
-    likened = subst (λ (ps : List (run.Package At)). Likened (members_of rs ++ Q) (members_of ps ++ Q)) (sym n.packages_are) to-last
-
-  -- ---- the numbers of packages
-
-  module _ (Q : List (Package At)) (w : are_well_typed (members_of rs ++ Q) ≡ true) where
-    back-distinct : are_distinct (members_of back) ≡ true
-    back-distinct = distinct-front (members_of back) Q (d5 Q w)
-
-    last-distinct : are_distinct (members_of last) ≡ true
-    last-distinct = distinct-front (members_of last) Q (sym (k8 Q w).distinct ∙ d7 Q w)
-
-    same-numbers : (x : ℕ) → list_any (has_number x) (members_of rs) ≡ list_any (has_number x) (members_of last)
-    same-numbers x =
-        added.added-numbers marks st l after n h.names Q w x
-        ∙ put-numbers same_here mid (part_span there.part) h.use_.new there.at.number there.at.of there.at.source.tree (k Q w) there.at.file_number there.decl x (members_of mid)
-        ∙ (any-number x (put Q w) ∙ (λ z. list_any (has_number x) (next.read-again marks st l after n h (own-distinct Q w) z)) ∙ sym (any-number x (members_of back)))
-        ∙ reordered-own back ordered-back back-distinct x
-        ∙ number-among x (m7 Q w)
-        ∙ sym (reordered-own last ordered-last last-distinct x)
-
-    pub numbers-after : (x : ℕ) → list_any (has_number x) (members_of rs) ≡ list_any (has_number x) (members_of after.packages)
-    numbers-after x = same-numbers x ∙ (λ z. list_any (has_number x) (members_of (sym n.packages_are z)))
-
-    pub typed-after : ImportsStand Q (members_of after.packages) → are_well_typed (members_of after.packages ++ Q) ≡ true
-    typed-after i =
-        likened-typed (members_of rs) (members_of after.packages) Q (likened Q w) (linked-beside (members_of rs) (members_of after.packages) Q numbers-after i.linked (linked-of (members_of rs) Q w)) i.right w
-
     -- ---- with the form put
 
     abbrev pub put_there : List (run.Package At)
@@ -168,12 +118,83 @@ module _ (marks : List MarkRef) (st : Standing) (l : Logged) (after : Standing) 
     pub put-likened : Likened (members_of rs ++ Q) (members_of put_there ++ Q)
     put-likened =
         likened-then (added.added-likened marks st l after n h.names Q w)
-        (likened-then (k4 Q w) (likened-link (bare-link (put Q w ++ Q) (members_of put_there ++ Q) (beside-alike (put Q w) (members_of put_there) Q (next.put-between marks st l after n h (own-distinct Q w))))))
+        (likened-then k4 (likened-link (bare-link (put ++ Q) (members_of put_there ++ Q) (beside-alike put (members_of put_there) Q (next.put-between marks st l after n h own-distinct)))))
 
   pub ordered-put : AllOrdered (next.changed marks st l after n h (next.tree_put marks st l after n h))
   ordered-put =
       ordered-alike mid (next.changed marks st l after n h (next.tree_put marks st l after n h))
       (one_by_one (λ p q r. record { path = r.path; imports = r.imports }) (next.pathed-by marks st l after n h (next.tree_put marks st l after n h).decls)) h.names.ordered_added
+
+-- ---- the imports are settled
+
+module _ (marks : List MarkRef) (st : Standing) (l : Logged) (after : Standing) (n : Next marks st l after) (h : TakesNameThere n) where
+  abbrev p : PutsNameThere n
+  p = puts_of marks st l after n h
+
+  abbrev before : List (run.Package At)
+  before = st.packages
+
+  abbrev read : List (run.Package At)
+  read = back marks st l after n p
+
+  abbrev last : List (run.Package At)
+  last = next.changed marks st l after n p n.tree
+
+  ordered-last : AllOrdered last
+  ordered-last = subst AllOrdered n.packages_are h.names.ordered_after
+
+  module _ (Q : List (Package At)) (w : are_well_typed (members_of before ++ Q) ≡ true) where
+    m7 : PackagesMoved (members_among read (numbered read)) (members_among last (numbered last))
+    m7 = numbers-moved read last (next.under-last marks st l after n p h.names.kept_names)
+
+    k7 : Likened (members_among read (numbered read) ++ Q) (members_among last (numbered last) ++ Q)
+    k7 = likened-link (moved-link (members_among read (numbered read) ++ Q) (members_among last (numbered last) ++ Q) (beside Q (members_among read (numbered read)) (members_among last (numbered last)) m7) (sym (to-back marks st l after n p Q w).typed ∙ declarations-of (members_of before ++ Q) w))
+
+    d7 : are_distinct (members_among last (numbered last) ++ Q) ≡ true
+    d7 = sym ((k6 marks st l after n p Q w).distinct ∙ k7.distinct) ∙ d5 marks st l after n p Q w
+
+    r8 : PackagesReordered (members_among last (numbered last) ++ Q) (members_of last ++ Q)
+    r8 = from-numbers last Q ordered-last d7
+
+    k8 : Likened (members_among last (numbered last) ++ Q) (members_of last ++ Q)
+    k8 = likened-reordered (members_among last (numbered last) ++ Q) (members_of last ++ Q) d7 r8
+
+    to-last : Likened (members_of before ++ Q) (members_of last ++ Q)
+    to-last = likened-then (to-back marks st l after n p Q w) (likened-then k7 k8)
+
+    pub likened : Likened (members_of before ++ Q) (members_of after.packages ++ Q)
+    likened = subst (λ (ps : List (run.Package At)). Likened (members_of before ++ Q) (members_of ps ++ Q)) (sym n.packages_are) to-last
+
+  -- ---- the numbers of packages
+
+  module _ (Q : List (Package At)) (w : are_well_typed (members_of before ++ Q) ≡ true) where
+    back-distinct : are_distinct (members_of read) ≡ true
+    back-distinct = distinct-front (members_of read) Q (d5 marks st l after n p Q w)
+
+    last-distinct : are_distinct (members_of last) ≡ true
+    last-distinct = distinct-front (members_of last) Q (sym (k8 Q w).distinct ∙ d7 Q w)
+
+    abbrev with_form : List (Package At)
+    with_form = put marks st l after n p Q w
+
+    abbrev use_at : Site At
+    use_at = there marks st l after n p
+
+    same-numbers : (x : ℕ) → list_any (has_number x) (members_of before) ≡ list_any (has_number x) (members_of last)
+    same-numbers x =
+        added.added-numbers marks st l after n p.names Q w x
+        ∙ put-numbers same_here (mid marks st l after n p) (part_span use_at.part) h.use_.new use_at.at.number use_at.at.of use_at.at.source.tree (k marks st l after n p Q w) use_at.at.file_number use_at.decl x (members_of (mid marks st l after n p))
+        ∙ (any-number x with_form ∙ (λ z. list_any (has_number x) (next.read-again marks st l after n p (own-distinct marks st l after n p Q w) z)) ∙ sym (any-number x (members_of read)))
+        ∙ reordered-own read (ordered-back marks st l after n p) back-distinct x
+        ∙ number-among x (m7 Q w)
+        ∙ sym (reordered-own last ordered-last last-distinct x)
+
+    pub numbers-after : (x : ℕ) → list_any (has_number x) (members_of before) ≡ list_any (has_number x) (members_of after.packages)
+    numbers-after x = same-numbers x ∙ (λ z. list_any (has_number x) (members_of (sym n.packages_are z)))
+
+    pub typed-after : ImportsStand Q (members_of after.packages) → are_well_typed (members_of after.packages ++ Q) ≡ true
+    typed-after i =
+        likened-typed (members_of before) (members_of after.packages) Q (likened Q w) (linked-beside (members_of before) (members_of after.packages) Q numbers-after i.linked (linked-of (members_of before) Q w)) i.right w
 
 pub same-program : (marks : List MarkRef) (st : Standing) (l : Logged) (after : Standing) (n : Next marks st l after) → TakesNameAnywhere n → (marked : List FuncName) → SameProgram (packages_of st.packages marked) (packages_of after.packages marked)
 same-program marks st l after n h marked = record {

@@ -40,10 +40,12 @@ use Rattle.constant_modules.specs.NamedAnywhere.Taken.{site_there, TakesNameTher
 use Rattle.constant_modules.specs.NamedAnywhere.Marked.{StandsNamedThere, StandsAnywhere, AllOverAnywhere}
 use Rattle.constant_modules.specs.NamedAnywhere.TakenLaws.{RunsAnywhereMeanTheSame}
 use Rattle.constant_modules.specs.NamedAnywhere.MarkedLaws.{StepsAnywhereStayReady, RunsOverMarksAnywhereKeep, RunsOverMarksAnywhereWrite, RunsOverMarksAnywhereInline}
+use Rattle.constant_modules.specs.NamedAnywhere.Puts.{AddsImports, PutsNameThere}
 use Rattle.constant_modules.specs.NamedAnywhere.Use.{NamedUseAnywhere}
 use Rattle.constant_modules.proofs.NamedAnywhere.AddedParts.{added-parts}
+use Rattle.constant_modules.proofs.NamedAnywhere.Puts.{adds_of, takes_of}
 
-module _ (sound : AddedImportsMayBeDeclared) (marks : List MarkRef) (st : Standing) (l : Logged) (after : Standing) (n : Next marks st l after) (ready : IsReady st) (files : HaveFiles st.packages) (typed : are_well_typed (members_of st.packages) ≡ true) (few : AvoidsFew st.packages n.found) (names : KeepsImportLookUps n) (h : StandsNamedThere n) where
+module _ (sound : AddedImportsMayBeDeclared) (marks : List MarkRef) (st : Standing) (l : Logged) (after : Standing) (n : Next marks st l after) (ready : IsReady st) (files : HaveFiles st.packages) (typed : are_well_typed (members_of st.packages) ≡ true) (few : AvoidsFew st.packages n.found) (names : AddsImports n) (h : StandsNamedThere n) where
   abbrev w : Where At
   w = n.found.site.at
 
@@ -70,8 +72,8 @@ module _ (sound : AddedImportsMayBeDeclared) (marks : List MarkRef) (st : Standi
     alone = alone-there marks st l after n ready.reads h.place h.used_as h.use_.use_ h.use_.part here.decl here.decl_is (h.there here.decl here.decl_is);
   }
 
-  pub takes-there : TakesNameThere n
-  takes-there =
+  pub puts-there : PutsNameThere n
+  puts-there =
       let home : StandsThere (packages_added st.packages n.found) n.found.site.mark h.use_.home = stands_there (packages_added st.packages n.found) n.found.site.mark h.use_.home h.use_.home_is in
       record {
         place = h.place;
@@ -87,6 +89,9 @@ module _ (sound : AddedImportsMayBeDeclared) (marks : List MarkRef) (st : Standi
             sound marks st l after n names.ordered by_path typed few
             (record { number = n.found.site.mark.«package»; of = h.use_.home.of; file_number = n.found.site.mark.file; source = h.use_.home.source }) home.package_there home.file_there;
       }
+
+pub takes-there : AddedImportsMayBeDeclared → (marks : List MarkRef) (st : Standing) (l : Logged) (after : Standing) (n : Next marks st l after) → IsReady st → HaveFiles st.packages → are_well_typed (members_of st.packages) ≡ true → AvoidsFew st.packages n.found → KeepsImportLookUps n → StandsNamedThere n → TakesNameThere n
+takes-there sound marks st l after n ready files typed few names h = takes_of marks st l after n (puts-there sound marks st l after n ready files typed few (adds_of marks st l after n names) h) names
 
 pub takes-name : AddedImportsMayBeDeclared → (marks : List MarkRef) (st : Standing) (l : Logged) (after : Standing) (n : Next marks st l after) → IsReady st → HaveFiles st.packages → are_well_typed (members_of st.packages) ≡ true → AvoidsFew st.packages n.found → KeepsImportLookUps n → StandsAnywhere n → TakesNameAnywhere n
 takes-name sound marks st l after n ready files typed few names h = record { there = takes-there sound marks st l after n ready files typed few names h.stands; imports = h.imports }

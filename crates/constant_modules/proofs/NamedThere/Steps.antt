@@ -46,7 +46,7 @@ module _ (use_them : StepsUseExpressions) (take_few : SmallTextsTakeFewNames) (w
     over = over_names marks st l after n is.ready is.typed is.own is.named few (remove marks st l after n is.ready.reads removed)
 
     taken : TakesNameAnywhere n
-    taken = take marks st l after n used.0 used.1 is.ready is.files is.typed is.named is.small writes few there none.stood none.stand
+    taken = take marks st l after n used.0 used.1 is.ready is.files is.typed is.named is.small writes few there none.stand
 
     stands_anywhere : StandsAnywhere n
     stands_anywhere = record { stands = stands; imports = taken.imports }

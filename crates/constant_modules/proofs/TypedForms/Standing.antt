@@ -21,12 +21,13 @@ use Rattle.run_rules.specs.Run.{Standing, Logged, Next, here_of, origin_of}
 use Rattle.run_rules.specs.Sites.{MarkRef, Where}
 use Rattle.run_rules.specs.Steps.{At, Found, same_here, new_decls}
 use Rattle.run_rules.specs.Surroundings.{Seen}
-use Rattle.constant_modules.specs.NamedAnywhere.Taken.{TakesNameThere}
+use Rattle.constant_modules.specs.NamedAnywhere.Puts.{PutsNameThere}
 use Rattle.constant_modules.specs.TypedForms.Laws.{StandBetween, StepsStandBetween, FirstUsesAreTyped}
 use Rattle.constant_modules.specs.TypedUses.Laws.{FirstUsesAreTypedBefore}
 use Rattle.constant_modules.proofs.CountedUses.Between.{qs, v, declared_between, distinct_between, ordered_between, file_there}
 use Rattle.constant_modules.proofs.CountedUses.Imports.{linked_distinct}
 use Rattle.constant_modules.proofs.CountedUses.Programs.{file_dotted, file_parts_typed}
+use Rattle.constant_modules.proofs.NamedAnywhere.Puts.{puts_of}
 use Rattle.constant_modules.proofs.TypedForms.Posts.{decl_on, front_posts, nth_posts, all_scoped}
 
 -- what holds of each by its number holds of all
@@ -34,7 +35,7 @@ each_nth : {S : Type 0} (P : Decl S → Type 0) (ds : List (Decl S)) → ((i : �
 each_nth P [] h = tt
 each_nth P (d ∷ ds) h = (h zero d refl, each_nth P ds (λ i c e. h (suc i) c e))
 
-module _ (marks : List MarkRef) (st : Standing) (l : Logged) (after : Standing) (n : Next marks st l after) (h : TakesNameThere n) (typed : are_well_typed (members_of st.packages) ≡ true) where
+module _ (marks : List MarkRef) (st : Standing) (l : Logged) (after : Standing) (n : Next marks st l after) (h : PutsNameThere n) (typed : are_well_typed (members_of st.packages) ≡ true) where
   abbrev here : Where At
   here = v marks st l after n h typed
 
@@ -66,11 +67,11 @@ module _ (marks : List MarkRef) (st : Standing) (l : Logged) (after : Standing) 
   stand = each_nth (IsStanding ps here) here.source.tree.decls one_stands
 
 pub stand_between : StepsStandBetween
-stand_between marks st l after n h typed = stand marks st l after n h typed
+stand_between marks st l after n h typed = stand marks st l after n (puts_of marks st l after n h) typed
 
 pub first_typed : FirstUsesHaveNext → FirstUsesAreTypedBefore → FirstUsesAreTyped
 first_typed have_next before marks st f old form ready typed is c becomes takes =
     let r = have_next marks st f old ready is c in
     let x : NextWith marks st f old r.0 r.1 = r.2 in
     let same : x.next.found ≡ f = same_Some x.next.found f (sym x.next.is_first ∙ is.is_first) in
-    before marks st f old form ready typed is c becomes (subst (λ (g : Found At). StandBetween marks st g) same (stand marks st _ x.after x.next (takes r.0 r.1 x) typed))
+    before marks st f old form ready typed is c becomes (subst (λ (g : Found At). StandBetween marks st g) same (stand marks st _ x.after x.next (puts_of marks st _ x.after x.next (takes r.0 r.1 x)) typed))

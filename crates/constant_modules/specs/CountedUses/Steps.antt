@@ -1,17 +1,13 @@
 -- The laws of the imports of a program after a step over a constant. Each is the contract of a function of this crate
 -- (Go specification, Import declarations; Constant declarations; Declarations and scope).
-use Rattle.std.specs.Prelude.{◌≡◌, ◌≤◌, ℕ, true, false, List, [], Some, slice_get}
+use Rattle.std.specs.Prelude.{◌≡◌, ◌≤◌, true, List, []}
 use Rattle.go_tree.specs.Tree.{Expr}
-use Rattle.go_tree.specs.File.{ImportSpec}
-use Rattle.go_tree.specs.ScopeNames.Means.{is_blank}
 use Rattle.go_translation.specs.Packages as translated
 use Rattle.go_translation.specs.SameMeaning.{WellTyped, with_further}
 use Rattle.constant_steps.specs.FormImports.Laws.{LiteralsStand}
 use Rattle.order_runs.specs.CycleRuns.Linked.{WritesFile}
 use Rattle.order_runs.specs.CycleRuns.OrderCycles.NewNames.{AvoidsFew}
 use Rattle.order_runs.specs.RunSteps.RunPackages.{members_of, packages_of}
-use Rattle.pkg_graph.specs.Package.{import_specs}
-use Rattle.pkg_graph.specs.Members.{import_name}
 use Rattle.printed_constants.specs.TypedParts.MarkedRuns.LinkedMembers.Laws.{HaveFiles, ImportsUsed}
 use Rattle.printed_constants.specs.TypedParts.MarkedRuns.NamedMarks.Named.{AllNamed}
 use Rattle.printed_constants.specs.TypedParts.MarkedRuns.SettledConstants.Programs.{IsReady}
@@ -21,7 +17,6 @@ use Rattle.run_rules.specs.Run.{Standing, Logged, Next, is_commented, texts_size
 use Rattle.run_rules.specs.Sites.{MarkRef, an_expr}
 use Rattle.run_rules.specs.Steps.{At, same_here, packages_between}
 use Rattle.typed_in_place.specs.ImportRule.{declarations_ok}
-use Rattle.constant_modules.specs.LookUps.Laws.{NotBeside}
 use Rattle.constant_modules.specs.NamedAnywhere.Taken.{TakesNameThere, TakesNameAnywhere}
 use Rattle.constant_modules.specs.CountedUses.Typed.{NoneStandBeside}
 
@@ -45,13 +40,6 @@ LiteralsStandThere =
     (marks : List MarkRef) (st : Standing) (l : Logged) (after : Standing) (n : Next marks st l after)
     → TakesNameThere n → WellTyped (packages_of st.packages []) → LiteralsStand marks st n.found
 
--- no import but `_` of the file as it is read again has a name that stood beside before the step
-abbrev pub NoneStoodBeside : {marks : List MarkRef} {st : Standing} {l : Logged} {after : Standing}
-    → Next marks st l after → Type 0
-NoneStoodBeside {st = st} n =
-    (i : ℕ) (s : ImportSpec At) → slice_get (import_specs n.tree) i ≡ Some s
-    → is_blank (import_name st.packages s) ≡ false → NotBeside st.packages n.found.site.at (import_name st.packages s)
-
 -- So in a ready, well-typed program whose texts are within the limit of a run the name of each import is looked up in
 -- its file after a step that writes its file.
 abbrev pub ImportsStayLookedUp : Type 0
@@ -59,16 +47,16 @@ ImportsStayLookedUp =
     (marks : List MarkRef) (st : Standing) (l : Logged) (after : Standing) (n : Next marks st l after) (e : Expr At)
     → n.found.site.part ≡ an_expr e → IsReady st → HaveFiles st.packages → WellTyped (packages_of st.packages [])
     → AllNamed st.packages marks → texts_size st.texts ≤ the_limits.total → WritesFile n
-    → TakesNameThere n → NoneStoodBeside n → LookUpImports after.packages
+    → TakesNameThere n → LookUpImports after.packages
 
--- And each import is used as typing has it, beside all further packages, if besides no import of the program after the
+-- And each import is used as typing has it, beside all further packages, if no import of the program after the
 -- step has a name that stands beside, and few names are avoided.
 abbrev pub ImportsStayUsed : Type 0
 ImportsStayUsed =
     (marks : List MarkRef) (st : Standing) (l : Logged) (after : Standing) (n : Next marks st l after) (e : Expr At)
     → n.found.site.part ≡ an_expr e → IsReady st → HaveFiles st.packages → WellTyped (packages_of st.packages [])
     → AllNamed st.packages marks → texts_size st.texts ≤ the_limits.total → WritesFile n
-    → AvoidsFew st.packages n.found → TakesNameThere n → NoneStoodBeside n → NoneStandBeside after.packages
+    → AvoidsFew st.packages n.found → TakesNameThere n → NoneStandBeside after.packages
     → (more : List (translated.Package At)) → WellTyped (with_further (packages_of st.packages []) more)
     → ImportsUsed more (members_of after.packages)
 
@@ -78,5 +66,5 @@ StepsTakeNames =
     (marks : List MarkRef) (st : Standing) (l : Logged) (after : Standing) (n : Next marks st l after) (e : Expr At)
     → n.found.site.part ≡ an_expr e → IsReady st → HaveFiles st.packages → WellTyped (packages_of st.packages [])
     → AllNamed st.packages marks → texts_size st.texts ≤ the_limits.total → WritesFile n
-    → AvoidsFew st.packages n.found → TakesNameThere n → NoneStoodBeside n → NoneStandBeside after.packages
+    → AvoidsFew st.packages n.found → TakesNameThere n → NoneStandBeside after.packages
     → TakesNameAnywhere n

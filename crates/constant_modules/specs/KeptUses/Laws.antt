@@ -24,7 +24,6 @@ use Rattle.run_rules.specs.Sites.{MarkRef, an_expr}
 use Rattle.run_rules.specs.Steps.{At, same_here, Found, file_between}
 use Rattle.splice_laws.specs.RunLaws.Reading.{ProgramReads, OnePathEach}
 use Rattle.order_runs.specs.CycleRuns.OrderCycles.NewNames.{AvoidsFew}
-use Rattle.constant_modules.specs.LookUps.Laws.{NotBeside}
 
 -- Each import that a step over a constant adds is used with the form in its place, where few names are avoided, by its
 -- number behind the imports of the file.
@@ -37,7 +36,7 @@ AddedImportsAreUsed =
     → used_after marks st n.found (length (import_specs n.found.site.at.source.tree) + j) ≡ true
 
 -- So in a well-typed program with the form in place each import of the file is used, be it an old one or one that came,
--- if the step doesn't remove it and its name isn't one that stands beside.
+-- if the step doesn't remove it.
 abbrev pub ImportsInPlaceAreUsed : Type 0
 ImportsInPlaceAreUsed =
     (marks : List MarkRef) (st : Standing) (l : Logged) (after : Standing) (n : Next marks st l after) (e : Expr At)
@@ -47,7 +46,6 @@ ImportsInPlaceAreUsed =
     → (j : ℕ) (s : ImportSpec At)
     → slice_get (import_specs (file_between same_here (is_commented st) st.packages marks n.found)) j ≡ Some s
     → is_blank (import_name st.packages s) ≡ false
-    → NotBeside st.packages n.found.site.at (import_name st.packages s)
     → list_any (same_span (here_of s.span)) (removed_specs marks st n.found) ≡ false
     → used_after marks st n.found j ≡ true
 
@@ -71,5 +69,4 @@ ImportsReadAgainAreUsed =
     → texts_size st.texts ≤ the_limits.total → WritesFile n → LiteralsStand marks st n.found
     → (i : ℕ) (s : ImportSpec At) → slice_get (import_specs n.tree) i ≡ Some s
     → is_blank (import_name st.packages s) ≡ false
-    → NotBeside st.packages n.found.site.at (import_name st.packages s)
     → UsedInPlace marks st n.found (import_key s)

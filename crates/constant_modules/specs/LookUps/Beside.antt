@@ -15,7 +15,7 @@ use Rattle.go_tree.specs.GoTypes.Literals.{is_struct, literal_type}
 use Rattle.pkg_graph.specs.Package.{Package}
 use Rattle.run_rules.specs.Programs.{decl_seen}
 use Rattle.run_rules.specs.Sites.{named_in}
-use Rattle.run_rules.specs.Surroundings.{Use, Seen, seen, seen_type, seen_stmt, into_type, elem_use, key_use}
+use Rattle.run_rules.specs.Surroundings.{Use, Place, Seen, seen, seen_type, seen_stmt, into_type, elem_use, key_use}
 use Rattle.run_rules.specs.Surroundings.{is_local}
 
 -- the names that each of some things has
@@ -43,10 +43,10 @@ module _ {S : Type 0} where
     value_fields a u (braced s es) =
         fields_named a (given (into_type u) (λ t. Some (under (defined_in a) (literal_type (defined_in a) t)))) 0 es
 
-  -- the name of a type that has no package before it
-  abbrev pub type_alone : TypeExpr S → List (List ℕ)
-  type_alone (named _ None n) = n.name ∷ []
-  type_alone t = []
+  -- the name of a type that has no package before it, where nothing declares it
+  abbrev pub type_alone : Place S → TypeExpr S → List (List ℕ)
+  type_alone p (named _ None n) = if is_local p n.name then [] else n.name ∷ []
+  type_alone p t = []
 
   -- the name of the package before that of a type
   abbrev pub package_before : TypeExpr S → List (List ℕ)
@@ -58,7 +58,7 @@ module _ {S : Type 0} where
   beside_part (seen p u (composite s t es)) =
       fields_named p.env (given (type_meant p.env t) (λ v. Some (under (defined_in p.env) v))) 0 es
   beside_part (seen p u e) = []
-  beside_part (seen_type p t) = names_over type_alone (named_in t)
+  beside_part (seen_type p t) = names_over (type_alone p) (named_in t)
   beside_part (seen_stmt p s) = []
 
   -- The names beside imports in a declaration of a file.

@@ -73,6 +73,13 @@ abbrev pub TypedImportsAreLookedUp : Type 0
 TypedImportsAreLookedUp =
     (ps : List (Package At)) → AllOrdered ps → WellTyped (packages_of ps []) → LookUpImports ps
 
+-- an import of the file has this name
+pub record HasImport (ps : List (Package At)) (w : Where At) (m : List ℕ) : Type 0 where
+  pub number : ℕ
+  pub spec : ImportSpec At
+  pub there : slice_get (import_specs w.source.tree) number ≡ Some spec
+  pub named : import_name ps spec ≡ m
+
 -- the name stands beside in no declaration of the file
 abbrev pub NotBeside : List (Package At) → Where At → List ℕ → Type 0
 NotBeside ps w m =

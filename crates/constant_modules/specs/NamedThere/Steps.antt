@@ -11,7 +11,6 @@ use Rattle.printed_constants.specs.TypedParts.MarkedRuns.SettledConstants.Progra
 use Rattle.run_rules.specs.Run.{Standing, Logged, Next, texts_size, the_limits}
 use Rattle.run_rules.specs.Sites.{MarkRef}
 use Rattle.constant_modules.specs.ConstantNames.Members.{AllNameConstants}
-use Rattle.constant_modules.specs.CountedUses.Steps.{NoneStoodBeside}
 use Rattle.constant_modules.specs.CountedUses.Typed.{NoneStandBeside}
 use Rattle.constant_modules.specs.LookUps.Laws.{RemovesNoneBeside}
 use Rattle.constant_modules.specs.NamedAnywhere.Marked.{StandsAnywhere}
@@ -32,12 +31,10 @@ pub record IsOfConstants (marks : List MarkRef) (st : Standing) : Type 0 where
   pub plain : ArePlain st.packages
   pub small : texts_size st.texts ≤ the_limits.total
 
--- No import of the file of a step has a name that stands beside: none that goes, none of the file as it is read again,
--- and none of the program after it.
+-- No import of the file of a step has a name that stands beside: none that goes, and none of the program after it.
 pub record NoneBeside {marks : List MarkRef} {st : Standing} {l : Logged} {after : Standing}
     (n : Next marks st l after) : Type 0 where
   pub removed : RemovesNoneBeside n
-  pub stood : NoneStoodBeside n
   pub stand : NoneStandBeside after.packages
 
 -- Each step in such a program, no import of which has a name that stands beside, takes its name as named_anywhere has

@@ -32,7 +32,7 @@ pub fn declarations_stay_typed()
 {}
 
 /// So after such a step each import is looked up in its file (`looked`) and used as typing has it, beside all further
-/// packages (`used`), if none has a name that stands beside; so the step takes its name as named_anywhere has it, where
+/// packages (`used`), if none has a name that stands beside then; so the step takes its name as named_anywhere has it, where
 /// that the imports are right at last is asked no more (`takes`) (Go specification, Import declarations).
 pub fn imports_stay_used()
     ensures looked { of_steps.ImportsStayLookedUp }

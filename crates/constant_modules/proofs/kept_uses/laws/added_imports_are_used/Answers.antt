@@ -6,5 +6,5 @@ returns-clause-added c = λ marks st l after n e part reads are_named linked all
     added_used marks st l after n e part reads are_named linked all_named few stand j i there named
 
 pub returns-clause-each : goal.returns-clause-each
-returns-clause-each c = λ marks st l after n e part reads are_named linked typed sound all_named few stand j s there named apart left.
-    each_used marks st l after n e part reads are_named linked all_named few stand typed sound j s named apart left there
+returns-clause-each c = λ marks st l after n e part reads are_named linked typed sound all_named few stand j s there named left.
+    each_used marks st l after n e part reads are_named linked all_named few stand typed sound j s named left there

@@ -1,0 +1,11 @@
+-- Names told apart from keys of composite literals.
+pub mod TypingMarked
+pub mod SmallMarked
+pub mod HereMarked
+pub mod MentionsMarked
+pub mod TranslationMarked
+pub mod AroundMarked
+pub mod Functions
+pub mod UsedStand
+pub mod UsedHeaders
+pub mod UsedImports
