@@ -7,4 +7,5 @@ pub mod Predeclared
 pub mod Steps
 pub mod FirstUses
 pub mod Runs
+pub mod Apart
 mod Example

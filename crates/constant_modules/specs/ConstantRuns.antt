@@ -2,3 +2,4 @@ pub mod Types
 pub mod Laws
 pub mod FirstUses
 pub mod Runs
+pub mod Apart

@@ -26,9 +26,9 @@ f =
       sig = record { params = []; results = [] };
       body_span = at 5;
       body = stmt_and (eval (at 6) (call (at 6) (ident (at 7) (codes "println")) (expr_and
-      (composite (at 8) (named (at 8) None (name_at 8 (codes "T"))) (elem (at 9) (some_value (plain (ident (at 9) (codes "q")))) (plain
-      (composite (at 10) (named (at 10) None (name_at 10 (codes "T"))) (elem (at 11) (some_value (plain (binary (at 11) Add (ident (at 11) (codes "C")) (int_lit (at 12) (codes "1"))))) (plain (int_lit (at 13) (codes "2"))) no_elems))) no_elems))
-      no_exprs) Plain)) no_stmts;
+          (composite (at 8) (named (at 8) None (name_at 8 (codes "T"))) (elem (at 9) (some_value (plain (ident (at 9) (codes "q")))) (plain
+          (composite (at 10) (named (at 10) None (name_at 10 (codes "T"))) (elem (at 11) (some_value (plain (binary (at 11) Add (ident (at 11) (codes "C")) (int_lit (at 12) (codes "1"))))) (plain (int_lit (at 13) (codes "2"))) no_elems))) no_elems))
+          no_exprs) Plain)) no_stmts;
     })
 
 keys : decl_keys f ≡ codes "q" ∷ []

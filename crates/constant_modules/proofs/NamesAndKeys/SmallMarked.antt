@@ -30,7 +30,6 @@ use Rattle.go_translation.specs.Agreement.{at_names, AgreesHere}
 use Rattle.constant_modules.specs.NamesAndKeys.Marked.{OnMarked, marked_type, marked_type_option, marked_params, marked_expr, marked_exprs, marked_expr_option, marked_elems, marked_value, marked_value_option, marked_stmt, marked_stmt_option, marked_left}
 use Rattle.constant_modules.proofs.NamesAndKeys.TypingMarked.{first_of, second_of, marked_alike, key-by}
 
-
 impossible : {A B : Type 0} {x : B} → None ≡ Some x → A
 impossible e = grind arith
 

@@ -33,7 +33,6 @@ use Rattle.constant_modules.proofs.CountedUses.Walk.{PartKnown, block_beside, st
 use Rattle.constant_modules.proofs.LookUps.Used.{within-without, Outside, block_out, after_first_out, after_stmt_out, range_out, constants_out, variables_out, literal_out, type_under}
 use Rattle.constant_modules.specs.NamesAndKeys.UsedStand.{Counted}
 
-
 -- `top` is the top of the file, to typing
 module _ {S : Type 0} (m : List ℕ) (is_name : is_blank m ≡ false) (top : Env) (c : Changes S) where
   -- ---- what is known of parts

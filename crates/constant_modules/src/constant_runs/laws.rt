@@ -1,9 +1,11 @@
 //! The laws of programs of constants, as read and over a run.
 
+ghost use Rattle.constant_modules.specs.ConstantRuns.Apart as of_apart;
 ghost use Rattle.constant_modules.specs.ConstantRuns.FirstUses as of_uses;
 ghost use Rattle.constant_modules.specs.ConstantRuns.Laws as law;
 ghost use Rattle.constant_modules.specs.ConstantRuns.Runs as of_runs;
 
+use crate::apart_keys::{constant_steps_take_names_apart, keys_apart_are_found};
 use crate::constant_names::marked_constants_name_constants;
 use crate::few_names::{steps_avoid_few_names, steps_keep_look_ups};
 use crate::named_anywhere::{
@@ -91,4 +93,22 @@ pub fn constant_runs_inline()
     printed_runs_keep();
     runs_over_marks_anywhere_inline();
     runs_over_marks_anywhere_keep();
+}
+
+/// From a program of constants whose keys of composite literals are apart from imports, at no step of a run an import
+/// has a name that stands beside (`beside`). So the inlining of such a module keeps typing, which marked functions lie
+/// on a cycle, and the meaning (`keep`), and leaves files that read as a module, which is well typed and means what the
+/// old one means (`inlined`): of its steps nothing is asked (Go specification, Composite literals; Import declarations;
+/// Packages).
+pub fn apart_runs_inline()
+    ensures beside { of_apart.ApartRunsHaveNoneBeside }
+    ensures keep { of_apart.ApartInliningsKeep }
+    ensures inlined { of_apart.ApartModulesAreInlined }
+{
+    constant_programs_are_read();
+    constant_runs_inline();
+    constant_steps_stay();
+    constant_steps_take_names_apart();
+    keys_apart_are_found();
+    printed_runs_keep();
 }
