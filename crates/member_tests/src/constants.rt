@@ -7,6 +7,7 @@ use constant_forms::ConstantValue;
 use go_tree::scope_names::Entity;
 use member_uses::FileScopes;
 use member_uses::possible_uses::decl_parts;
+use repeated_parts::literal_types::{LiteralTypes, TypeScopes};
 use repeated_parts::use_search::mark_values::DeclaredValues;
 use repeated_parts::{FlaggedUse, repeated_parts, repeated_uses};
 use std::alloc::Global;
@@ -53,21 +54,25 @@ fn put_uses(uses: &[FlaggedUse], words: &mut Vec<u8>) -> Result<(), Fail> {
 /// The first two constants of each declaration, and then the uses in all of them.
 fn words_of(alloc: Global, file: &Tabled) -> Result<Vec<u8>, Fail> {
     let imports = [3];
-    let names = FileScopes {
-        scopes: &file.scopes,
-        home: 7,
-        imports: &imports,
+    let types = LiteralTypes::new(alloc);
+    let scopes = TypeScopes {
+        file: FileScopes {
+            scopes: &file.scopes,
+            home: 7,
+            imports: &imports,
+        },
+        types: &types,
     };
     let mut words = Vec::new(alloc);
     for decl in file.source.tree.decls.items() {
-        let values = DeclaredValues::of(alloc, &names, decl)?;
+        let values = DeclaredValues::of(alloc, &scopes.file, decl)?;
         put_value(values.get(0), &mut words)?;
         put_value(values.get(1), &mut words)?;
     }
     for decl in file.source.tree.decls.items() {
         let parts = decl_parts(alloc, decl)?;
-        let flags = repeated_parts(alloc, decl)?;
-        let uses = repeated_uses(alloc, &names, &parts, &flags)?;
+        let flags = repeated_parts(alloc, &scopes, decl)?;
+        let uses = repeated_uses(alloc, &scopes.file, &parts, &flags)?;
         put_uses(&uses, &mut words)?;
     }
     Ok(words)

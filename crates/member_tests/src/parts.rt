@@ -50,7 +50,7 @@ fn lists(alloc: Global, text: &str, words: &str) -> Result<bool, Fail> {
 }
 
 // In the order of their ends: names before what they stand in, calls behind their arguments, types where they are
-// written; no field behind a call, no declared name, no label.
+// written, fields behind calls; no declared name, no label.
 #[test]
 fn parts_of_declarations(rt: HostRuntime) -> Result<(), Fail> {
     let alloc = rt.alloc();
@@ -65,7 +65,35 @@ fn parts_of_declarations(rt: HostRuntime) -> Result<(), Fail> {
         lists(
             alloc,
             "package p\n\nfunc (r *R) f(a q.T) M {\n\tx := T{k: a.b, c()[0]: d}\n\treturn g(x.y).z + w\n}\n",
-            "R q.T M T k: a a.b c c() d g x x.y g(x.y) w "
+            "R q.T M T k: a a.b c c() d g x x.y g(x.y) g(x.y).z w "
+        )?
+    );
+    Ok(())
+}
+
+// By what is written of a literal's type: a key of a slice or a map is no name of a field, one behind a type's name may be.
+#[test]
+fn keys_of_literals(rt: HostRuntime) -> Result<(), Fail> {
+    let alloc = rt.alloc();
+    assert!(rt;
+        lists(
+            alloc,
+            "package p\n\nvar x, y = map[K]V{k: v, q.k: w}, T{k: v}\n",
+            "K V k v q q.k w T k: v "
+        )?
+    );
+    assert!(rt;
+        lists(
+            alloc,
+            "package p\n\nvar x, y = []map[K]*V{{k: {a: b}}}, []*[]T{{c: {d: e}}}\n",
+            "K V k a: b T c d: e "
+        )?
+    );
+    assert!(rt;
+        lists(
+            alloc,
+            "package p\n\nvar x, y = map[M]struct{ f F }{{k: v}: {f: c}}, L{{k: v}}\n",
+            "M F k: v f: c L k: v "
         )?
     );
     Ok(())

@@ -12,6 +12,7 @@ use go_tree::{FileTree, MAX_FILE_BYTES, Name, Text};
 use member_uses::FileScopes;
 use module_marks::MarkTable;
 use pkg_graph::{Package, SourceList, SourceTree};
+use repeated_parts::literal_types::LiteralTypes;
 use repeated_parts::use_search::mark_values::ConstantValues;
 use repeated_parts::use_search::{FileView, ProgramView, Searched, search_file};
 use std::alloc::Global;
@@ -167,9 +168,11 @@ fn searched(
     let marks = marks_of(alloc, decls)?;
     let values = values_of(alloc, tables, tree, &marks)?;
     let table = MarkTable::of(alloc, packages, &marks)?;
+    let types = LiteralTypes::new(alloc);
     let program = ProgramView {
         packages,
         values: &values,
+        types: &types,
     };
     found_in(alloc, &program, &table, tables, tree)
 }

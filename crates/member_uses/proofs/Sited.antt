@@ -105,19 +105,19 @@ module _ {S : Type 0} (ps : List (Package S)) (marks : List MarkRef) where
         (mark_in (import_at f q (to s).start) n.name) (qualified_by p (to s).start a q n.name) (one_left (to s) false (import_at f q (to s).start) n.name)
     expr_left (call s g xs r) p u h a =
         part_left p u (an_expr (call s g xs r)) (expr_mark ps marks w p (call s g xs r)) [] None (no_call ps marks constants w p g) left.at_the_end
-    expr_left (selector s (int_lit y x) n) p u h a = absurd cc
-    expr_left (selector s (rune_lit y x) n) p u h a = absurd cc
-    expr_left (selector s (str_lit y x) n) p u h a = absurd cc
-    expr_left (selector s (composite y t es) n) p u h a = absurd cc
-    expr_left (selector s (selector y b x) n) p u h a = absurd cc
-    expr_left (selector s (index y b j) n) p u h a = absurd cc
-    expr_left (selector s (slice y b j v) n) p u h a = absurd cc
-    expr_left (selector s (call y g xs r) n) p u h a = absurd cc
-    expr_left (selector s (func_lit y g z b) n) p u h a = absurd cc
-    expr_left (selector s (type_operand y t) n) p u h a = absurd cc
-    expr_left (selector s (unary y o e) n) p u h a = absurd cc
-    expr_left (selector s (binary y o b c) n) p u h a = absurd cc
-    expr_left (selector s (star y e) n) p u h a = absurd cc
+    expr_left (selector s (int_lit y x) n) p u h a = left.at_the_end
+    expr_left (selector s (rune_lit y x) n) p u h a = left.at_the_end
+    expr_left (selector s (str_lit y x) n) p u h a = left.at_the_end
+    expr_left (selector s (composite y t es) n) p u h a = left.at_the_end
+    expr_left (selector s (selector y b x) n) p u h a = left.at_the_end
+    expr_left (selector s (index y b j) n) p u h a = left.at_the_end
+    expr_left (selector s (slice y b j v) n) p u h a = left.at_the_end
+    expr_left (selector s (call y g xs r) n) p u h a = left.at_the_end
+    expr_left (selector s (func_lit y g z b) n) p u h a = left.at_the_end
+    expr_left (selector s (type_operand y t) n) p u h a = left.at_the_end
+    expr_left (selector s (unary y o e) n) p u h a = left.at_the_end
+    expr_left (selector s (binary y o b c) n) p u h a = left.at_the_end
+    expr_left (selector s (star y e) n) p u h a = left.at_the_end
     expr_left (int_lit s x) p u h a = absurd cc
     expr_left (rune_lit s x) p u h a = absurd cc
     expr_left (str_lit s x) p u h a = absurd cc
@@ -132,21 +132,8 @@ module _ {S : Type 0} (ps : List (Package S)) (marks : List MarkRef) where
 
     no_use : (e : Expr S) (p : Place S) → may_be_use e ≡ false → expr_mark ps marks w p e ≡ None
     no_use (ident s n) p h = absurd cc
-    no_use (selector s (ident z q) n) p h = absurd cc
+    no_use (selector s b n) p h = absurd cc
     no_use (call s g xs r) p h = absurd cc
-    no_use (selector s (int_lit y x) n) p h = refl
-    no_use (selector s (rune_lit y x) n) p h = refl
-    no_use (selector s (str_lit y x) n) p h = refl
-    no_use (selector s (composite y t es) n) p h = refl
-    no_use (selector s (selector y b x) n) p h = refl
-    no_use (selector s (index y b j) n) p h = refl
-    no_use (selector s (slice y b j v) n) p h = refl
-    no_use (selector s (call y g xs r) n) p h = refl
-    no_use (selector s (func_lit y g z b) n) p h = refl
-    no_use (selector s (type_operand y t) n) p h = refl
-    no_use (selector s (unary y o e) n) p h = refl
-    no_use (selector s (binary y o b c) n) p h = refl
-    no_use (selector s (star y e) n) p h = refl
     no_use (int_lit s x) p h = refl
     no_use (rune_lit s x) p h = refl
     no_use (str_lit s x) p h = refl

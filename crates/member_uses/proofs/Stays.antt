@@ -1,14 +1,15 @@
 -- The parts of a declaration with other spans, and the members that they name.
-use Rattle.std.proofs.Common.{◌≡◌, ◌∙◌, Bool, List, [], ◌∷◌, ◌++◌, map, Option, Some, None, refl, sym, ap}
+use Rattle.std.proofs.Common.{◌≡◌, ◌∙◌, Bool, not, List, [], ◌∷◌, ◌++◌, map, Option, Some, None, refl, sym, ap}
 use Rattle.std.specs.Option.{option_map}
 use Rattle.std.proofs.lemmas.List.{map-append}
 use Rattle.go_tree.specs.declared.spans.Span.{Span}
-use Rattle.go_tree.specs.Tree.{NameAt, TypeExpr, named, pointer, slice_type, map_type, struct_type, Fields, no_fields, field, Param, Sig, Expr, ident, int_lit, rune_lit, str_lit, composite, selector, index, slice, call, func_lit, type_operand, unary, binary, star, Exprs, no_exprs, expr_and, ExprOption, no_expr, some_expr, Elems, no_elems, elem, Value, plain, braced, ValueOption, no_value, some_value, Stmt, const_decl, var_decl, empty, eval, step, assign, define, return_, break_, continue_, inner, if_, for_, range_, switch, defer, label, Stmts, no_stmts, stmt_and, StmtOption, no_stmt, some_stmt, BlockOption, no_block, some_block, RangeLeft, nothing, assigns, defines, Arms, no_arms, arm, Cases, no_cases, case, ValueSpecs, no_specs, spec}
+use Rattle.go_tree.specs.Tree.{TypeExpr, named, pointer, slice_type, map_type, struct_type, Fields, no_fields, field, Param, Sig, Expr, ident, int_lit, rune_lit, str_lit, composite, selector, index, slice, call, func_lit, type_operand, unary, binary, star, Exprs, no_exprs, expr_and, ExprOption, no_expr, some_expr, Elems, no_elems, elem, Value, plain, braced, ValueOption, no_value, some_value, Stmt, const_decl, var_decl, empty, eval, step, assign, define, return_, break_, continue_, inner, if_, for_, range_, switch, defer, label, Stmts, no_stmts, stmt_and, StmtOption, no_stmt, some_stmt, BlockOption, no_block, some_block, RangeLeft, nothing, assigns, defines, Arms, no_arms, arm, Cases, no_cases, case, ValueSpecs, no_specs, spec}
 use Rattle.go_tree.specs.File.{TypeSpec, Receiver, Func, Decl, values, types, func}
 use Rattle.run_rules.specs.Respanned.{type_with, fields_with, param_with, sig_with, expr_with, exprs_with, expr_option_with, elems_with, value_option_with, value_with, stmt_with, stmts_with, stmt_option_with, block_option_with, left_with, arms_with, cases_with, specs_with, type_spec_with, receiver_with, func_with, decl_with}
 use Rattle.run_rules.specs.Sites.{Part, an_expr, a_type_part}
-use Rattle.member_uses.specs.PossibleUses.Candidates.{Candidate, plain_part, key_part, receiver_part}
-use Rattle.member_uses.specs.PossibleUses.Parts.{put, put_selector, parts_of, after_arms, after_block_option, after_cases, after_decl, after_elems, after_expr, after_expr_option, after_exprs, after_fields, after_func, after_key, after_left, after_params, after_receiver, after_sig, after_specs, after_stmt, after_stmt_option, after_stmts, after_type, after_type_option, after_types, after_value}
+use Rattle.member_uses.specs.PossibleUses.Candidates.{Candidate, plain_part, key_of, receiver_part}
+use Rattle.member_uses.specs.PossibleUses.Parts.{put, parts_of, after_arms, after_block_option, after_cases, after_decl, after_elems, after_expr, after_expr_option, after_exprs, after_fields, after_func, after_key, after_left, after_params, after_receiver, after_sig, after_specs, after_stmt, after_stmt_option, after_stmts, after_type, after_type_option, after_types, after_value}
+use Rattle.member_uses.specs.PossibleUses.Written.{has_no_fields, literal_written, inner_written, keys_written}
 use Rattle.member_uses.specs.Uses.{Used, Names, part_uses, member_uses}
 
 module _ {S T : Type 0} (to : S → T) where
@@ -23,21 +24,41 @@ module _ {S T : Type 0} (to : S → T) where
   put_stays : (c : Candidate S) (xs : List (Candidate S)) → put (candidate_with c) (map (candidate_with) xs) ≡ map (candidate_with) (put c xs)
   put_stays c xs = sym (map-append (candidate_with) xs (c ∷ []))
 
-  selector_stays : (b : Expr S) (s : S) (n : NameAt S) (xs : List (Candidate S)) → put_selector (expr_with to b) (expr_with to (selector s b n)) (map (candidate_with) xs) ≡ map (candidate_with) (put_selector b (selector s b n) xs)
-  selector_stays (ident y m) s n xs = put_stays (plain_part (an_expr (selector s (ident y m) n))) xs
-  selector_stays (int_lit y m) s n xs = refl
-  selector_stays (rune_lit y m) s n xs = refl
-  selector_stays (str_lit y m) s n xs = refl
-  selector_stays (composite y t es) s n xs = refl
-  selector_stays (selector y b m) s n xs = refl
-  selector_stays (index y b i) s n xs = refl
-  selector_stays (slice y b i j) s n xs = refl
-  selector_stays (call y f es r) s n xs = refl
-  selector_stays (func_lit y g z b) s n xs = refl
-  selector_stays (type_operand y t) s n xs = refl
-  selector_stays (unary y o e) s n xs = refl
-  selector_stays (binary y o a b) s n xs = refl
-  selector_stays (star y e) s n xs = refl
+  -- ---- what is written of the types of literals
+
+  abbrev written_with : Option (TypeExpr S) → Option (TypeExpr T)
+  written_with h = option_map (type_with to) h
+
+  fields-stay : (h : Option (TypeExpr S)) → has_no_fields (written_with h) ≡ has_no_fields h
+  fields-stay None = refl
+  fields-stay (Some (named s p n)) = refl
+  fields-stay (Some (pointer s t)) = refl
+  fields-stay (Some (slice_type s t)) = refl
+  fields-stay (Some (map_type s k t)) = refl
+  fields-stay (Some (struct_type s fs)) = refl
+
+  literal-stays : (t : TypeExpr S) → literal_written (type_with to t) ≡ written_with (literal_written t)
+  literal-stays (named s p n) = refl
+  literal-stays (pointer s t) = refl
+  literal-stays (slice_type s t) = refl
+  literal-stays (map_type s k t) = refl
+  literal-stays (struct_type s fs) = refl
+
+  inner-stays : (h : Option (TypeExpr S)) → inner_written (written_with h) ≡ written_with (inner_written h)
+  inner-stays None = refl
+  inner-stays (Some (named s p n)) = refl
+  inner-stays (Some (pointer s t)) = refl
+  inner-stays (Some (slice_type s t)) = literal-stays t
+  inner-stays (Some (map_type s k t)) = literal-stays t
+  inner-stays (Some (struct_type s fs)) = refl
+
+  keys-stay : (h : Option (TypeExpr S)) → keys_written (written_with h) ≡ written_with (keys_written h)
+  keys-stay None = refl
+  keys-stay (Some (named s p n)) = refl
+  keys-stay (Some (pointer s t)) = refl
+  keys-stay (Some (slice_type s t)) = refl
+  keys-stay (Some (map_type s k t)) = literal-stays k
+  keys-stay (Some (struct_type s fs)) = refl
 
   mutual
     after_type-stays : (x : TypeExpr S) (xs : List (Candidate S)) → after_type (type_with to x) (map (candidate_with) xs) ≡ map (candidate_with) (after_type x xs)
@@ -68,8 +89,8 @@ module _ {S T : Type 0} (to : S → T) where
     after_expr-stays (int_lit k l) xs = refl
     after_expr-stays (rune_lit k l) xs = refl
     after_expr-stays (str_lit k l) xs = refl
-    after_expr-stays (composite k t es) xs = ap (λ (ys : List (Candidate T)). after_elems (elems_with to es) (ys)) (after_type-stays t (xs)) ∙ after_elems-stays es (after_type t (xs))
-    after_expr-stays (selector s b n) xs = ap (λ (ys : List (Candidate T)). put_selector (expr_with to b) (expr_with to (selector s b n)) (ys)) (after_expr-stays b (xs)) ∙ selector_stays b s n (after_expr b (xs))
+    after_expr-stays (composite k t es) xs = ap (λ (ys : List (Candidate T)). after_elems (Some (type_with to t)) (elems_with to es) (ys)) (after_type-stays t (xs)) ∙ after_elems-stays (Some t) es (after_type t (xs))
+    after_expr-stays (selector s b n) xs = ap (λ (ys : List (Candidate T)). put (candidate_with (plain_part (an_expr (selector s b n)))) (ys)) (after_expr-stays b (xs)) ∙ put_stays (plain_part (an_expr (selector s b n))) (after_expr b (xs))
     after_expr-stays (index k b i) xs = ap (λ (ys : List (Candidate T)). after_expr (expr_with to i) (ys)) (after_expr-stays b (xs)) ∙ after_expr-stays i (after_expr b (xs))
     after_expr-stays (slice k b i j) xs = ap (λ (ys : List (Candidate T)). after_expr_option (expr_option_with to j) (after_expr_option (expr_option_with to i) (ys))) (after_expr-stays b (xs)) ∙ ap (λ (ys : List (Candidate T)). after_expr_option (expr_option_with to j) (ys)) (after_expr_option-stays i (after_expr b (xs))) ∙ after_expr_option-stays j (after_expr_option i (after_expr b (xs)))
     after_expr-stays (call s f es r) xs = ap (λ (ys : List (Candidate T)). put (candidate_with (plain_part (an_expr (call s f es r)))) (after_exprs (exprs_with to es) (ys))) (after_expr-stays f (xs)) ∙ ap (λ (ys : List (Candidate T)). put (candidate_with (plain_part (an_expr (call s f es r)))) (ys)) (after_exprs-stays es (after_expr f (xs))) ∙ put_stays (plain_part (an_expr (call s f es r))) (after_exprs es (after_expr f (xs)))
@@ -87,31 +108,37 @@ module _ {S T : Type 0} (to : S → T) where
     after_expr_option-stays no_expr xs = refl
     after_expr_option-stays (some_expr e) xs = after_expr-stays e (xs)
 
-    after_elems-stays : (x : Elems S) (xs : List (Candidate S)) → after_elems (elems_with to x) (map (candidate_with) xs) ≡ map (candidate_with) (after_elems x xs)
-    after_elems-stays no_elems xs = refl
-    after_elems-stays (elem l k v es) xs = ap (λ (ys : List (Candidate T)). after_elems (elems_with to es) (after_value (value_with to v) (ys))) (after_key-stays k (xs)) ∙ ap (λ (ys : List (Candidate T)). after_elems (elems_with to es) (ys)) (after_value-stays v (after_key k (xs))) ∙ after_elems-stays es (after_value v (after_key k (xs)))
+    after_elems-stays : (h : Option (TypeExpr S)) (x : Elems S) (xs : List (Candidate S)) → after_elems (written_with h) (elems_with to x) (map (candidate_with) xs) ≡ map (candidate_with) (after_elems h x xs)
+    after_elems-stays h no_elems xs = refl
+    after_elems-stays h (elem l k v es) xs =
+        ap (λ (ys : List (Candidate T)). after_elems (written_with h) (elems_with to es) (after_value (inner_written (written_with h)) (value_with to v) ys)) (after_key-stays h k xs)
+        ∙ ap (λ (w : Option (TypeExpr T)). after_elems (written_with h) (elems_with to es) (after_value w (value_with to v) (map (candidate_with) (after_key h k xs)))) (inner-stays h)
+        ∙ ap (λ (ys : List (Candidate T)). after_elems (written_with h) (elems_with to es) ys) (after_value-stays (inner_written h) v (after_key h k xs))
+        ∙ after_elems-stays h es (after_value (inner_written h) v (after_key h k xs))
 
-    after_key-stays : (x : ValueOption S) (xs : List (Candidate S)) → after_key (value_option_with to x) (map (candidate_with) xs) ≡ map (candidate_with) (after_key x xs)
-    after_key-stays no_value xs = refl
-    after_key-stays (some_value (plain (ident s n))) xs = put_stays (key_part (ident s n)) (xs)
-    after_key-stays (some_value (plain (int_lit s n))) xs = refl
-    after_key-stays (some_value (plain (rune_lit s n))) xs = refl
-    after_key-stays (some_value (plain (str_lit s n))) xs = refl
-    after_key-stays (some_value (plain (composite s t es))) xs = after_expr-stays (composite s t es) xs
-    after_key-stays (some_value (plain (selector s b n))) xs = after_expr-stays (selector s b n) xs
-    after_key-stays (some_value (plain (index s b i))) xs = after_expr-stays (index s b i) xs
-    after_key-stays (some_value (plain (slice s b i j))) xs = after_expr-stays (slice s b i j) xs
-    after_key-stays (some_value (plain (call s f es r))) xs = after_expr-stays (call s f es r) xs
-    after_key-stays (some_value (plain (func_lit s g z b))) xs = after_expr-stays (func_lit s g z b) xs
-    after_key-stays (some_value (plain (type_operand s t))) xs = after_expr-stays (type_operand s t) xs
-    after_key-stays (some_value (plain (unary s o e))) xs = after_expr-stays (unary s o e) xs
-    after_key-stays (some_value (plain (binary s o a b))) xs = after_expr-stays (binary s o a b) xs
-    after_key-stays (some_value (plain (star s e))) xs = after_expr-stays (star s e) xs
-    after_key-stays (some_value (braced s es)) xs = after_elems-stays es xs
+    after_key-stays : (h : Option (TypeExpr S)) (x : ValueOption S) (xs : List (Candidate S)) → after_key (written_with h) (value_option_with to x) (map (candidate_with) xs) ≡ map (candidate_with) (after_key h x xs)
+    after_key-stays h no_value xs = refl
+    after_key-stays h (some_value (plain (ident s n))) xs =
+        ap (λ (b : Bool). put (record { part = an_expr (ident (to s) n); key = not b }) (map (candidate_with) xs)) (fields-stay h) ∙ put_stays (key_of h (ident s n)) xs
+    after_key-stays h (some_value (plain (int_lit s n))) xs = refl
+    after_key-stays h (some_value (plain (rune_lit s n))) xs = refl
+    after_key-stays h (some_value (plain (str_lit s n))) xs = refl
+    after_key-stays h (some_value (plain (composite s t es))) xs = after_expr-stays (composite s t es) xs
+    after_key-stays h (some_value (plain (selector s b n))) xs = after_expr-stays (selector s b n) xs
+    after_key-stays h (some_value (plain (index s b i))) xs = after_expr-stays (index s b i) xs
+    after_key-stays h (some_value (plain (slice s b i j))) xs = after_expr-stays (slice s b i j) xs
+    after_key-stays h (some_value (plain (call s f es r))) xs = after_expr-stays (call s f es r) xs
+    after_key-stays h (some_value (plain (func_lit s g z b))) xs = after_expr-stays (func_lit s g z b) xs
+    after_key-stays h (some_value (plain (type_operand s t))) xs = after_expr-stays (type_operand s t) xs
+    after_key-stays h (some_value (plain (unary s o e))) xs = after_expr-stays (unary s o e) xs
+    after_key-stays h (some_value (plain (binary s o a b))) xs = after_expr-stays (binary s o a b) xs
+    after_key-stays h (some_value (plain (star s e))) xs = after_expr-stays (star s e) xs
+    after_key-stays h (some_value (braced s es)) xs =
+        ap (λ (w : Option (TypeExpr T)). after_elems w (elems_with to es) (map (candidate_with) xs)) (keys-stay h) ∙ after_elems-stays (keys_written h) es xs
 
-    after_value-stays : (x : Value S) (xs : List (Candidate S)) → after_value (value_with to x) (map (candidate_with) xs) ≡ map (candidate_with) (after_value x xs)
-    after_value-stays (plain e) xs = after_expr-stays e (xs)
-    after_value-stays (braced k es) xs = after_elems-stays es (xs)
+    after_value-stays : (h : Option (TypeExpr S)) (x : Value S) (xs : List (Candidate S)) → after_value (written_with h) (value_with to x) (map (candidate_with) xs) ≡ map (candidate_with) (after_value h x xs)
+    after_value-stays h (plain e) xs = after_expr-stays e xs
+    after_value-stays h (braced k es) xs = after_elems-stays h es xs
 
     after_stmt-stays : (x : Stmt S) (xs : List (Candidate S)) → after_stmt (stmt_with to x) (map (candidate_with) xs) ≡ map (candidate_with) (after_stmt x xs)
     after_stmt-stays (const_decl k l ss) xs = after_specs-stays ss (xs)

@@ -1,4 +1,5 @@
 pub mod Candidates
+pub mod Written
 pub mod Views
 pub mod Parts
 pub mod Among

@@ -39,8 +39,9 @@ pub(crate) fn import_at(file: &FileScopes, name: &Name, at: u32) -> Option<usize
     }
 }
 
-/// The package whose member a type's name is, with a package before it or without one.
-pub(crate) fn type_package(
+/// The package whose member a type's name is at the byte, with a package before it or without one (Go specification,
+/// Declarations and scope; Qualified identifiers).
+pub fn type_package(
     file: &FileScopes,
     before: &Option<NameAt>,
     name: &Name,

@@ -6,6 +6,7 @@ mod laws;
 mod parts;
 mod stmts;
 mod types;
+mod written;
 
 pub use decls::decl_parts;
 pub use laws::parts_are_among_all;

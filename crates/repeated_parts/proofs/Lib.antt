@@ -1,3 +1,4 @@
+pub mod LiteralTypes
 pub mod Walked
 pub mod Members
 pub mod UsesRepeated

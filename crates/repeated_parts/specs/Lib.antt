@@ -1,3 +1,4 @@
+pub mod LiteralTypes
 pub mod Flags
 pub mod Along
 pub mod Laws

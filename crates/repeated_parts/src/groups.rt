@@ -3,15 +3,23 @@
 ghost use Rattle.std.specs.Prelude.{◌≡◌, OnOk, drop, map};
 ghost use Rattle.go_tree.specs.Lists.{specs_from};
 ghost use Rattle.go_tree.specs.View.{const_spec_of};
-ghost use Rattle.repeated_parts.specs.Flags.{put_flag, is_repeated};
+ghost use Rattle.repeated_parts.specs.Flags.{put_flag, put_field, is_repeated};
 
 use go_tree::{ConstSpec, NoMemory};
 
 /// One more flag.
-pub(crate) fn put_flag(repeated: bool, flags: &mut Vec<bool>) -> Result<(), NoMemory>
+pub(crate) fn put_flag(repeated: bool, flags: &mut Vec<Option<bool>>) -> Result<(), NoMemory>
     ensures { OnOk result (flags.new.items ≡ put_flag repeated flags.old.items) }
 {
-    flags.push(repeated)?;
+    flags.push(Some(repeated))?;
+    Ok(())
+}
+
+/// One more key that names a field.
+pub(crate) fn put_field(flags: &mut Vec<Option<bool>>) -> Result<(), NoMemory>
+    ensures { OnOk result (flags.new.items ≡ put_field flags.old.items) }
+{
+    flags.push(None)?;
     Ok(())
 }
 

@@ -6,7 +6,7 @@ ghost use Rattle.repeated_parts.specs.Laws.{FlagsAreThoseOfPlaces};
 
 /// The flags that `repeated_parts` gives are those of the parts that `decl_parts` gives, in the same order: each says
 /// whether a later member of a group repeats the expression in which the part stands (Go specification, Constant
-/// declarations), as the place of the part says it.
+/// declarations), as the place of the part says it; a key that names a field has none (Composite literals).
 /// So it is in a file as read (`read`), and in one as a run leaves it (`standing`).
 pub fn flags_are_those_of_places()
     ensures read { FlagsAreThoseOfPlaces Span }

@@ -6,6 +6,7 @@ mod exprs;
 mod groups;
 mod imports_unused;
 mod laws;
+pub mod literal_types;
 mod stmts;
 mod types;
 pub mod use_search;

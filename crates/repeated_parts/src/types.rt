@@ -12,7 +12,7 @@ use go_tree::{FieldSpecList, NoMemory, Param, Sig, TypeExpr};
 pub(crate) fn type_flags(
     t: &TypeExpr,
     repeated: bool,
-    flags: &mut Vec<bool>,
+    flags: &mut Vec<Option<bool>>,
 ) -> Result<(), NoMemory>
     ensures { OnOk result (flags.new.items ≡ flags_type repeated (type_of t.now) flags.old.items) }
 {
@@ -32,7 +32,7 @@ pub(crate) fn type_flags(
 fn fields_flags(
     fields: &FieldSpecList,
     repeated: bool,
-    flags: &mut Vec<bool>,
+    flags: &mut Vec<Option<bool>>,
 ) -> Result<(), NoMemory>
     ensures { OnOk result (flags.new.items ≡ flags_fields repeated (fields_of fields.now) flags.old.items) }
 {
@@ -45,7 +45,7 @@ fn fields_flags(
 pub(crate) fn type_option_flags(
     t: &Option<TypeExpr>,
     repeated: bool,
-    flags: &mut Vec<bool>,
+    flags: &mut Vec<Option<bool>>,
 ) -> Result<(), NoMemory>
     ensures { OnOk result (flags.new.items ≡ flags_type_option repeated (option_map type_of t.now) flags.old.items) }
 {
@@ -55,7 +55,11 @@ pub(crate) fn type_option_flags(
     }
 }
 
-fn params_flags(params: &[Param], repeated: bool, flags: &mut Vec<bool>) -> Result<(), NoMemory>
+fn params_flags(
+    params: &[Param],
+    repeated: bool,
+    flags: &mut Vec<Option<bool>>,
+) -> Result<(), NoMemory>
     ensures { OnOk result (flags.new.items ≡ flags_params repeated (map param_of params.now) flags.old.items) }
 {
     for param in params {
@@ -65,7 +69,11 @@ fn params_flags(params: &[Param], repeated: bool, flags: &mut Vec<bool>) -> Resu
 }
 
 /// The names in a signature's types.
-pub(crate) fn sig_flags(sig: &Sig, repeated: bool, flags: &mut Vec<bool>) -> Result<(), NoMemory>
+pub(crate) fn sig_flags(
+    sig: &Sig,
+    repeated: bool,
+    flags: &mut Vec<Option<bool>>,
+) -> Result<(), NoMemory>
     ensures { OnOk result (flags.new.items ≡ flags_sig repeated (sig_of sig.now) flags.old.items) }
 {
     params_flags(sig.params.items(), repeated, flags)?;

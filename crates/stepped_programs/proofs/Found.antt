@@ -15,7 +15,6 @@ use Rattle.constant_steps.specs.PlaceMeanings.Parts.{AllScoped}
 use Rattle.member_uses.specs.PossibleUses.Among.{Keyed}
 use Rattle.member_uses.specs.PossibleUses.Laws.{PartsAreAmongAll}
 use Rattle.constant_forms.specs.Views.{name_expr}
-use Rattle.member_uses.specs.Uses.{Names}
 use Rattle.next_file.specs.declared.file.NewFile.{NewFile}
 use Rattle.next_file.specs.Files.{text_of}
 use Rattle.stepped_programs.specs.declared.package_search.looks.ProgramSources.{ProgramSources}
@@ -24,36 +23,32 @@ use Rattle.programs.specs.Programs.{IsProgramOf}
 use Rattle.programs.specs.declared.state.Program.{Program}
 use Rattle.run_by_steps.specs.NextPrograms.Made.{NextWith}
 use Rattle.run_rules.specs.FormTrees.{as_expr}
-use Rattle.run_rules.specs.Forms.{is_at}
 use Rattle.run_rules.specs.Programs.{decl_seen}
 use Rattle.run_rules.specs.Run.{Standing, Next, here_of, edits_in, logged}
 use Rattle.run_rules.specs.Sites.{MarkRef, Where, an_expr, inlinable, part_span}
-use Rattle.run_rules.specs.Steps.{At, Found, same_here}
+use Rattle.run_rules.specs.Steps.{At, Found}
 use Rattle.run_rules.specs.Texts.{FileText}
 use Rattle.repeated_parts.specs.UseSearch.UsesOfMarks.Laws.{IsSound, EachSound}
 use Rattle.repeated_parts.specs.UseSearch.UsesOfMarks.Uses.{PlacedMark}
-use Rattle.repeated_parts.specs.UseSearch.Answers.{names_of}
 use Rattle.stepped_programs.specs.SearchedSites.FoundSteps.Laws.{step_of}
 use Rattle.stepped_programs.specs.SearchedSites.OrderedSearches.Found.{IsFoundFirst}
-use Rattle.stepped_programs.specs.SearchedSites.SwappedParts.Swaps.{HasNoDot}
 use Rattle.stepped_programs.proofs.SearchedSites.SettledFiles.Packages.{placed}
-use Rattle.printed_constants.specs.TypedParts.StandingUses.ImportUses.Parts.{EachSeen}
 use Rattle.stepped_programs.specs.Steps.{AreSwapped}
-use Rattle.stepped_programs.specs.Laws.{IsPlaceOf, PutsName, IsOfStep, place_of, IsUndotted, FoundUsesArePut}
+use Rattle.stepped_programs.specs.Laws.{IsPlaceOf, PutsName, IsOfStep, place_of, FoundUsesArePut}
 use Rattle.stepped_programs.proofs.Held.{origins_of_steps}
 
 -- what is asked of each declaration is asked of one
-nth_sound : (st : Standing) (marks : List MarkRef) (w : Where At) (f : Names) (ds : List (Decl At)) (i : ℕ) (d : Decl At) → slice_get ds i ≡ Some d → EachSound st.packages marks w f ds → IsSound st.packages marks w f d
-nth_sound st marks w f [] i d h s = absurd cc
-nth_sound st marks w f (y ∷ ds) zero d h s = subst (λ (z : Decl At). IsSound st.packages marks w f z) (same_Some y d h) s.0
-nth_sound st marks w f (y ∷ ds) (suc i) d h s = nth_sound st marks w f ds i d h s.1
+nth_sound : (st : Standing) (w : Where At) (ds : List (Decl At)) (i : ℕ) (d : Decl At) → slice_get ds i ≡ Some d → EachSound st.packages w ds → IsSound st.packages w d
+nth_sound st w [] i d h s = absurd cc
+nth_sound st w (y ∷ ds) zero d h s = subst (λ (z : Decl At). IsSound st.packages w z) (same_Some y d h) s.0
+nth_sound st w (y ∷ ds) (suc i) d h s = nth_sound st w ds i d h s.1
 
 still_some : {A B : Type 0} (g : A → B) (o : Option A) → is_some o ≡ is_some (option_map g o)
 still_some g None = refl
 still_some g (Some a) = refl
 
 module _ (marks : List MarkRef) (st : Standing) (s : ProgramSources) (k : ℕ) (r : FoundInPackage) (a : IsFoundFirst marks st s k r) (old : FileText) (f : NewFile) (m : NextWith marks st (step_of a) old (text_of f) (file_of f.tree))
-    (e : Expr At) (part : a.site.part ≡ an_expr e) (undotted : IsUndotted st a.site) where
+    (e : Expr At) (part : a.site.part ≡ an_expr e) where
   abbrev n : Next marks st (logged marks st (step_of a) (edits_in marks st old (step_of a))) m.after
   n = m.next
 
@@ -80,8 +75,8 @@ module _ (marks : List MarkRef) (st : Standing) (s : ProgramSources) (k : ℕ) (
   nth_there : slice_get a.site.at.source.tree.decls a.site.decl ≡ Some d
   nth_there = ap (λ (y : Found At). slice_get y.site.at.source.tree.decls y.site.decl) (sym same) ∙ nth
 
-  sound : IsSound st.packages marks a.site.at (names_of a.view) d
-  sound = nth_sound st marks a.site.at (names_of a.view) a.site.at.source.tree.decls a.site.decl d nth_there a.is_file.sound
+  sound : IsSound st.packages a.site.at d
+  sound = nth_sound st a.site.at a.site.at.source.tree.decls a.site.decl d nth_there a.is_file.sound
 
   puts : PutsName n d q
   puts =
@@ -94,9 +89,6 @@ module _ (marks : List MarkRef) (st : Standing) (s : ProgramSources) (k : ℕ) (
         decl_is = nth;
         scoped = subst (λ (y : Found At). AllScoped (decl_seen st.packages y.site.at.number y.site.at.of y.site.at.source.tree d)) (sym same) sound.scoped;
         keyed = subst (λ (y : Found At). Keyed (decl_seen st.packages y.site.at.number y.site.at.of y.site.at.source.tree d)) (sym same) sound.keyed;
-        no_dot =
-            subst (λ (y : Found At). EachSeen (HasNoDot (is_at same_here (part_span y.site.part))) (decl_seen st.packages y.site.at.number y.site.at.of y.site.at.source.tree d)) (sym same)
-            (undotted d nth_there);
         word = r.found.form.name;
         form_is =
             ap (λ (y : Found At). y.form) same
@@ -124,4 +116,4 @@ module _ (marks : List MarkRef) (st : Standing) (s : ProgramSources) (k : ℕ) (
       }
 
 pub found_put : PartsAreAmongAll At → FoundUsesArePut
-found_put among files marks st s k r a old f m p os e is part undotted small h = of_step marks st s k r a old f m e part undotted among files p os is small h
+found_put among files marks st s k r a old f m p os e is part small h = of_step marks st s k r a old f m e part among files p os is small h

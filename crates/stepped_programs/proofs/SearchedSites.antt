@@ -13,3 +13,4 @@ pub mod ToldOrigins
 pub mod SwappedParts
 pub mod KeptPrograms
 pub mod PrintedSearches
+pub mod SoundFiles

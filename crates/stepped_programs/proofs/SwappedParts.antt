@@ -251,7 +251,7 @@ module _ (among : PartsAreAmongAll At) (marks : List MarkRef) (st : Standing) (l
   swaps : PartsSwap p.old new_word (parts_of d) (parts_of (put n.found.form))
   swaps =
       subst (λ (f : Form At). PartsSwap p.old new_word (parts_of d) (parts_of (put f))) (sym p.form_is)
-      (swap_parts st.packages x.at d x.place p.old z z q p.word once.is_name new_here once.once p.keyed p.no_dot)
+      (swap_parts st.packages x.at d x.place p.old z z q p.word once.is_name new_here once.once p.keyed)
 
   z_is : z ≡ expr_span p.old
   z_is = ap part_span p.part

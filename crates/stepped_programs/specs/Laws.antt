@@ -31,19 +31,16 @@ use Rattle.run_by_steps.specs.NextPrograms.Made.{NextWith}
 use Rattle.run_by_steps.specs.RunProgress.Laws.{are_paths_apart}
 use Rattle.splice_laws.specs.RunLaws.Reading.{ProgramReads}
 use Rattle.run_rules.specs.FormTrees.{as_expr}
-use Rattle.run_rules.specs.Forms.{is_at}
 use Rattle.run_rules.specs.Programs.{decl_seen}
 use Rattle.run_rules.specs.Respanned.{decl_with, file_with, packages_with}
 use Rattle.run_rules.specs.Run.{Standing, Logged, Next, here_of, origin_of}
-use Rattle.run_rules.specs.Sites.{MarkRef, Where, Site, an_expr, a_constant, inlinable, part_span}
-use Rattle.run_rules.specs.Steps.{At, same_here}
+use Rattle.run_rules.specs.Sites.{MarkRef, Where, an_expr, a_constant, inlinable, part_span}
+use Rattle.run_rules.specs.Steps.{At}
 use Rattle.run_rules.specs.Texts.{FileText}
 use Rattle.stepped_programs.specs.SearchedSites.FoundSteps.Laws.{step_of}
 use Rattle.stepped_programs.specs.SearchedSites.OrderedSearches.Found.{IsFoundFirst}
 use Rattle.stepped_programs.specs.SearchedSites.OrderedSearches.Held.{IsThere, AreAllSettled, flag_of}
 use Rattle.stepped_programs.specs.SearchedSites.SettledFiles.Left.{MayStaySet}
-use Rattle.stepped_programs.specs.SearchedSites.SwappedParts.Swaps.{HasNoDot}
-use Rattle.printed_constants.specs.TypedParts.StandingUses.ImportUses.Parts.{EachSeen}
 use Rattle.stepped_programs.specs.SteppedValues.Filled.{IsFilledAnew}
 use Rattle.stepped_programs.specs.SteppedValues.Flags.{IsKeptProgram}
 use Rattle.stepped_programs.specs.declared.place.StepPlace.{StepPlace}
@@ -117,8 +114,8 @@ StepsKeepSettled =
 
 -- ---- origins
 
--- The use is an expression in a declaration as typing asks, with no dot behind it, and uses a constant; it becomes this
--- name, behind that of a package or not.
+-- The use is an expression in a declaration as typing asks and uses a constant; it becomes this name, behind that of a
+-- package or not. A dot may stand behind it.
 pub record PutsName {marks : List MarkRef} {st : Standing} {l : Logged} {after : Standing} (n : Next marks st l after)
     (d : Decl At) (q : Option (List ℕ)) : Type 0 where
   pub old : Expr At
@@ -130,9 +127,6 @@ pub record PutsName {marks : List MarkRef} {st : Standing} {l : Logged} {after :
   pub scoped :
       AllScoped (decl_seen st.packages n.found.site.at.number n.found.site.at.of n.found.site.at.source.tree d)
   pub keyed : Keyed (decl_seen st.packages n.found.site.at.number n.found.site.at.of n.found.site.at.source.tree d)
-  pub no_dot :
-      EachSeen (HasNoDot (is_at same_here (part_span n.found.site.part)))
-      (decl_seen st.packages n.found.site.at.number n.found.site.at.of n.found.site.at.source.tree d)
   pub word : List ℕ
   pub form_is : n.found.form ≡ as_expr (name_expr (part_span n.found.site.part) q word)
 
@@ -161,13 +155,6 @@ OriginsAreOfSteps =
 abbrev pub place_of : ℕ → FoundInPackage → StepPlace
 place_of k r = record { home = k; file = r.file; decl = r.found.use_.decl }
 
--- No dot stands behind the use.
-abbrev pub IsUndotted : Standing → Site At → Type 0
-IsUndotted st x =
-    (d : Decl At) → slice_get x.at.source.tree.decls x.decl ≡ Some d
-    → EachSeen (HasNoDot (is_at same_here (part_span x.part)))
-    (decl_seen st.packages x.at.number x.at.of x.at.source.tree d)
-
 -- What `put_step` is told of the first use that is found is what the step makes: the file with which the next program
 -- was reached, the names of the search's tables, and the origins that `step_origins` answers.
 abbrev pub FoundUsesArePut : Type 0
@@ -175,7 +162,7 @@ FoundUsesArePut =
     (files : List Source) (marks : List MarkRef) (st : Standing) (s : ProgramSources) (k : ℕ) (r : FoundInPackage)
     (a : IsFoundFirst marks st s k r) (old : FileText) (f : NewFile)
     (m : NextWith marks st (step_of a) old (text_of f) (file_of f.tree)) (p : Program) (os : List Span) (e : Expr At)
-    → IsProgramOf files marks st p → a.site.part ≡ an_expr e → IsUndotted st a.site → length f.text ≤ MAX_FILE_BYTES
+    → IsProgramOf files marks st p → a.site.part ≡ an_expr e → length f.text ≤ MAX_FILE_BYTES
     → AreSwapped p (place_of k r) (is_some r.found.form.«package») r.found.form.span os
     → IsOfStep m.next (place_of k r) os r.tables.names.«package» f
 

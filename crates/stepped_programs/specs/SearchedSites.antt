@@ -12,3 +12,4 @@ pub mod ToldOrigins
 pub mod SwappedParts
 pub mod KeptPrograms
 pub mod PrintedSearches
+pub mod SoundFiles

@@ -30,8 +30,8 @@ pub fn steps_keep_settled()
 
 /// The parts of the declaration of a step come from where they did, but that those of the new name come from the use
 /// (`swapped`); so what `step_origins` answers are the origins of the declaration after the step (`steps`), and what
-/// `put_step` is told of the first use that a search finds is what the step makes (`found`). No dot stands behind the
-/// use.
+/// `put_step` is told of the first use that a search finds is what the step makes (`found`). A dot may stand behind the
+/// use, as in `C.M()`: a name behind a dot is a part whatever stands before it.
 pub fn origins_are_swapped()
     ensures swapped { OriginsAreSwapped }
     ensures steps { OriginsAreOfSteps }

@@ -31,7 +31,7 @@ pub use searched_sites::{
     looks_tell_files, origins_are_told, printed_files_are_searchable, printed_files_are_searched,
     programs_are_open, searched_programs_stay, searches_find_sites, searches_find_steps,
     searches_settle_files, settled_files_stay, steps_go_on, steps_leave_other_files,
-    steps_swap_parts, values_are_told,
+    steps_swap_parts, typed_files_are_sound, values_are_told,
 };
 pub use stepped_values::{
     constants_stay_marked, marked_values_stay, programs_are_held, settled_flags_stay,

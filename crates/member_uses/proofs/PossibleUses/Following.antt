@@ -1,5 +1,5 @@
 -- The walk that gathers parts follows the walk that lists all parts.
-use Rattle.std.proofs.Common.{◌≡◌, ◌∙◌, refl, sym, ap, subst, ℕ, suc, Bool, true, false, if◌then◌else◌, List, [], ◌∷◌, ◌++◌, map, Option, Some, None}
+use Rattle.std.proofs.Common.{◌≡◌, ◌∙◌, refl, sym, ap, subst, ℕ, suc, Bool, true, false, not, if◌then◌else◌, List, [], ◌∷◌, ◌++◌, map, Option, Some, None}
 use Rattle.std.proofs.lemmas.List.{append_assoc, append-nil, map-append}
 use Rattle.go_tree.specs.Tree.{NameAt, Param, Sig, TypeExpr, named, pointer, slice_type, map_type, struct_type, Fields, no_fields, field, Expr, ident, int_lit, rune_lit, str_lit, composite, selector, index, slice, call, func_lit, type_operand, unary, binary, star, Exprs, no_exprs, expr_and, ExprOption, no_expr, some_expr, Elems, no_elems, elem, Value, plain, braced, ValueOption, no_value, some_value, Stmt, const_decl, var_decl, empty, eval, step, assign, define, return_, break_, continue_, inner, if_, for_, range_, switch, defer, label, Stmts, no_stmts, stmt_and, StmtOption, no_stmt, some_stmt, BlockOption, no_block, some_block, RangeLeft, nothing, assigns, defines, Arms, no_arms, arm, Cases, no_cases, case, ValueSpecs, no_specs, spec}
 use Rattle.go_tree.specs.File.{TypeSpec, Receiver, Func, Decl, values, types, func, File}
@@ -9,17 +9,19 @@ use Rattle.go_tree.specs.GoTypes.Types.{GoType}
 use Rattle.go_tree.specs.GoTypes.Defined.{under}
 use Rattle.go_tree.specs.GoTypes.Entities.{defined_in}
 use Rattle.go_tree.specs.GoTypes.TypeNames.{type_meant}
-use Rattle.go_tree.specs.GoTypes.Literals.{is_struct}
+use Rattle.go_tree.specs.GoTypes.Literals.{is_struct, literal_type}
 use Rattle.go_tree.specs.GoTypes.Declarations.{Repeated, nothing_to_repeat}
-use Rattle.run_rules.specs.Surroundings.{Use, stored, updated, called, deferred_call, alone, other, a_slot, Place, Seen, seen, seen_type, seen_stmt, head_use, later_uses, unary_use, elem_use, key_use, in_slot, elem_closed, is_old}
+use Rattle.run_rules.specs.Surroundings.{Use, stored, updated, called, deferred_call, alone, other, a_slot, Place, Seen, seen, seen_type, seen_stmt, head_use, later_uses, unary_use, elem_use, key_use, into_type, in_slot, elem_closed, is_old}
 use Rattle.run_rules.specs.Places.{type_seen, written_seen, params_seen, sig_seen, old_seen, expr_seen, all_seen, option_seen, elems_seen, key_seen, value_seen, stmt_seen, stmts_seen, first_seen, block_seen, left_seen, arms_seen, cases_seen, constants_seen, variables_seen}
 use Rattle.run_rules.specs.Programs.{top_place, body_place, constants_at_top, variables_at_top, types_at_top, receiver_seen, func_seen, decl_seen}
 use Rattle.run_rules.specs.Sites.{an_expr, a_type_part, named_in, named_in_fields}
-use Rattle.member_uses.specs.PossibleUses.Candidates.{Candidate, plain_part, key_part}
-use Rattle.member_uses.specs.PossibleUses.Parts.{put, put_selector, after_type, after_fields, after_type_option, after_params, after_sig, after_expr, after_exprs, after_expr_option, after_elems, after_key, after_value, after_stmt, after_stmts, after_stmt_option, after_block_option, after_left, after_cases, after_specs, after_types, after_receiver, after_func, after_decl, parts_of}
+use Rattle.member_uses.specs.PossibleUses.Candidates.{Candidate, plain_part}
+use Rattle.member_uses.specs.PossibleUses.Parts.{put, after_type, after_fields, after_type_option, after_params, after_sig, after_expr, after_exprs, after_expr_option, after_elems, after_key, after_value, after_stmt, after_stmts, after_stmt_option, after_block_option, after_left, after_cases, after_specs, after_types, after_receiver, after_func, after_decl, parts_of}
 use Rattle.member_uses.specs.PossibleUses.Parts as gathered
 use Rattle.member_uses.specs.PossibleUses.Among.{may_be_use, Follows, at_the_end, past_a_use, past_no_use, past_a_key, past_a_field, past_an_old_name, past_a_type, past_a_statement, ElemsKeyed, KeyKeyed, ValueKeyed, Keyed}
 use Rattle.member_uses.specs.PossibleUses.Laws.{PartsAreAmongAll}
+use Rattle.member_uses.specs.PossibleUses.Written.{has_no_fields, inner_written, keys_written}
+use Rattle.member_uses.proofs.PossibleUses.WrittenTypes.{Told, meant_told, no_struct, inner_told, keys_told}
 
 module _ {S : Type 0} where
   -- a name in a type
@@ -136,22 +138,6 @@ module _ {S : Type 0} where
         by true e h = record { go = λ k. past_an_old_name e (h.go k) }
         by false e h = h
 
-    selector_goes : (p : Place S) (u : Use) (s : S) (b : Expr S) (n : NameAt S) (xs : List (Candidate S)) → Goes xs (seen p u (selector s b n) ∷ []) (put_selector b (selector s b n) xs)
-    selector_goes p u s (ident _ _) n xs = one_use refl
-    selector_goes p u s (int_lit _ _) n xs = no_use refl
-    selector_goes p u s (rune_lit _ _) n xs = no_use refl
-    selector_goes p u s (str_lit _ _) n xs = no_use refl
-    selector_goes p u s (composite _ _ _) n xs = no_use refl
-    selector_goes p u s (selector _ _ _) n xs = no_use refl
-    selector_goes p u s (index _ _ _) n xs = no_use refl
-    selector_goes p u s (slice _ _ _ _) n xs = no_use refl
-    selector_goes p u s (call _ _ _ _) n xs = no_use refl
-    selector_goes p u s (func_lit _ _ _ _) n xs = no_use refl
-    selector_goes p u s (type_operand _ _) n xs = no_use refl
-    selector_goes p u s (unary _ _ _) n xs = no_use refl
-    selector_goes p u s (binary _ _ _ _) n xs = no_use refl
-    selector_goes p u s (star _ _) n xs = no_use refl
-
     mutual
       expr_goes : (p : Place S) (u : Use) (e : Expr S) (xs : List (Candidate S)) → Goes xs (expr_seen p u e) (after_expr e xs)
       expr_goes p u (ident s n) xs = one_use refl
@@ -162,9 +148,9 @@ module _ {S : Type 0} where
           let q : Place S = in_slot (a_slot 1 false false) p in
           let v : Option GoType = given (type_meant p.env t) (λ w. Some (under (defined_in p.env) w)) in
           record {
-            go = λ k. (joined (joined (type_goes p t xs) (elems_goes q v 0 es (after_type t xs) (behind (type_seen p t ++ elems_seen q v 0 es) (seen p u (composite s t es) ∷ []) k).0)) (no_use {e = composite s t es} refl)).go k;
+            go = λ k. (joined (joined (type_goes p t xs) (elems_goes (Some t) q v 0 es (after_type t xs) (meant_told p.env t) (behind (type_seen p t ++ elems_seen q v 0 es) (seen p u (composite s t es) ∷ []) k).0)) (no_use {e = composite s t es} refl)).go k;
           }
-      expr_goes p u (selector s b n) xs = joined (expr_goes _ other b xs) (selector_goes p u s b n (after_expr b xs))
+      expr_goes p u (selector s b n) xs = joined (expr_goes _ other b xs) (one_use refl)
       expr_goes p u (index s b i) xs = joined (joined (expr_goes _ other b xs) (expr_goes _ other i (after_expr b xs))) (no_use refl)
       expr_goes p u (slice s b i j) xs =
           joined (joined (joined (expr_goes _ other b xs) (option_goes _ i (after_expr b xs))) (option_goes _ j (after_expr_option i (after_expr b xs)))) (no_use refl)
@@ -183,28 +169,34 @@ module _ {S : Type 0} where
       option_goes p no_expr xs = stops
       option_goes p (some_expr e) xs = expr_goes p other e xs
 
-      elems_goes : (p : Place S) (u : Option GoType) (i : ℕ) (es : Elems S) (xs : List (Candidate S)) → ElemsKeyed p u i es → Goes xs (elems_seen p u i es) (after_elems es xs)
-      elems_goes p u i no_elems xs h = stops
-      elems_goes p u i (elem s k v es) xs h =
-          joined (joined (key_goes p u k xs h.0) (value_goes (record p { slot = a_slot 1 false (elem_closed es) }) (elem_use p.env u i k) v (after_key k xs) h.1.0))
-          (elems_goes p u (suc i) es (after_value v (after_key k xs)) h.1.1)
+      elems_goes : (h : Option (TypeExpr S)) (p : Place S) (u : Option GoType) (i : ℕ) (es : Elems S) (xs : List (Candidate S)) → Told p.env h u → ElemsKeyed p u i es → Goes xs (elems_seen p u i es) (after_elems h es xs)
+      elems_goes h p u i no_elems xs m a = stops
+      elems_goes h p u i (elem s k v es) xs m a =
+          joined (joined (key_goes h p u k xs m a.0) (value_goes (inner_written h) (record p { slot = a_slot 1 false (elem_closed es) }) (elem_use p.env u i k) v (after_key h k xs) (inner_told p.env h u i k m) a.1.0))
+          (elems_goes h p u (suc i) es (after_value (inner_written h) v (after_key h k xs)) m a.1.1)
 
-      key_goes : (p : Place S) (u : Option GoType) (k : ValueOption S) (xs : List (Candidate S)) → KeyKeyed p u k → Goes xs (key_seen p u k) (after_key k xs)
-      key_goes p u no_value xs h = stops
-      key_goes p u (some_value (plain (ident s n))) xs h = by (meets u is_struct) refl
+      key_goes : (h : Option (TypeExpr S)) (p : Place S) (u : Option GoType) (k : ValueOption S) (xs : List (Candidate S)) → Told p.env h u → KeyKeyed p u k → Goes xs (key_seen p u k) (after_key h k xs)
+      key_goes h p u no_value xs m a = stops
+      key_goes h p u (some_value (plain (ident s n))) xs m a = by (has_no_fields h) refl (meets u is_struct) refl
         where
-          by : (b : Bool) → meets u is_struct ≡ b → Goes xs (if b then [] else seen p (key_use p.env u) (ident s n) ∷ []) (put (key_part (ident s n)) xs)
-          by true e = record { go = λ k. past_a_field u s n e at_the_end }
-          by false e = record { go = λ k. past_a_key at_the_end }
-      key_goes p u (some_value v) xs h = held (meets u is_struct) h.0 (value_goes p (key_use p.env u) v xs h.1)
+          clash : {A : Type 0} {b : Bool} → b ≡ false → b ≡ true → A
+          clash f t = absurd cc
+
+          by : (w : Bool) → has_no_fields h ≡ w → (b : Bool) → meets u is_struct ≡ b
+              → Goes xs (if b then [] else seen p (key_use p.env u) (ident s n) ∷ []) (put (record { part = an_expr (ident s n); key = not w }) xs)
+          by true f true e = clash (no_struct p.env h u m f) e
+          by true f false e = one_use refl
+          by false f true e = record { go = λ k. past_a_field u s n e at_the_end }
+          by false f false e = record { go = λ k. past_a_key at_the_end }
+      key_goes h p u (some_value v) xs m a = held (meets u is_struct) a.0 (value_goes (keys_written h) p (key_use p.env u) v xs (keys_told p.env h u m) a.1)
         where
-          held : (b : Bool) → b ≡ false → Goes xs (value_seen p (key_use p.env u) v) (after_value v xs) → Goes xs (if b then [] else value_seen p (key_use p.env u) v) (after_value v xs)
+          held : (b : Bool) → b ≡ false → Goes xs (value_seen p (key_use p.env u) v) (after_value (keys_written h) v xs) → Goes xs (if b then [] else value_seen p (key_use p.env u) v) (after_value (keys_written h) v xs)
           held true e g = cc
           held false e g = g
 
-      value_goes : (p : Place S) (u : Use) (v : Value S) (xs : List (Candidate S)) → ValueKeyed p u v → Goes xs (value_seen p u v) (after_value v xs)
-      value_goes p u (plain e) xs h = expr_goes p u e xs
-      value_goes p u (braced s es) xs h = elems_goes p _ 0 es xs h
+      value_goes : (h : Option (TypeExpr S)) (p : Place S) (u : Use) (v : Value S) (xs : List (Candidate S)) → Told p.env h (given (into_type u) (λ t. Some (under (defined_in p.env) (literal_type (defined_in p.env) t)))) → ValueKeyed p u v → Goes xs (value_seen p u v) (after_value h v xs)
+      value_goes h p u (plain e) xs m a = expr_goes p u e xs
+      value_goes h p u (braced s es) xs m a = elems_goes h p _ 0 es xs m a
 
       stmt_goes : (p : Place S) (l : Bool) (s : Stmt S) (xs : List (Candidate S)) → Goes xs (stmt_seen p l s) (after_stmt s xs)
       stmt_goes p l (const_decl s g ss) xs = joined (constants_goes _ nothing_to_repeat 0 ss xs) one_stmt

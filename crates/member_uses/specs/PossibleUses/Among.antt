@@ -16,10 +16,10 @@ use Rattle.member_uses.specs.PossibleUses.Candidates.{Candidate, plain_part, key
 use Rattle.member_uses.specs.PossibleUses.Parts.{put}
 
 module _ {S : Type 0} where
-  -- the expression may be a use: a name, a name behind a name, a call
+  -- the expression may be a use: a name, a name behind a dot, a call
   abbrev pub may_be_use : Expr S → Bool
   may_be_use (ident _ _) = true
-  may_be_use (selector _ (ident _ _) _) = true
+  may_be_use (selector _ _ _) = true
   may_be_use (call _ _ _ _) = true
   may_be_use e = false
 

@@ -1,7 +1,8 @@
--- The parts of a declaration that may be uses of a marked declaration: names, names behind names, calls, and names of
--- types, in the order of their ends (Go specification, Operands; Qualified identifiers; Selectors; Calls; Types).
--- A name that is the key of an element is a part of its own kind, since it may be that of a field (Go specification,
--- Composite literals).
+-- The parts of a declaration that may be uses of a marked declaration: names, names behind dots, calls, and names of
+-- types, in the order of their ends (Go specification, Operands; Qualified identifiers; Selectors; Calls; Types). A name
+-- behind a dot is a part whatever stands before the dot, so that what a step puts there adds no part behind it.
+-- A name that is the key of an element is a part of its own kind where it may be that of a field: where the literal isn't
+-- written as one of a slice or a map (Go specification, Composite literals).
 use Rattle.std.specs.Prelude.{List, [], ◌∷◌, ◌++◌, Option, Some, None}
 use Rattle.go_tree.specs.Tree.{TypeExpr, named, pointer, slice_type, map_type, struct_type, Fields, no_fields, field}
 use Rattle.go_tree.specs.Tree.{Param, Sig, Expr, ident, int_lit, rune_lit, str_lit, composite, selector, index, slice}
@@ -14,17 +15,13 @@ use Rattle.go_tree.specs.Tree.{nothing, assigns, defines, Arms, no_arms, arm, Ca
 use Rattle.go_tree.specs.Tree.{no_specs, spec}
 use Rattle.go_tree.specs.File.{TypeSpec, Receiver, Func, Decl, values, types, func}
 use Rattle.run_rules.specs.Sites.{an_expr, a_type_part}
-use Rattle.member_uses.specs.PossibleUses.Candidates.{Candidate, plain_part, key_part, receiver_part}
+use Rattle.member_uses.specs.PossibleUses.Candidates.{Candidate, plain_part, key_of, receiver_part}
+use Rattle.member_uses.specs.PossibleUses.Written.{inner_written, keys_written}
 
 module _ {S : Type 0} where
   -- one more part, the last
   abbrev pub put : Candidate S → List (Candidate S) → List (Candidate S)
   put x xs = xs ++ x ∷ []
-
-  -- a selector is a part where a name stands before its dot
-  abbrev pub put_selector : Expr S → Expr S → List (Candidate S) → List (Candidate S)
-  put_selector (ident _ _) e xs = put (plain_part (an_expr e)) xs
-  put_selector b e xs = xs
 
   abbrev mutual
     -- the names in a type, behind parts
@@ -61,8 +58,8 @@ module _ {S : Type 0} where
     after_expr (int_lit _ _) xs = xs
     after_expr (rune_lit _ _) xs = xs
     after_expr (str_lit _ _) xs = xs
-    after_expr (composite _ t es) xs = after_elems es (after_type t xs)
-    after_expr (selector s b n) xs = put_selector b (selector s b n) (after_expr b xs)
+    after_expr (composite _ t es) xs = after_elems (Some t) es (after_type t xs)
+    after_expr (selector s b n) xs = put (plain_part (an_expr (selector s b n))) (after_expr b xs)
     after_expr (index _ b i) xs = after_expr i (after_expr b xs)
     after_expr (slice _ b i j) xs = after_expr_option j (after_expr_option i (after_expr b xs))
     after_expr (call s f es r) xs = put (plain_part (an_expr (call s f es r))) (after_exprs es (after_expr f xs))
@@ -82,21 +79,21 @@ module _ {S : Type 0} where
     after_expr_option no_expr xs = xs
     after_expr_option (some_expr e) xs = after_expr e xs
 
-    -- the elements of a composite literal
-    pub after_elems : Elems S → List (Candidate S) → List (Candidate S)
-    after_elems no_elems xs = xs
-    after_elems (elem _ k v es) xs = after_elems es (after_value v (after_key k xs))
+    -- the elements of a composite literal whose type is written so
+    pub after_elems : Option (TypeExpr S) → Elems S → List (Candidate S) → List (Candidate S)
+    after_elems h no_elems xs = xs
+    after_elems h (elem _ k v es) xs = after_elems h es (after_value (inner_written h) v (after_key h k xs))
 
     -- a key; a name may be that of a field
-    pub after_key : ValueOption S → List (Candidate S) → List (Candidate S)
-    after_key no_value xs = xs
-    after_key (some_value (plain (ident s n))) xs = put (key_part (ident s n)) xs
-    after_key (some_value v) xs = after_value v xs
+    pub after_key : Option (TypeExpr S) → ValueOption S → List (Candidate S) → List (Candidate S)
+    after_key h no_value xs = xs
+    after_key h (some_value (plain (ident s n))) xs = put (key_of h (ident s n)) xs
+    after_key h (some_value v) xs = after_value (keys_written h) v xs
 
     -- an element, or inner braces
-    pub after_value : Value S → List (Candidate S) → List (Candidate S)
-    after_value (plain e) xs = after_expr e xs
-    after_value (braced _ es) xs = after_elems es xs
+    pub after_value : Option (TypeExpr S) → Value S → List (Candidate S) → List (Candidate S)
+    after_value h (plain e) xs = after_expr e xs
+    after_value h (braced _ es) xs = after_elems h es xs
 
     -- a statement
     pub after_stmt : Stmt S → List (Candidate S) → List (Candidate S)

@@ -45,8 +45,8 @@ fn func_parts<'a>(func: &'a FuncDecl, list: &mut Vec<PartRef<'a>>) -> Result<(),
 }
 
 /// The parts of a declaration that may be uses of a marked declaration, in the order of their ends: names, names behind
-/// a name, calls, and names of types; keys that are names among them, which may be those of fields. An error where memory
-/// is refused. Linear in the declaration.
+/// dots, calls, and names of types; keys that are names among them, told apart where they may be those of fields. An
+/// error where memory is refused. Linear in the declaration.
 pub fn decl_parts<'a>(alloc: Global, decl: &'a Decl) -> Result<Vec<PartRef<'a>>, NoMemory>
     ensures { IfOk result (λ list. map part_of list.items ≡ parts_of (decl_of decl.now)) }
 {

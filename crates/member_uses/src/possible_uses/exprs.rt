@@ -3,25 +3,15 @@
 ghost use Rattle.std.specs.Prelude.{◌≡◌, OnOk, map};
 ghost use Rattle.go_tree.specs.View.{expr_of, exprs_of, boxed_expr_option_of, plain_expr_option_of, value_of};
 ghost use Rattle.go_tree.specs.View.{held_value_option_of, elem_of, elems_of};
-ghost use Rattle.member_uses.specs.PossibleUses.Views.{part_of};
-ghost use Rattle.member_uses.specs.PossibleUses.Parts.{put_selector, after_expr, after_exprs, after_expr_option, after_value};
+ghost use Rattle.member_uses.specs.PossibleUses.Views.{part_of, written_of};
+ghost use Rattle.member_uses.specs.PossibleUses.Parts.{after_expr, after_exprs, after_expr_option, after_value};
 ghost use Rattle.member_uses.specs.PossibleUses.Parts.{after_key, after_elems};
 
-use crate::possible_uses::parts::{PartRef, put_expr, put_key};
+use crate::possible_uses::parts::{PartRef, put_expr, put_key_of};
 use crate::possible_uses::stmts::stmts_parts;
 use crate::possible_uses::types::{sig_parts, type_parts};
-use go_tree::{ElemList, Expr, ExprList, NoMemory, Value};
-
-/// A selector, where a name stands before its dot.
-fn put_selector<'a>(base: &Expr, e: &'a Expr, list: &mut Vec<PartRef<'a>>) -> Result<(), NoMemory>
-    ensures { OnOk result (map part_of list.new.items
-        ≡ put_selector (expr_of base.now) (expr_of e.now) (map part_of list.old.items)) }
-{
-    if matches!(base, Expr::Ident { .. }) {
-        put_expr(e, list)?;
-    }
-    Ok(())
-}
+use crate::possible_uses::written::{inner_written, keys_written};
+use go_tree::{ElemList, Expr, ExprList, NoMemory, TypeExpr, Value};
 
 #[cycle(tree_parts)]
 pub(crate) fn expr_parts<'a>(e: &'a Expr, list: &mut Vec<PartRef<'a>>) -> Result<(), NoMemory>
@@ -33,11 +23,11 @@ pub(crate) fn expr_parts<'a>(e: &'a Expr, list: &mut Vec<PartRef<'a>>) -> Result
         Expr::IntLit { .. } | Expr::RuneLit { .. } | Expr::StrLit { .. } => Ok(()),
         Expr::Composite { of, elems, .. } => {
             type_parts(of, list)?;
-            elems_parts(elems, list)
+            elems_parts(elems, Some(of), list)
         }
         Expr::Selector { base, .. } => {
             expr_parts(base, list)?;
-            put_selector(base, e, list)
+            put_expr(e, list)
         }
         Expr::Index { base, at, .. } => {
             expr_parts(base, list)?;
@@ -108,38 +98,51 @@ pub(crate) fn exprs_parts<'a>(
     Ok(())
 }
 
+/// The elements of a literal whose type is written so.
 #[cycle(tree_parts)]
-fn elems_parts<'a>(elems: &'a ElemList, list: &mut Vec<PartRef<'a>>) -> Result<(), NoMemory>
+fn elems_parts<'a>(
+    elems: &'a ElemList,
+    of: Option<&TypeExpr>,
+    list: &mut Vec<PartRef<'a>>,
+) -> Result<(), NoMemory>
     ensures { OnOk result (map part_of list.new.items
-        ≡ after_elems (elems_of elems.now) (map part_of list.old.items)) }
+        ≡ after_elems (written_of of.entry) (elems_of elems.now) (map part_of list.old.items)) }
 {
     for elem in elems.items() {
-        key_parts(&elem.key, list)?;
-        value_parts(&elem.value, list)?;
+        key_parts(&elem.key, of, list)?;
+        value_parts(&elem.value, inner_written(of), list)?;
     }
     Ok(())
 }
 
 /// A key; a name may be that of a field.
 #[cycle(tree_parts)]
-fn key_parts<'a>(key: &'a Option<Value>, list: &mut Vec<PartRef<'a>>) -> Result<(), NoMemory>
+fn key_parts<'a>(
+    key: &'a Option<Value>,
+    of: Option<&TypeExpr>,
+    list: &mut Vec<PartRef<'a>>,
+) -> Result<(), NoMemory>
     ensures { OnOk result (map part_of list.new.items
-        ≡ after_key (held_value_option_of key.now) (map part_of list.old.items)) }
+        ≡ after_key (written_of of.entry) (held_value_option_of key.now) (map part_of list.old.items)) }
 {
     match key {
         None => Ok(()),
-        Some(Value::Plain(e @ Expr::Ident { .. })) => put_key(e, list),
-        Some(key) => value_parts(key, list),
+        Some(Value::Plain(e @ Expr::Ident { .. })) => put_key_of(e, of, list),
+        Some(key) => value_parts(key, keys_written(of), list),
     }
 }
 
 #[cycle(tree_parts)]
-fn value_parts<'a>(value: &'a Value, list: &mut Vec<PartRef<'a>>) -> Result<(), NoMemory>
+fn value_parts<'a>(
+    value: &'a Value,
+    of: Option<&TypeExpr>,
+    list: &mut Vec<PartRef<'a>>,
+) -> Result<(), NoMemory>
     ensures { OnOk result (map part_of list.new.items
-        ≡ after_value (value_of value.now) (map part_of list.old.items)) }
+        ≡ after_value (written_of of.entry) (value_of value.now) (map part_of list.old.items)) }
 {
     match value {
         Value::Plain(e) => expr_parts(e, list),
-        Value::Braced { elems, .. } => elems_parts(elems, list),
+        Value::Braced { elems, .. } => elems_parts(elems, of, list),
     }
 }

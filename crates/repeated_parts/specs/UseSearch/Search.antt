@@ -46,5 +46,6 @@ pub record IsFileSearch
     (free : Option FoundForm) : Type 0 where
   pub uses : List MarkedUse
   pub are_all :
-      map placed_of uses ≡ decls_uses (λ s. s) ps marks (names_of f) (numbered (file_of f.tree.now).decls)
+      map placed_of uses
+      ≡ decls_uses (λ s. s) ps marks (names_of f) p.types.now (numbered (file_of f.tree.now).decls)
   pub searched : IsSearched p f uses kept free

@@ -10,6 +10,7 @@ ghost use Rattle.run_rules.specs.Sites as sites;
 ghost use Rattle.module_marks.specs.Tables as marks_table;
 ghost use Rattle.repeated_parts.specs.UseSearch.Search.{IsLooked, IsSearched, IsFileSearch};
 
+use crate::literal_types::TypeScopes;
 use crate::use_search::answers::answer;
 use crate::use_search::uses_of_marks::{MarkedUse, marked_uses};
 use crate::use_search::views::{FileView, ProgramView};
@@ -105,12 +106,15 @@ pub fn search_file(
     ensures { IfOk result (λ s. (ps : List (pure.Package Span)) (ms : List sites.MarkRef)
         → marks_table.IsTableOf ps ms marks.now → IsFileSearch ps ms program.now file.now s.kept.items s.free) }
 {
-    let names = FileScopes {
-        scopes: file.scopes,
-        home: file.home,
-        imports: file.imports,
+    let scopes = TypeScopes {
+        file: FileScopes {
+            scopes: file.scopes,
+            home: file.home,
+            imports: file.imports,
+        },
+        types: program.types,
     };
-    let uses = marked_uses(alloc, marks, &names, file.tree.decls.items())?;
+    let uses = marked_uses(alloc, marks, &scopes, file.tree.decls.items())?;
     let found = search_uses(alloc, program, file, &uses)?;
     Ok(found)
 }

@@ -1,5 +1,6 @@
 //! What a search looks at.
 
+use crate::literal_types::LiteralTypes;
 use crate::use_search::mark_values::ConstantValues;
 use go_tree::scope_names::FileNames;
 use go_tree::{Comment, FileTree};
@@ -18,9 +19,10 @@ pub struct FileView<'a> {
     pub imports: &'a [usize],
 }
 
-/// The packages of a program by their numbers, and what its marked constants are declared as.
+/// The packages of a program by their numbers, what its marked constants are declared as, and the types that it declares.
 #[derive(Clone, Copy)]
 pub struct ProgramView<'a> {
     pub packages: &'a [Package],
     pub values: &'a ConstantValues,
+    pub types: &'a LiteralTypes,
 }

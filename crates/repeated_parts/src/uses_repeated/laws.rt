@@ -8,8 +8,8 @@ ghost use Rattle.repeated_parts.specs.UsesRepeated.Laws.{RepeatedUsesAreSites};
 
 /// In a program whose marks are all of constants, the uses of marked members among the parts of a declaration, each
 /// with its flag, are its sites, each with whether a later member of a group of constants in a function repeats the
-/// expression in which it stands (Go specification, Constant declarations), in the same order, but that a key that
-/// names a field is none. So no more has to be known where no key is the name of a marked member.
+/// expression in which it stands (Go specification, Constant declarations), in the same order, where the table of
+/// declared types tells which keys of composite literals name fields.
 /// So it is in a file as read (`read`), and in one as a run leaves it (`standing`).
 pub fn repeated_uses_are_sites()
     ensures read { RepeatedUsesAreSites Span (λ s. s) (λ f. f) }

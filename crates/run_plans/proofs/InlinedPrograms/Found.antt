@@ -5,7 +5,6 @@ use Rattle.std.proofs.lemmas.Option.{same_Some}
 use Rattle.go_tree.specs.declared.spans.Span.{Span}
 use Rattle.go_tree.specs.File.{Decl, File}
 use Rattle.go_tree.specs.GoTypes.Answers.{given}
-use Rattle.member_uses.specs.Uses.{Names}
 use Rattle.next_file.specs.Limits.{ComesNext}
 use Rattle.next_file.specs.declared.limits.Progress.{Progress}
 use Rattle.stepped_programs.specs.declared.package_search.looks.ProgramSources.{ProgramSources}
@@ -37,17 +36,16 @@ use Rattle.stepped_programs.proofs.FirstUses.MadeSteps.{a_view}
 use Rattle.stepped_programs.proofs.SearchedSites.SettledFiles.Packages.{placed}
 use Rattle.printed_constants.specs.TypedParts.MarkedRuns.PutForms.Uses.{IsFirstUse, UsesNamedConstant}
 use Rattle.programs.specs.OriginsOfUses.Origins.{decls_origin}
-use Rattle.repeated_parts.specs.UseSearch.Answers.{names_of}
 use Rattle.repeated_parts.specs.UseSearch.UsesOfMarks.Laws.{IsSound, EachSound}
 use Rattle.repeated_parts.specs.UseSearch.UsesOfMarks.Uses.{PlacedMark}
 use Rattle.repeated_parts.specs.declared.use_search.views.FileView.{FileView}
 use Rattle.run_plans.specs.InlinedPrograms.Beginnings.{Beginning, marks_in}
 
 -- what is asked of each declaration is asked of one
-nth_sound : (ps : List (Package At)) (marks : List MarkRef) (w : Where At) (f : Names) (ds : List (Decl At)) (i : ℕ) (d : Decl At) → slice_get ds i ≡ Some d → EachSound ps marks w f ds → IsSound ps marks w f d
-nth_sound ps marks w f [] i d e h = absurd cc
-nth_sound ps marks w f (x ∷ ds) zero d e h = subst (λ (y : Decl At). IsSound ps marks w f y) (same_Some x d e) h.0
-nth_sound ps marks w f (x ∷ ds) (suc i) d e h = nth_sound ps marks w f ds i d e h.1
+nth_sound : (ps : List (Package At)) (w : Where At) (ds : List (Decl At)) (i : ℕ) (d : Decl At) → slice_get ds i ≡ Some d → EachSound ps w ds → IsSound ps w d
+nth_sound ps w [] i d e h = absurd cc
+nth_sound ps w (x ∷ ds) zero d e h = subst (λ (y : Decl At). IsSound ps w y) (same_Some x d e) h.0
+nth_sound ps w (x ∷ ds) (suc i) d e h = nth_sound ps w ds i d e h.1
 
 -- the file of a use, as it was read
 abbrev pub view_of : (p : Program) (u : FirstUse) → HasFileOf p u → FileView
@@ -118,8 +116,8 @@ module _ (b : Beginning) (done : List Logged) (st : Standing) (p : Program) (s :
     decl_there : slice_get a.site.at.source.tree.decls a.site.decl ≡ Some decl
     decl_there = ap (λ (y : Found At). slice_get y.site.at.source.tree.decls y.site.decl) (sym same_found) ∙ (placed (marks_in b) st row n.after n.next).decl_is
 
-    sound : IsSound st.packages (marks_in b) a.site.at (names_of a.view) decl
-    sound = nth_sound st.packages (marks_in b) a.site.at (names_of a.view) a.site.at.source.tree.decls a.site.decl decl decl_there a.is_file.sound
+    sound : IsSound st.packages a.site.at decl
+    sound = nth_sound st.packages a.site.at a.site.at.source.tree.decls a.site.decl decl decl_there a.is_file.sound
 
     contained : StepsMakeForms → Contains (sites st.packages (marks_in b)) a.site
     contained makes = subst (λ (y : Found At). Contains (sites st.packages (marks_in b)) y.site) same_found (makes (marks_in b) st row n.after n.next).is_use

@@ -11,6 +11,7 @@ as_sources p =
       places = record { ref_ptr = (0, 0); now = p.places };
       marks = record { ref_ptr = (0, 0); now = p.marks };
       values = record { ref_ptr = (0, 0); now = p.values };
+      types = record { ref_ptr = (0, 0); now = p.types };
     }
 
 pub are_sources : (p : Program) → AreSourcesOf p (as_sources p)

@@ -1,14 +1,10 @@
 -- With the file of a step put in, the next program stands on the way.
 use Rattle.std.proofs.Common.{◌≡◌, ◌∙◌, sym, ap, subst, ℕ, ◌+◌, ◌≤◌, List, Some, None, length, is_some}
-use Rattle.std.specs.Prelude.{slice_get}
 use Rattle.std.proofs.lemmas.Option.{same_Some}
 use Rattle.go_tree.specs.FileView.{file_of}
 use Rattle.go_tree.specs.declared.spans.Span.{Span}
 use Rattle.pkg_graph.specs.Package as pure
 use Rattle.pkg_graph.specs.Reads.{Source}
-use Rattle.printed_constants.specs.TypedParts.MarkedRuns.KeptMarks.Over.{IsOverName}
-use Rattle.printed_constants.proofs.TypedParts.MarkedRuns.NamedMarks.Used.{named-used}
-use Rattle.printed_constants.specs.Uses.{UsesConstant}
 use Rattle.next_file.specs.declared.file.NewFile.{NewFile}
 use Rattle.next_file.specs.declared.limits.Progress.{Progress}
 use Rattle.next_file.specs.Files.{text_of}
@@ -18,25 +14,20 @@ use Rattle.stepped_programs.specs.declared.package_search.search.FoundInPackage.
 use Rattle.printed_constants.specs.CountedNames.Laws.{StepsStayWithinTotal}
 use Rattle.printed_constants.specs.PrintedSteps.Laws.{StepsAreOverNames, PrintedStepsKeep}
 use Rattle.printed_constants.specs.PrintedSteps.Programs.{IsPrintedProgram}
-use Rattle.printed_constants.specs.QualifiedDots.Laws.{PrintedUsesAreUndotted}
 use Rattle.run_by_steps.specs.NextPrograms.Made.{NextWith}
 use Rattle.run_by_steps.specs.Reached.{row_of}
 use Rattle.run_by_steps.specs.RunProgress.Laws.{HasCome, StepsComeNext}
-use Rattle.run_rules.specs.Forms.{is_at}
 use Rattle.run_rules.specs.Marks.{marks_of, text_at}
-use Rattle.run_rules.specs.Programs.{decl_seen}
 use Rattle.run_rules.specs.Run.{Standing, Logged, module_file_size, texts_size, the_limits, passed}
 use Rattle.run_rules.specs.Sites.{MarkRef, part_span}
-use Rattle.run_rules.specs.Steps.{At, same_here, Found}
+use Rattle.run_rules.specs.Steps.{At, Found}
 use Rattle.run_rules.specs.Texts.{FileText}
-use Rattle.printed_constants.specs.TypedParts.StandingUses.ImportUses.Parts.{EachSeen}
 use Rattle.run_by_steps.specs.StepCounts.Laws.{OneMore, StepsAreCounted}
 use Rattle.stepped_programs.specs.FirstUses.StepLaws.{FoundFilesStand, ComesTo, text_there}
-use Rattle.stepped_programs.specs.Laws.{place_of, IsOfStep, IsUndotted, FoundUsesArePut, StepsKeepPrograms, StepsKeepSettled}
+use Rattle.stepped_programs.specs.Laws.{place_of, IsOfStep, FoundUsesArePut, StepsKeepPrograms, StepsKeepSettled}
 use Rattle.stepped_programs.specs.SearchedSites.FoundSteps.Laws.{step_of}
 use Rattle.stepped_programs.specs.SearchedSites.OrderedSearches.Found.{IsFoundFirst}
 use Rattle.stepped_programs.specs.SearchedSites.PrintedSearches.Laws.{PrintedFilesAreSearchable}
-use Rattle.stepped_programs.specs.SearchedSites.SwappedParts.Swaps.{HasNoDot}
 use Rattle.stepped_programs.specs.SteppedValues.Flags.{IsKeptProgram}
 use Rattle.stepped_programs.specs.ProgramsOnTheWay.Laws.{StepsStayOnTheWay, BlocksStayOnTheWay}
 use Rattle.stepped_programs.specs.ProgramsOnTheWay.OnTheWay.{IsOnTheWay}
@@ -58,13 +49,6 @@ module _ (files : List Source) (marks : List MarkRef) (st : Standing) (s : Progr
   same : n.next.found ≡ step_of a
   same = same_Some n.next.found (step_of a) (sym n.next.is_first ∙ a.is_first)
 
-  undotted : StepsAreOverNames → PrintedUsesAreUndotted → IsUndotted st a.site
-  undotted over uses d de =
-      let o : IsOverName n.next = over files marks st row n.after n.next program in
-      let c : UsesConstant n.next = named-used marks st row n.after n.next o.old o.part program.named in
-      subst (λ (g : Found At). slice_get g.site.at.source.tree.decls g.site.decl ≡ Some d → EachSeen (HasNoDot (is_at same_here (part_span g.site.part))) (decl_seen st.packages g.site.at.number g.site.at.of g.site.at.source.tree d)) same
-      (λ e. uses marks st row n.after n.next program.ready program.printed c.name c.value o.old c.declared o.part d e) de
-
   -- it passes no limit
   within : StepsComeNext → (done : List Logged) (progress : Progress) → text_at a.site.at.source.path st.texts ≡ Some old → HasCome progress files done row st old → Passes progress (text_of f) None
       → passed the_limits files done row n.next.new n.after.texts ≡ None
@@ -74,23 +58,23 @@ module _ (files : List Source) (marks : List MarkRef) (st : Standing) (s : Progr
       subst (λ (t : FileText). passed the_limits files done row t n.after.texts ≡ None) (sym n.text_is)
       (passes files done row n.after.texts (record { steps = c.steps; steps_of_use = c.steps_of_use; bytes = c.bytes ∙ ap (λ (t : FileText). progress.other_bytes + length t.text) n.text_is }))
 
-pub is_of : FoundFilesStand → PrintedUsesAreUndotted → StepsAreOverNames → StepsStayWithinTotal → FoundUsesArePut → StepsComeNext → (files : List Source) (ps : List (pure.Package Span)) (texts : List (List ℕ × FileText)) (only : List ℕ) (done : List Logged)
+pub is_of : FoundFilesStand → StepsStayWithinTotal → FoundUsesArePut → StepsComeNext → (files : List Source) (ps : List (pure.Package Span)) (texts : List (List ℕ × FileText)) (only : List ℕ) (done : List Logged)
     (st : Standing) (p : Program) (s : ProgramSources) (c : StepCounts) (u : FirstUse) (a : IsFoundFirst (marks_of ps texts only) st s u.home u.found) (progress : Progress) (step : FileStep)
     → IsOnTheWay files ps texts only done st p s c → ComesTo files ps texts only done st p s u a progress → (made : IsUseStep p u progress step)
     → (n : NextWith (marks_of ps texts only) st (step_of a) (text_there made.file) (text_of step.file) (file_of step.file.tree)) → (os : List Span)
     → AreSwapped p (place_of u.home u.found) (is_some u.found.found.form.«package») u.found.found.form.span os
     → IsOfStep n.next (place_of u.home u.found) os u.found.tables.names.«package» step.file
-is_of stand uses over total are_put come files ps texts only done st p s c u a progress step o comes made n os swapped =
+is_of stand total are_put come files ps texts only done st p s c u a progress step o comes made n os swapped =
     let marks : List MarkRef = marks_of ps texts only in
     let old : FileText = text_there made.file in
     let right = comes.right made.file in
     let there = (stand files marks st p s u a made.file made.view o.kept made.is_view).there in
     let fits = within files marks st s u.home u.found a old step.file n o.printed come done progress there (comes.come made.file) made.within in
     let small : length step.file.text ≤ 4194304 = subst (λ (x : FileText). length x.text ≤ 4194304) n.text_is (total files done (row_of marks st (step_of a) old) n.next.new n.after.texts fits).0 in
-    are_put files marks st s u.home u.found a old step.file n p os right.expr o.kept.is_program right.part (undotted files marks st s u.home u.found a old step.file n o.printed over uses) small swapped
+    are_put files marks st s u.home u.found a old step.file n p os right.expr o.kept.is_program right.part small swapped
 
-pub stay_on : FoundFilesStand → PrintedUsesAreUndotted → PrintedFilesAreSearchable → StepsAreOverNames → PrintedStepsKeep → StepsStayWithinTotal → FoundUsesArePut → StepsComeNext → StepsAreCounted → StepsKeepPrograms → StepsKeepSettled → StepsStayOnTheWay
-stay_on stand uses searchable over keeps total are_put come count keep settle files ps texts only done st p q s t c d u a progress step o comes made n reached os swapped put sources more =
+pub stay_on : FoundFilesStand → PrintedFilesAreSearchable → StepsAreOverNames → PrintedStepsKeep → StepsStayWithinTotal → FoundUsesArePut → StepsComeNext → StepsAreCounted → StepsKeepPrograms → StepsKeepSettled → StepsStayOnTheWay
+stay_on stand searchable over keeps total are_put come count keep settle files ps texts only done st p q s t c d u a progress step o comes made n reached os swapped put sources more =
     let marks : List MarkRef = marks_of ps texts only in
     let old : FileText = text_there made.file in
     let l : Logged = row_of marks st (step_of a) old in
@@ -98,7 +82,7 @@ stay_on stand uses searchable over keeps total are_put come count keep settle fi
     let fits = within files marks st s u.home u.found a old step.file n o.printed come done progress there (comes.come made.file) made.within in
     let program : IsPrintedProgram files marks n.after = keeps files marks done st l n.after n.next o.printed fits in
     let is : IsOfStep n.next (place_of u.home u.found) os u.found.tables.names.«package» step.file =
-    is_of stand uses over total are_put come files ps texts only done st p s c u a progress step o comes made n os swapped in
+    is_of stand total are_put come files ps texts only done st p s c u a progress step o comes made n os swapped in
     let kept : IsKeptProgram files marks n.after q t =
     record {
       is_program = keep files marks st l n.after n.next (place_of u.home u.found) os u.found.tables.names.«package» step.file p q o.kept.is_program o.printed.apart is put;
@@ -120,8 +104,8 @@ stay_on stand uses searchable over keeps total are_put come count keep settle fi
           (subst (λ (g : Found At). OneMore c d (g.site.at.number, (g.site.at.file_number, (part_span a.site.part).origin.start))) (sym (same files marks st s u.home u.found a old step.file n o.printed)) more);
     }
 
-pub blocks_stay_on : FoundFilesStand → PrintedUsesAreUndotted → StepsAreOverNames → StepsStayWithinTotal → FoundUsesArePut → StepsComeNext → BlocksStayOnTheWay
-blocks_stay_on stand uses over total are_put come files ps texts only done st p q s c u a progress step o comes made n os swapped put home there =
+pub blocks_stay_on : FoundFilesStand → StepsStayWithinTotal → FoundUsesArePut → StepsComeNext → BlocksStayOnTheWay
+blocks_stay_on stand total are_put come files ps texts only done st p q s c u a progress step o comes made n os swapped put home there =
     let marks : List MarkRef = marks_of ps texts only in
     block_put files marks st (row_of marks st (step_of a) (text_there made.file)) n.after n.next (place_of u.home u.found) os u.found.tables.names.«package» step.file p q o.kept.is_program
-    (is_of stand uses over total are_put come files ps texts only done st p s c u a progress step o comes made n os swapped) put home there
+    (is_of stand total are_put come files ps texts only done st p s c u a progress step o comes made n os swapped) put home there

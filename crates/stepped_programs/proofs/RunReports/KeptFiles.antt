@@ -35,7 +35,6 @@ use Rattle.constant_forms.specs.Views.{obstacle_of}
 use Rattle.constant_steps.specs.PlaceMeanings.Parts.{AllScoped}
 use Rattle.file_names.specs.Members.{IsBlockOf}
 use Rattle.member_uses.specs.Laws.{is_constant}
-use Rattle.member_uses.specs.Uses.{Names}
 use Rattle.repeated_parts.specs.UseSearch.Answers.{names_of}
 use Rattle.repeated_parts.specs.UseSearch.UsesOfMarks.Laws.{EachSite, EachSound, IsSound, IsPlaced, UsesArePlaced}
 use Rattle.repeated_parts.specs.UseSearch.UsesOfMarks.Uses.{PlacedMark}
@@ -84,10 +83,10 @@ same_origins : (ds : List (Decl At)) → as_kept.decls_origins ds ≡ as_told.de
 same_origins [] = refl
 same_origins (d ∷ ds) = λ v. sym (map_both (parts_of d)) v ∷ same_origins ds v
 
-nth_sound : (ps : List (pure.Package At)) (marks : List MarkRef) (w : Where At) (f : Names) (ds : List (Decl At)) (i : ℕ) (d : Decl At) → slice_get ds i ≡ Some d → EachSound ps marks w f ds → IsSound ps marks w f d
-nth_sound ps marks w f [] i d e h = absurd cc
-nth_sound ps marks w f (x ∷ ds) zero d e h = subst (λ (y : Decl At). IsSound ps marks w f y) (same_Some x d e) h.0
-nth_sound ps marks w f (x ∷ ds) (suc i) d e h = nth_sound ps marks w f ds i d e h.1
+nth_sound : (ps : List (pure.Package At)) (w : Where At) (ds : List (Decl At)) (i : ℕ) (d : Decl At) → slice_get ds i ≡ Some d → EachSound ps w ds → IsSound ps w d
+nth_sound ps w [] i d e h = absurd cc
+nth_sound ps w (x ∷ ds) zero d e h = subst (λ (y : Decl At). IsSound ps w y) (same_Some x d e) h.0
+nth_sound ps w (x ∷ ds) (suc i) d e h = nth_sound ps w ds i d e h.1
 
 constant_of : (o : Option (Inlinable At)) → meets o is_constant ≡ true → ConstantIn o
 constant_of None h = absurd cc
@@ -200,7 +199,8 @@ module _ (folder : List Source) (marks : List MarkRef) (st : Standing) (p : Prog
     known =
         each_two (λ x. IsPlaced ps marks w (names_of looked.look.view) x × HasDecl w.source.tree.decls x.decl) (Contains (sites_in_file marks st w)) (sites_in_file marks st w)
         (each_two (IsPlaced ps marks w (names_of looked.look.view)) (λ x. HasDecl w.source.tree.decls x.decl) (sites_in_file marks st w)
-        (placed ps marks w (names_of looked.look.view) (knows marks st w looked.look.program looked.look.view is_program right.is_file) is_held.constants right.is_file.sound)
+        (placed ps marks w (names_of looked.look.view) p.types (knows marks st w looked.look.program looked.look.view is_program right.is_file) is_held.constants right.is_file.sound
+        (right.is_file.told p.types))
         (sites_in_decls ps marks w))
         (each_contained (Contains (sites_in_file marks st w)) (sites_in_file marks st w) (λ x c. c))
 
@@ -243,8 +243,8 @@ module _ (folder : List Source) (marks : List MarkRef) (st : Standing) (p : Prog
       decl_is : slice_get x.at.source.tree.decls x.decl ≡ Some about.0.1.0
       decl_is = subst (λ (v : Where At). slice_get v.source.tree.decls x.decl ≡ Some about.0.1.0) at_file about.0.1.1
 
-      sound : IsSound ps marks w (names_of looked.look.view) about.0.1.0
-      sound = nth_sound ps marks w (names_of looked.look.view) w.source.tree.decls x.decl about.0.1.0 about.0.1.1 right.is_file.sound
+      sound : IsSound ps w about.0.1.0
+      sound = nth_sound ps w w.source.tree.decls x.decl about.0.1.0 about.0.1.1 right.is_file.sound
 
       expression : (e : Expr At) × (x.part ≡ an_expr e)
       expression = expressions ps marks printed.printed x (in_program x about.1)

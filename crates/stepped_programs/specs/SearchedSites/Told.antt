@@ -24,7 +24,8 @@ use Rattle.repeated_parts.specs.declared.use_search.mark_values.values.DeclaredV
 use Rattle.repeated_parts.specs.declared.use_search.mark_values.values.DeclaredValue.TheVariants.{Plain, Qualified}
 use Rattle.repeated_parts.specs.UseSearch.MarkValues.Values.{value_of}
 use Rattle.repeated_parts.specs.UseSearch.MarkValues.Tables.{value_in}
-use Rattle.repeated_parts.specs.UseSearch.UsesOfMarks.Laws.{EachSound}
+use Rattle.repeated_parts.specs.declared.literal_types.table.LiteralTypes.{LiteralTypes}
+use Rattle.repeated_parts.specs.UseSearch.UsesOfMarks.Laws.{EachSound, EachTold}
 use Rattle.repeated_parts.specs.declared.use_search.views.FileView.{FileView}
 use Rattle.repeated_parts.specs.declared.use_search.views.ProgramView.{ProgramView}
 use Rattle.repeated_parts.specs.UseSearch.Answers.{names_of}
@@ -55,7 +56,7 @@ pub record IsProgram (marks : List MarkRef) (st : Standing) (p : ProgramView) : 
 
 -- The file stands there in the program, and reads from its text; its tree, its comments, its names, the table of its
 -- scopes and the numbers of its imports are told; its identifiers, with the names to avoid, are fewer than 2^64. Its
--- declarations are as marked_uses asks.
+-- declarations are as marked_uses asks, whatever table tells which keys of composite literals name fields.
 pub record IsFile (marks : List MarkRef) (st : Standing) (w : Where At) (f : FileView) : Type 0 where
   pub home_is : f.home ≡ w.number
   pub there : slice_get st.packages w.number ≡ Some w.of
@@ -69,4 +70,5 @@ pub record IsFile (marks : List MarkRef) (st : Standing) (w : Where At) (f : Fil
   pub table : IsTableOf f.names.now (file_of f.tree.now) (table_of f.scopes.now)
   pub imports_are : f.imports.now ≡ map (λ s. package_number st.packages s.path) (import_specs w.source.tree)
   pub few_words : fuel_for w.source.tree (avoided (names_standing st.packages w) []) < 2 ^ 64
-  pub sound : EachSound st.packages marks w (names_of f) w.source.tree.decls
+  pub sound : EachSound st.packages w w.source.tree.decls
+  pub told : (t : LiteralTypes) → EachTold st.packages w (names_of f) t w.source.tree.decls

@@ -18,6 +18,7 @@ use module_marks::{MarkTable, ModuleMarks};
 use module_reading::ReadModule;
 use pkg_graph::Package;
 use programs::{PackageOrigins, Program, Users, package_texts, program_origins, program_values};
+use repeated_parts::literal_types::LiteralTypes;
 use repeated_parts::use_search::mark_values::ConstantValues;
 use std::alloc::Global;
 
@@ -96,6 +97,7 @@ pub fn load_program(
         marks,
         bad,
         values,
+        types: LiteralTypes::new(alloc),
         users: Users::new(alloc),
         bytes,
     }))

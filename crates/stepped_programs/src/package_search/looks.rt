@@ -12,18 +12,20 @@ use go_scan::Tokens;
 use go_tree::NoMemory;
 use module_marks::MarkTable;
 use pkg_graph::{Package, SourceTree};
+use repeated_parts::literal_types::LiteralTypes;
 use repeated_parts::use_search::mark_values::ConstantValues;
 use repeated_parts::use_search::{FileView, FoundForm, FoundObstacle, ProgramView, search_file};
 use std::alloc::Global;
 
 /// What a search is told of a program: its packages, where each stands by its path, which of their declarations are
-/// marked, and what marked constants are declared as.
+/// marked, what marked constants are declared as, and the types that they declare.
 #[derive(Clone, Copy)]
 pub struct ProgramSources<'a> {
     pub packages: &'a [Package],
     pub places: &'a Places,
     pub marks: &'a MarkTable,
     pub values: &'a ConstantValues,
+    pub types: &'a LiteralTypes,
 }
 
 /// What is found in a file: the uses that are kept, in their order, up to the first that is free; and the tables of the
@@ -65,6 +67,7 @@ pub fn look_at_file(
     let values = ProgramView {
         packages: program.packages,
         values: program.values,
+        types: program.types,
     };
     let found = search_file(alloc, &values, program.marks, &view)?;
     Ok(FileLook {

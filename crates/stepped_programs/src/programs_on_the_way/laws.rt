@@ -7,9 +7,7 @@ use crate::{
     printed_files_are_searchable, steps_go_on, steps_keep_programs, steps_keep_settled,
 };
 use printed_constants::declared_constants::declared_constants_name_constants;
-use printed_constants::{
-    printed_dots_are_qualified, printed_steps_avoid_few_names, printed_steps_keep,
-};
+use printed_constants::{printed_steps_avoid_few_names, printed_steps_keep};
 use run_by_steps::progress_follows_steps;
 use run_by_steps::step_counts::{counts_come, steps_are_counted};
 
@@ -48,7 +46,6 @@ pub fn steps_stay_on_the_way()
     ensures blocks { law.BlocksStayOnTheWay }
 {
     found_uses_may_step();
-    printed_dots_are_qualified();
     printed_files_are_searchable();
     printed_steps_keep();
     printed_steps_avoid_few_names();

@@ -66,6 +66,7 @@ fn look_at(
         places: &program.places,
         marks: &program.marks,
         values: &program.values,
+        types: &program.types,
     };
     let look = look_at_file(alloc, &sources, home, source, tokens, block)?;
     if look.free.is_some() {

@@ -2,7 +2,7 @@ use Rattle.std.proofs.Common.{◌≡◌, drop, map}
 use Rattle.go_tree.specs.View.{expr_of, elem_of, stmt_of, arm_of, case_of, const_spec_of, var_spec_of}
 use Rattle.go_tree.specs.Lists.{exprs_from, elems_from, stmts_from, arms_from, cases_from, specs_from}
 use Rattle.member_uses.specs.PossibleUses.Parts.{after_exprs, after_elems, after_stmts, after_arms, after_cases, after_specs}
-use Rattle.member_uses.specs.PossibleUses.Views.{part_of}
+use Rattle.member_uses.specs.PossibleUses.Views.{part_of, written_of}
 use Rattle.member_uses.proofs.possible_uses.+tree_parts.Given as goal
 
 abbrev pub invariant-exprs::exprs_parts-loop-expr : goal.invariant-exprs::exprs_parts-loop-expr
@@ -12,8 +12,8 @@ invariant-exprs::exprs_parts-loop-expr l =
 
 abbrev pub invariant-exprs::elems_parts-loop-elem : goal.invariant-exprs::elems_parts-loop-elem
 invariant-exprs::elems_parts-loop-elem l =
-    after_elems (elems_from (map elem_of (drop l.elem-index l.elem-items))) (map part_of l.list.items)
-    ≡ after_elems (elems_from (map elem_of l.elem-items)) (map part_of l.initial.list.items)
+    after_elems (written_of l.of) (elems_from (map elem_of (drop l.elem-index l.elem-items))) (map part_of l.list.items)
+    ≡ after_elems (written_of l.of) (elems_from (map elem_of l.elem-items)) (map part_of l.initial.list.items)
 
 abbrev pub invariant-stmts::stmts_parts-loop-stmt : goal.invariant-stmts::stmts_parts-loop-stmt
 invariant-stmts::stmts_parts-loop-stmt l =

@@ -9,6 +9,8 @@ use Rattle.run_rules.specs.Sites.{MarkRef, is_among_marks, member_of, marked}
 use Rattle.member_uses.specs.PossibleUses.Parts.{parts_of}
 use Rattle.member_uses.specs.Uses.{Used, Names}
 use Rattle.member_uses.specs.Laws.{mark_used}
+use Rattle.repeated_parts.specs.declared.literal_types.table.LiteralTypes.{LiteralTypes}
+use Rattle.repeated_parts.specs.LiteralTypes.Tables.{numbers_in}
 use Rattle.repeated_parts.specs.Flags.{flags_of}
 use Rattle.repeated_parts.specs.UsesRepeated.Uses.{flagged_uses}
 use Rattle.repeated_parts.specs.UsesRepeated.Laws.{flagged_marks}
@@ -41,8 +43,8 @@ module _ {S : Type 0} (ps : List (Package S)) (marks : List MarkRef) where
   used_marked i [] = tt
   used_marked i (u ∷ us) = one_marked i u us (mark_used ps marks u.0) refl (used_marked i us)
 
-  pub decls_marked : (f : Names) (ds : List (ℕ × Decl Span)) → AllMarked marks (decls_uses (λ s. s) ps marks f ds)
-  decls_marked f [] = tt
-  decls_marked f (d ∷ ds) =
-      marked_append marks (decl_uses (λ s. s) ps marks f d) (decls_uses (λ s. s) ps marks f ds)
-      (used_marked d.0 (flagged_uses (λ s. s) f (parts_of d.1) (flags_of d.1))) (decls_marked f ds)
+  pub decls_marked : (f : Names) (t : LiteralTypes) (ds : List (ℕ × Decl Span)) → AllMarked marks (decls_uses (λ s. s) ps marks f t ds)
+  decls_marked f t [] = tt
+  decls_marked f t (d ∷ ds) =
+      marked_append marks (decl_uses (λ s. s) ps marks f t d) (decls_uses (λ s. s) ps marks f t ds)
+      (used_marked d.0 (flagged_uses (λ s. s) f (parts_of d.1) (flags_of (numbers_in (λ s. s) f t) d.1))) (decls_marked f t ds)

@@ -17,12 +17,15 @@ use Rattle.member_uses.proofs.PlacesMean.{places_mean}
 use Rattle.member_uses.specs.PossibleUses.Parts.{parts_of}
 use Rattle.member_uses.specs.Uses.{Used, Names}
 use Rattle.member_uses.specs.Laws.{AllConstants, Knows}
+use Rattle.repeated_parts.specs.declared.literal_types.table.LiteralTypes.{LiteralTypes}
+use Rattle.repeated_parts.specs.LiteralTypes.Tables.{numbers_in}
+use Rattle.repeated_parts.specs.LiteralTypes.Told.{FieldsTold}
 use Rattle.repeated_parts.specs.Flags.{flags_of}
 use Rattle.repeated_parts.specs.Along.{is_again}
 use Rattle.repeated_parts.specs.UsesRepeated.Uses.{flagged_uses}
 use Rattle.repeated_parts.specs.UsesRepeated.Laws.{site_flags, RepeatedUsesAreSites}
 use Rattle.repeated_parts.specs.UseSearch.UsesOfMarks.Uses.{PlacedMark, in_decl, placed_in, decl_uses, decls_uses}
-use Rattle.repeated_parts.specs.UseSearch.UsesOfMarks.Laws.{IsSound, EachSound, placed_site, placed_sites, EachSite, MarkedUsesAreSites, IsPlaced, UsesArePlaced}
+use Rattle.repeated_parts.specs.UseSearch.UsesOfMarks.Laws.{IsSound, EachSound, EachTold, placed_site, placed_sites, EachSite, MarkedUsesAreSites, IsPlaced, UsesArePlaced}
 use Rattle.repeated_parts.proofs.UseSearch.UsesOfMarks.BlocksStay.{marks_stay}
 use Rattle.repeated_parts.proofs.UseSearch.UsesOfMarks.Among.{AllMarked, decls_marked}
 use Rattle.repeated_parts.proofs.UseSearch.UsesOfMarks.UsesStay.{flagged_stay}
@@ -74,7 +77,7 @@ all_from : (ds : List (Decl At)) → AreFrom ds 0 ds
 all_from ds = λ j d h. let e : j ≡ 0 + j = omega arith in subst (λ (n : ℕ). slice_get ds n ≡ Some d) e h
 
 module _ (ps : List (Package At)) (marks : List MarkRef) (w : Where At) (f : Names) (k : Knows here_of (file_with here_of) ps w f) where
-  agreeing : (i : ℕ) (d : Decl At) → slice_get w.source.tree.decls i ≡ Some d → IsSound ps marks w f d
+  agreeing : (i : ℕ) (d : Decl At) → slice_get w.source.tree.decls i ≡ Some d → IsSound ps w d
       → AtParts here_of (AgreesAt ps w f.table) (decl_seen ps w.number w.of w.source.tree d)
   agreeing i d there s = places_mean At here_of ps w k.text k.names f.table i d k.reads k.told k.table there s.scoped
 
@@ -83,20 +86,20 @@ module _ (ps : List (Package At)) (marks : List MarkRef) (w : Where At) (f : Nam
 
   -- ---- the uses are the sites
 
-  module _ (law : RepeatedUsesAreSites At here_of (file_with here_of)) (c : AllConstants ps marks) where
-    one_decl : (i : ℕ) (d : Decl At) → slice_get w.source.tree.decls i ≡ Some d → IsSound ps marks w f d
-        → decl_uses (λ s. s) (packages_with here_of ps) marks f (i, decl_with here_of d) ≡ placed_sites (uses_of i d)
-    one_decl i d there s =
-        ap (λ (us : List (Used × Bool)). placed_in (packages_with here_of ps) marks i us) (flagged_stay here_of f d)
-        ∙ ap (in_decl i) (marks_stay here_of ps marks (flagged_uses here_of f (parts_of d) (flags_of d)) ∙ sym ((law ps marks w f i d k c there s.scoped s.keyed).1 s.no_key))
+  module _ (law : RepeatedUsesAreSites At here_of (file_with here_of)) (c : AllConstants ps marks) (t : LiteralTypes) where
+    one_decl : (i : ℕ) (d : Decl At) → slice_get w.source.tree.decls i ≡ Some d → IsSound ps w d → FieldsTold (numbers_in here_of f t) (decl_seen ps w.number w.of w.source.tree d)
+        → decl_uses (λ s. s) (packages_with here_of ps) marks f t (i, decl_with here_of d) ≡ placed_sites (uses_of i d)
+    one_decl i d there s told =
+        ap (λ (us : List (Used × Bool)). placed_in (packages_with here_of ps) marks i us) (flagged_stay here_of f t d)
+        ∙ ap (in_decl i) (marks_stay here_of ps marks (flagged_uses here_of f (parts_of d) (flags_of (numbers_in here_of f t) d)) ∙ sym (law ps marks w f t i d k c there s.scoped s.keyed told))
         ∙ placed_is i (uses_of i d)
         (among_each ps marks w i (λ x. x.decl ≡ i) (AgreesAt ps w f.table) (λ p u x m a. refl) (decl_seen ps w.number w.of w.source.tree d) (agreeing i d there s))
 
-    from_decl : (i : ℕ) (ds : List (Decl At)) → AreFrom w.source.tree.decls i ds → EachSound ps marks w f ds
-        → decls_uses (λ s. s) (packages_with here_of ps) marks f (numbered_from i (decls_with here_of ds)) ≡ placed_sites (decls_sites ps marks w (numbered_from i ds))
-    from_decl i [] a s = refl
-    from_decl i (d ∷ ds) a s =
-        (λ v. one_decl i d (first_from w.source.tree.decls i d ds a) s.0 v ++ from_decl (suc i) ds (later_from w.source.tree.decls i d ds a) s.1 v)
+    from_decl : (i : ℕ) (ds : List (Decl At)) → AreFrom w.source.tree.decls i ds → EachSound ps w ds → EachTold ps w f t ds
+        → decls_uses (λ s. s) (packages_with here_of ps) marks f t (numbered_from i (decls_with here_of ds)) ≡ placed_sites (decls_sites ps marks w (numbered_from i ds))
+    from_decl i [] a s told = refl
+    from_decl i (d ∷ ds) a s told =
+        (λ v. one_decl i d (first_from w.source.tree.decls i d ds a) s.0 told.0 v ++ from_decl (suc i) ds (later_from w.source.tree.decls i d ds a) s.1 told.1 v)
         ∙ sym (map-append placed_site (uses_of i d) (decls_sites ps marks w (numbered_from (suc i) ds)))
 
   -- ---- each stands in the file
@@ -104,7 +107,7 @@ module _ (ps : List (Package At)) (marks : List MarkRef) (w : Where At) (f : Nam
   abbrev Stands : Site At → Type 0
   Stands x = (x.at ≡ w) × AgreesAt ps w f.table x.place (here_of (part_span x.part)).start
 
-  stand_from : (i : ℕ) (ds : List (Decl At)) → AreFrom w.source.tree.decls i ds → EachSound ps marks w f ds
+  stand_from : (i : ℕ) (ds : List (Decl At)) → AreFrom w.source.tree.decls i ds → EachSound ps w ds
       → EachSite Stands (decls_sites ps marks w (numbered_from i ds))
   stand_from i [] a s = tt
   stand_from i (d ∷ ds) a s =
@@ -118,10 +121,10 @@ module _ (ps : List (Package At)) (marks : List MarkRef) (w : Where At) (f : Nam
   placed_all (x ∷ xs) h k = (record { there = h.0.0; agrees = h.0.1; is_marked = k.0 }, placed_all xs h.1 k.1)
 
 pub uses_are_sites : RepeatedUsesAreSites At here_of (file_with here_of) → MarkedUsesAreSites
-uses_are_sites law ps marks w f k c s = from_decl ps marks w f k law c 0 w.source.tree.decls (all_from w.source.tree.decls) s
+uses_are_sites law ps marks w f t k c s told = from_decl ps marks w f k law c t 0 w.source.tree.decls (all_from w.source.tree.decls) s told
 
 pub uses_placed : RepeatedUsesAreSites At here_of (file_with here_of) → UsesArePlaced
-uses_placed law ps marks w f k c s =
+uses_placed law ps marks w f t k c s told =
     placed_all ps marks w f k (decls_sites ps marks w (numbered w.source.tree.decls)) (stand_from ps marks w f k 0 w.source.tree.decls (all_from w.source.tree.decls) s)
-    (subst (AllMarked marks) (uses_are_sites law ps marks w f k c s)
-    (decls_marked (packages_with here_of ps) marks f (numbered (decls_with here_of w.source.tree.decls))))
+    (subst (AllMarked marks) (uses_are_sites law ps marks w f t k c s told)
+    (decls_marked (packages_with here_of ps) marks f t (numbered (decls_with here_of w.source.tree.decls))))

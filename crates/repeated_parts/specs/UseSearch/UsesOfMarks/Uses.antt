@@ -7,7 +7,9 @@ use Rattle.pkg_graph.specs.Package.{Package}
 use Rattle.run_rules.specs.Sites.{MarkRef}
 use Rattle.member_uses.specs.PossibleUses.Parts.{parts_of}
 use Rattle.member_uses.specs.Uses.{Used, Names}
+use Rattle.repeated_parts.specs.declared.literal_types.table.LiteralTypes.{LiteralTypes}
 use Rattle.repeated_parts.specs.Flags.{flags_of}
+use Rattle.repeated_parts.specs.LiteralTypes.Tables.{numbers_in}
 use Rattle.repeated_parts.specs.UsesRepeated.Uses.{flagged_uses}
 use Rattle.repeated_parts.specs.UsesRepeated.Laws.{FlaggedMark, flagged_marks}
 
@@ -29,11 +31,12 @@ module _ {S : Type 0} (ps : List (Package S)) (marks : List MarkRef) where
   abbrev pub placed_in : ℕ → List (Used × Bool) → List PlacedMark
   placed_in i us = in_decl i (flagged_marks ps marks us)
 
--- `to` says where a node stands in the text.
-module _ {S P : Type 0} (to : S → Span) (ps : List (Package P)) (marks : List MarkRef) (f : Names) where
+-- `to` says where a node stands in the text; `t` has the declared types.
+module _ {S P : Type 0} (to : S → Span) (ps : List (Package P)) (marks : List MarkRef) (f : Names) (t : LiteralTypes)
+  where
   -- the uses of marked constants in a numbered declaration
   abbrev pub decl_uses : ℕ × Decl S → List PlacedMark
-  decl_uses d = placed_in ps marks d.0 (flagged_uses to f (parts_of d.1) (flags_of d.1))
+  decl_uses d = placed_in ps marks d.0 (flagged_uses to f (parts_of d.1) (flags_of (numbers_in to f t) d.1))
 
   -- those in numbered declarations
   abbrev pub decls_uses : List (ℕ × Decl S) → List PlacedMark

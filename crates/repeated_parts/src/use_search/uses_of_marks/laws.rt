@@ -7,7 +7,7 @@ use crate::repeated_uses_are_sites;
 /// In a program as it stands whose marks are all of constants, the uses of marked constants in a file are its sites: in
 /// the same order, each in its declaration, at its span, with its mark and whether a later member of a group repeats it
 /// (Go specification, Constant declarations). Asked of each declaration: what typing asks of literals of functions, of
-/// `for` statements and of keys, and that no key is the name of a marked constant.
+/// `for` statements and of keys, and that the table of declared types tells which keys name fields.
 pub fn marked_uses_are_sites()
     ensures { MarkedUsesAreSites }
 {

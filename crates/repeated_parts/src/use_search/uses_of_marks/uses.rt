@@ -13,10 +13,10 @@ ghost use Rattle.repeated_parts.specs.UsesRepeated.Views.{flagged_of};
 ghost use Rattle.repeated_parts.specs.UseSearch.UsesOfMarks.Uses.{PlacedMark, placed_if, placed_in, decl_uses, decls_uses};
 ghost use Rattle.repeated_parts.specs.UseSearch.UsesOfMarks.Views.{placed_of};
 
+use crate::literal_types::TypeScopes;
 use crate::{FlaggedUse, repeated_parts, repeated_uses};
 use file_names::MarkRef;
 use go_tree::{Decl, NoMemory, Span};
-use member_uses::FileScopes;
 use member_uses::possible_uses::decl_parts;
 use module_marks::MarkTable;
 use std::alloc::Global;
@@ -78,41 +78,42 @@ fn add_uses(
 fn add_decl(
     alloc: Global,
     table: &MarkTable,
-    file: &FileScopes,
+    scopes: &TypeScopes,
     number: usize,
     decl: &Decl,
     uses: &mut Vec<MarkedUse>,
 ) -> Result<(), NoMemory>
     ensures { OnOk result ((ps : List (pure.Package Span)) (marks : List sites.MarkRef) → IsTableOf ps marks table.now
         → map placed_of uses.new.items ≡ map placed_of uses.old.items
-        ++ decl_uses (λ s. s) ps marks (names_in file.now) (number, decl_of decl.now)) }
+        ++ decl_uses (λ s. s) ps marks (names_in scopes.now.file) scopes.now.types.now (number, decl_of decl.now)) }
 {
     let parts = decl_parts(alloc, decl)?;
-    let flags = repeated_parts(alloc, decl)?;
-    let found = repeated_uses(alloc, file, &parts, &flags)?;
+    let flags = repeated_parts(alloc, scopes, decl)?;
+    let found = repeated_uses(alloc, &scopes.file, &parts, &flags)?;
     add_uses(table, number, &found, uses)?;
     Ok(())
 }
 
 /// The uses of marked constants in the declarations of a file with these names, in the order in which a run looks at
 /// them: declaration by declaration, and in each by their ends (Go specification, Constant declarations; Declarations and
-/// scope). A name that is the key of an element counts as a use where the constant of that name is marked, though it may
-/// be that of a field (Composite literals). An error where memory is refused.
+/// scope). A name that is a key of a composite literal is no use where it names a field, as the table of declared types
+/// tells (Composite literals). An error where memory is refused.
 ///
-/// Linear in the declarations, with two look-ups for each part that may be a use.
+/// Linear in the declarations, with two look-ups for each part that may be a use, and one for each literal.
 pub fn marked_uses(
     alloc: Global,
     table: &MarkTable,
-    file: &FileScopes,
+    scopes: &TypeScopes,
     decls: &[Decl],
 ) -> Result<Vec<MarkedUse>, NoMemory>
     ensures { IfOk result (λ uses. (ps : List (pure.Package Span)) (marks : List sites.MarkRef)
         → IsTableOf ps marks table.now
-        → map placed_of uses.items ≡ decls_uses (λ s. s) ps marks (names_in file.now) (numbered (map decl_of decls.now))) }
+        → map placed_of uses.items
+        ≡ decls_uses (λ s. s) ps marks (names_in scopes.now.file) scopes.now.types.now (numbered (map decl_of decls.now))) }
 {
     let mut uses = Vec::new(alloc);
     for (number, decl) in decls.iter().enumerate() {
-        add_decl(alloc, table, file, number, decl, &mut uses)?;
+        add_decl(alloc, table, scopes, number, decl, &mut uses)?;
     }
     Ok(uses)
 }

@@ -79,5 +79,6 @@ files_told marks st w s source tokens block l x k =
       table = table marks st w s source tokens block l x k;
       imports_are = imports_are marks st w s source tokens block l x k;
       few_words = x.few_words;
-      sound = x.sound (names_of k.view) (knows marks st w s source tokens block l x k);
+      sound = x.sound;
+      told = λ t. x.told (names_of k.view) t (knows marks st w s source tokens block l x k);
     }

@@ -91,6 +91,7 @@ module _ (marks : List MarkRef) (st : Standing) (s : ProgramSources) (tokens : �
             block_is = ap (λ (p : pure.Package Span). map (λ (x : List ℕ × Target). x.0) (package_block 0 p)) view_is;
             few_words = q.few_words;
             sound = q.sound;
+            told = q.told;
           }
 
       module _ (tell : LooksTellFiles) (find : SearchesFindSites) where

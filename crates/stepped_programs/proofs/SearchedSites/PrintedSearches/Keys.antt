@@ -1,119 +1,70 @@
--- No key stands among the parts of constants and of functions that print them.
-use Rattle.std.proofs.Common.{◌≡◌, ℕ, suc, ◌+◌, refl, sym, subst, Bool, true, false, List, [], ◌∷◌, ◌++◌, Option, Some, None, arith}
+-- No composite literal stands among the parts of constants and of functions that print them.
+use Rattle.std.proofs.Common.{◌≡◌, ℕ, suc, ◌+◌, refl, sym, subst, List, [], ◌∷◌, Some, arith}
 use Rattle.std.specs.Prelude.{slice_get}
-use Rattle.go_tree.specs.declared.spans.Span.{Span}
-use Rattle.go_tree.specs.declared.exprs.Rest.TheVariants.{Plain}
-use Rattle.go_tree.specs.Tree.{named, Param, Expr, ident, selector, call, Exprs, Stmts, ValueSpecs}
-use Rattle.go_tree.specs.File.{Receiver, Decl}
-use Rattle.repeated_parts.specs.UseSearch.UsesOfMarks.Laws.{IsSound, EachSound}
-use Rattle.member_uses.specs.Laws.{NoKeyIsMarked}
-use Rattle.member_uses.specs.Uses.{Used, Names, used, name_alone, type_package, package_at, import_at, part_uses, member_uses}
-use Rattle.go_tree.specs.GoTypes.Answers.{given}
-use Rattle.pkg_graph.specs.Package.{Package}
-use Rattle.member_uses.specs.PossibleUses.Candidates.{Candidate, plain_part}
-use Rattle.member_uses.specs.PossibleUses.Parts.{put, put_selector, after_expr, after_exprs, after_params, after_receiver, after_sig, after_specs, after_stmts, parts_of}
+use Rattle.go_tree.specs.Tree.{Expr, ident, int_lit, rune_lit, str_lit, composite, selector, index, slice, call, func_lit, type_operand, unary, binary, star}
+use Rattle.go_tree.specs.File.{Decl}
+use Rattle.constant_steps.specs.PlainUse.{AllSimple}
+use Rattle.member_uses.specs.Uses.{Names}
+use Rattle.run_rules.specs.Surroundings.{Seen, seen, seen_type, seen_stmt}
+use Rattle.run_rules.specs.Programs.{decl_seen}
 use Rattle.run_rules.specs.Run.{Standing, here_of}
-use Rattle.run_rules.specs.Sites.{MarkRef, Where, Part, an_expr, a_type_part}
+use Rattle.run_rules.specs.Sites.{Where}
 use Rattle.run_rules.specs.Steps.{At}
+use Rattle.repeated_parts.specs.declared.literal_types.table.LiteralTypes.{LiteralTypes}
+use Rattle.repeated_parts.specs.LiteralTypes.Tables.{TypeNumbers, numbers_in}
+use Rattle.repeated_parts.specs.LiteralTypes.Told.{FieldsTold}
+use Rattle.repeated_parts.specs.UseSearch.UsesOfMarks.Laws.{IsSound, EachSound, EachTold}
 use Rattle.stepped_programs.specs.SearchedSites.OrderedSearches.Held.{IsThere}
-use Rattle.run_rules.specs.Printed.{IsFlat, a_name, a_number, a_selection, AllFlat, no_operands, and_operand, IsPrint, an_operand, a_call, PrintStmts, no_prints, and_print, FlatConstants, no_constants, and_constant, IsPrinted, some_constants, a_function, ArePrinted}
-use Rattle.printed_constants.specs.Laws.{PrintedPartsAreScoped, PrintedPartsAreKeyed}
+use Rattle.run_rules.specs.Printed.{IsPrinted, ArePrinted}
+use Rattle.printed_constants.specs.Laws.{PrintedPartsAreScoped, PrintedPartsAreKeyed, PrintedPartsAreSimple}
 use Rattle.stepped_programs.specs.SearchedSites.PrintedSearches.Laws.{PrintedFilesAreSound}
 
-module _ {S : Type 0} where
-  -- none of these parts is a key
-  abbrev NoKeys : List (Candidate S) → Type 0
-  NoKeys [] = Unit {0}
-  NoKeys (c ∷ cs) = (c.key ≡ false) × NoKeys cs
+-- of such parts each table tells which keys name fields
+fields_told : {S : Type 0} (ts : TypeNumbers S) (xs : List (Seen S)) → AllSimple xs → FieldsTold ts xs
+fields_told ts [] h = tt
+fields_told ts (seen p u (ident s n) ∷ xs) h = (tt, fields_told ts xs h.1)
+fields_told ts (seen p u (int_lit s n) ∷ xs) h = (tt, fields_told ts xs h.1)
+fields_told ts (seen p u (rune_lit s n) ∷ xs) h = (tt, fields_told ts xs h.1)
+fields_told ts (seen p u (str_lit s n) ∷ xs) h = (tt, fields_told ts xs h.1)
+fields_told ts (seen p u (composite s t es) ∷ xs) h = elim h.0 [ ]
+fields_told ts (seen p u (selector s b n) ∷ xs) h = (tt, fields_told ts xs h.1)
+fields_told ts (seen p u (index s b i) ∷ xs) h = (tt, fields_told ts xs h.1)
+fields_told ts (seen p u (slice s b i j) ∷ xs) h = (tt, fields_told ts xs h.1)
+fields_told ts (seen p u (call s g es r) ∷ xs) h = (tt, fields_told ts xs h.1)
+fields_told ts (seen p u (func_lit s g z b) ∷ xs) h = (tt, fields_told ts xs h.1)
+fields_told ts (seen p u (type_operand s t) ∷ xs) h = (tt, fields_told ts xs h.1)
+fields_told ts (seen p u (unary s o e) ∷ xs) h = (tt, fields_told ts xs h.1)
+fields_told ts (seen p u (binary s o a b) ∷ xs) h = (tt, fields_told ts xs h.1)
+fields_told ts (seen p u (star s e) ∷ xs) h = (tt, fields_told ts xs h.1)
+fields_told ts (seen_type p t ∷ xs) h = (tt, fields_told ts xs h.1)
+fields_told ts (seen_stmt p s ∷ xs) h = (tt, fields_told ts xs h.1)
 
-  one_more : (c : Candidate S) → c.key ≡ false → (xs : List (Candidate S)) → NoKeys xs → NoKeys (put c xs)
-  one_more c e [] h = (e, tt)
-  one_more c e (x ∷ xs) h = (h.0, one_more c e xs h.1)
+module _ (scoped : PrintedPartsAreScoped) (keyed : PrintedPartsAreKeyed) (simple : PrintedPartsAreSimple) (st : Standing) (w : Where At) (printed_all : ArePrinted st.packages) (there : IsThere st.packages w) where
+  one_sound : (d : Decl At) → IsPrinted d → IsSound st.packages w d
+  one_sound d h = record { scoped = scoped st.packages w.number w.of w.source.tree d h; keyed = keyed st.packages w.number w.of w.source.tree d h }
 
-  chosen : {b : Expr S} → IsFlat b → (e : Expr S) (xs : List (Candidate S)) → NoKeys xs → NoKeys (put_selector b e xs)
-  chosen a_name e xs h = one_more (plain_part (an_expr e)) refl xs h
-  chosen a_number e xs h = h
-  chosen (a_selection k) e xs h = h
+  abbrev Among : ℕ → List (Decl At) → Type 0
+  Among k ds = (i n : ℕ) (d : Decl At) → slice_get ds i ≡ Some d → n ≡ k + i → slice_get w.source.tree.decls n ≡ Some d
 
-  flat : {e : Expr S} → IsFlat e → (xs : List (Candidate S)) → NoKeys xs → NoKeys (after_expr e xs)
-  flat (a_name {s = s} {n = n}) xs h = one_more (plain_part (an_expr (ident s n))) refl xs h
-  flat a_number xs h = h
-  flat (a_selection {s = s} {b = b} {n = n} k) xs h = chosen k (selector s b n) (after_expr b xs) (flat k xs h)
+  printed_at : (k : ℕ) (d : Decl At) (ds : List (Decl At)) → Among k (d ∷ ds) → IsPrinted d
+  printed_at k d ds a = printed_all w there.package_is there.file_is k d (a 0 k d refl (omega arith))
 
-  all_flat : {es : Exprs S} → AllFlat es → (xs : List (Candidate S)) → NoKeys xs → NoKeys (after_exprs es xs)
-  all_flat no_operands xs h = h
-  all_flat (and_operand {e = e} k ks) xs h = all_flat ks (after_expr e xs) (flat k xs h)
-
-  printed : {e : Expr S} → IsPrint e → (xs : List (Candidate S)) → NoKeys xs → NoKeys (after_expr e xs)
-  printed (an_operand k) xs h = flat k xs h
-  printed (a_call {s = s} {f = f} {xs = es} k ks) xs h =
-      one_more (plain_part (an_expr (call s f es Plain))) refl (after_exprs es (after_expr f xs)) (all_flat ks (after_expr f xs) (flat k xs h))
-
-  statements : {ss : Stmts S} → PrintStmts ss → (xs : List (Candidate S)) → NoKeys xs → NoKeys (after_stmts ss xs)
-  statements no_prints xs h = h
-  statements (and_print {e = e} k ks) xs h = statements ks (after_expr e xs) (printed k xs h)
-
-  constants : {ss : ValueSpecs S} → FlatConstants ss → (xs : List (Candidate S)) → NoKeys xs → NoKeys (after_specs ss xs)
-  constants no_constants xs h = h
-  constants (and_constant {e = e} k ks) xs h = constants ks (after_expr e xs) (flat k xs h)
-
-  no_receiver : (r : Option (Receiver S)) → r ≡ None → NoKeys (after_receiver r [])
-  no_receiver None e = tt
-  no_receiver (Some r) e = absurd cc
-
-  no_params : (ps : List (Param S)) → ps ≡ [] → (xs : List (Candidate S)) → NoKeys xs → NoKeys (after_params ps xs)
-  no_params [] e xs h = h
-  no_params (p ∷ ps) e xs h = absurd cc
-
-  no_keys : {d : Decl S} → IsPrinted d → NoKeys (parts_of d)
-  no_keys (some_constants k) = constants k [] tt
-  no_keys (a_function {f = f} r xs ys k) =
-      statements k (after_sig f.sig (after_receiver f.receiver []))
-      (no_params f.sig.results ys (after_params f.sig.params (after_receiver f.receiver [])) (no_params f.sig.params xs (after_receiver f.receiver []) (no_receiver f.receiver r)))
-
--- ---- uses of members
-
-module _ (ps : List (Package At)) (marks : List MarkRef) (f : Names) where
-  clash : (b : Bool) → b ≡ true → b ≡ false → ⊥
-  clash b t e = cc
-
-  no_key_used : (s : Span) (key : Bool) → key ≡ false → (o : Option ℕ) (n : List ℕ) → NoKeyIsMarked ps marks (used s key o n)
-  no_key_used s key e None n = tt
-  no_key_used s key e (Some q) n = ((λ t. absurd (clash key t e)), tt)
-
-  no_key_part : (key : Bool) → key ≡ false → (x : Part At) → NoKeyIsMarked ps marks (part_uses here_of f key x)
-  no_key_part key e (an_expr (ident s n)) = no_key_used (here_of s) key e (package_at f n (here_of s).start) n
-  no_key_part key e (an_expr (selector s b n)) = no_key_used (here_of s) key e (given (name_alone b) (λ q. import_at f q (here_of s).start)) n.name
-  no_key_part key e (an_expr x) = tt
-  no_key_part key e (a_type_part (named s q n)) = no_key_used (here_of s) key e (type_package f q n.name (here_of s).start) n.name
-  no_key_part key e (a_type_part x) = tt
-
-  both_unmarked : (us vs : List Used) → NoKeyIsMarked ps marks us → NoKeyIsMarked ps marks vs → NoKeyIsMarked ps marks (us ++ vs)
-  both_unmarked [] vs h k = k
-  both_unmarked (u ∷ us) vs h k = (h.0, both_unmarked us vs h.1 k)
-
-  no_key_marked : (cs : List (Candidate At)) → NoKeys cs → NoKeyIsMarked ps marks (member_uses here_of f cs)
-  no_key_marked [] h = tt
-  no_key_marked (c ∷ cs) h = both_unmarked (part_uses here_of f c.key c.part) (member_uses here_of f cs) (no_key_part c.key h.0 c.part) (no_key_marked cs h.1)
-
-module _ (scoped : PrintedPartsAreScoped) (keyed : PrintedPartsAreKeyed) (marks : List MarkRef) (st : Standing) (w : Where At) (f : Names) (printed_all : ArePrinted st.packages) (there : IsThere st.packages w) where
-  one_sound : (d : Decl At) → IsPrinted d → IsSound st.packages marks w f d
-  one_sound d h =
-      record {
-        scoped = scoped st.packages w.number w.of w.source.tree d h;
-        keyed = keyed st.packages w.number w.of w.source.tree d h;
-        no_key = no_key_marked st.packages marks f (parts_of d) (no_keys h);
-      }
-
-  from_decl : (k : ℕ) (ds : List (Decl At)) → ((i n : ℕ) (d : Decl At) → slice_get ds i ≡ Some d → n ≡ k + i → slice_get w.source.tree.decls n ≡ Some d) → EachSound st.packages marks w f ds
+  from_decl : (k : ℕ) (ds : List (Decl At)) → Among k ds → EachSound st.packages w ds
   from_decl k [] a = tt
-  from_decl k (d ∷ ds) a = (
-    one_sound d (printed_all w there.package_is there.file_is k d (a 0 k d refl (omega arith))),
-    from_decl (suc k) ds (λ i n x e q. a (suc i) n x e (omega (arith, q))),
+  from_decl k (d ∷ ds) a = (one_sound d (printed_at k d ds a), from_decl (suc k) ds (λ i n x e q. a (suc i) n x e (omega (arith, q))))
+
+  told_from : (f : Names) (t : LiteralTypes) (k : ℕ) (ds : List (Decl At)) → Among k ds → EachTold st.packages w f t ds
+  told_from f t k [] a = tt
+  told_from f t k (d ∷ ds) a = (
+    fields_told (numbers_in here_of f t) (decl_seen st.packages w.number w.of w.source.tree d) (simple st.packages w.number w.of w.source.tree d (printed_at k d ds a)),
+    told_from f t (suc k) ds (λ i n x e q. a (suc i) n x e (omega (arith, q))),
   )
 
-  all_sound : EachSound st.packages marks w f w.source.tree.decls
-  all_sound = from_decl 0 w.source.tree.decls (λ i n d e q. let h : n ≡ i = omega (arith, q) in subst (λ (j : ℕ). slice_get w.source.tree.decls j ≡ Some d) (sym h) e)
+  all_among : Among 0 w.source.tree.decls
+  all_among = λ i n d e q. let h : n ≡ i = omega (arith, q) in subst (λ (j : ℕ). slice_get w.source.tree.decls j ≡ Some d) (sym h) e
 
-pub files_sound : PrintedPartsAreScoped → PrintedPartsAreKeyed → PrintedFilesAreSound
-files_sound scoped keyed marks st w f h there = all_sound scoped keyed marks st w f h there
+pub files_sound : PrintedPartsAreScoped → PrintedPartsAreKeyed → PrintedPartsAreSimple → PrintedFilesAreSound
+files_sound scoped keyed simple st w h there = (
+  from_decl scoped keyed simple st w h there 0 w.source.tree.decls (all_among scoped keyed simple st w h there),
+  (λ f t. told_from scoped keyed simple st w h there f t 0 w.source.tree.decls (all_among scoped keyed simple st w h there)),
+)

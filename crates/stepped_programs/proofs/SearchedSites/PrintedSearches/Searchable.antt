@@ -6,5 +6,6 @@ pub are_searchable : PrintedFilesAreSound → SmallFilesHaveFewNames → Printed
 are_searchable sound few marks st reads paths printed small w there =
     record {
       few_words = few st reads paths printed small w there.package_is there.file_is;
-      sound = λ f knows. sound marks st w f printed there;
+      sound = (sound st w printed there).0;
+      told = λ f t knows. (sound st w printed there).1 f t;
     }

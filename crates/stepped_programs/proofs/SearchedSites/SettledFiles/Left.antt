@@ -155,5 +155,6 @@ module _ (marks : List MarkRef) (st : Standing) (l : Logged) (after : Standing) 
         table = iw.table;
         imports_are = iw.imports_are ∙ sym imports_same;
         few_words = sound.few_words;
-        sound = sound.sound (names_of view) (knows_stay (names_of view) (knows marks st w p view ip iw));
+        sound = sound.sound;
+        told = λ t. sound.told (names_of view) t (knows_stay (names_of view) (knows marks st w p view ip iw));
       }

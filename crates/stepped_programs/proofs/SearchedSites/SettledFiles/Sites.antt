@@ -22,6 +22,8 @@ use Rattle.pkg_graph.specs.Package.{Package}
 use Rattle.pkg_graph.specs.Views.{package_view}
 use Rattle.pkg_graph.specs.declared.packages.Package as code
 use Rattle.member_uses.specs.PossibleUses.Parts.{parts_of}
+use Rattle.repeated_parts.specs.declared.literal_types.table.LiteralTypes.{LiteralTypes}
+use Rattle.repeated_parts.specs.LiteralTypes.Tables.{numbers_in}
 use Rattle.repeated_parts.specs.Flags.{flags_of}
 use Rattle.repeated_parts.specs.UsesRepeated.Laws.{FlaggedMark, flagged_marks}
 use Rattle.repeated_parts.specs.UsesRepeated.Uses.{flagged_uses}
@@ -164,7 +166,7 @@ module _ {A B : Type 0} (as_ : List (Package A)) (bs : List (Package B)) (same :
   flagged_same (u ∷ us) =
       ap (placed u (flagged_marks as_ marks us)) (used_same u.0) ∙ ap (λ (rest : List FlaggedMark). placed u rest (mark_used bs marks u.0)) (flagged_same us)
 
-  pub uses_same : (f : Names) (ds : List (ℕ × Decl Span)) → decls_uses (λ s. s) as_ marks f ds ≡ decls_uses (λ s. s) bs marks f ds
-  uses_same f [] = refl
-  uses_same f (d ∷ ds) =
-      λ i. map (λ (x : FlaggedMark). (d.0, x)) (flagged_same (flagged_uses (λ s. s) f (parts_of d.1) (flags_of d.1)) i) ++ uses_same f ds i
+  pub uses_same : (f : Names) (t : LiteralTypes) (ds : List (ℕ × Decl Span)) → decls_uses (λ s. s) as_ marks f t ds ≡ decls_uses (λ s. s) bs marks f t ds
+  uses_same f t [] = refl
+  uses_same f t (d ∷ ds) =
+      λ i. map (λ (x : FlaggedMark). (d.0, x)) (flagged_same (flagged_uses (λ s. s) f (parts_of d.1) (flags_of (numbers_in (λ s. s) f t) d.1)) i) ++ uses_same f t ds i

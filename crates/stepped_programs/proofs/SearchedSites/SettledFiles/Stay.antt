@@ -57,22 +57,22 @@ module _ (sites_are : MarkedUsesAreSites) (placed : UsesArePlaced) (law : KeptUs
   members_same k m = member_stays here_of after.packages k m ∙ member_now marks st l after n k m ∙ sym (member_stays here_of st.packages k m)
 
   abbrev uses_in : List (Package Span) → SourceTree At → List PlacedMark
-  uses_in ps s = decls_uses (λ z. z) ps marks (names_of view) (numbered (decls_with here_of s.tree.decls))
+  uses_in ps s = decls_uses (λ z. z) ps marks (names_of view) p.types.now (numbered (decls_with here_of s.tree.decls))
 
   sites_same : placed_sites (sites_in_file marks st w) ≡ placed_sites (sites_in_file marks after v)
   sites_same =
-      sym (sites_are st.packages marks w (names_of view) (knows marks st w p view ip iw) ip.constants iw.sound)
-      ∙ sym (uses_same (packages_with here_of after.packages) (packages_with here_of st.packages) members_same marks (names_of view) (numbered (decls_with here_of w.source.tree.decls)))
+      sym (sites_are st.packages marks w (names_of view) p.types.now (knows marks st w p view ip iw) ip.constants iw.sound (iw.told p.types.now))
+      ∙ sym (uses_same (packages_with here_of after.packages) (packages_with here_of st.packages) members_same marks (names_of view) p.types.now (numbered (decls_with here_of w.source.tree.decls)))
       ∙ ap (uses_in (packages_with here_of after.packages)) (sym (source_same marks st l after n w v left))
-      ∙ sites_are after.packages marks v (names_of view) (knows marks after v q view iq its_file) iq.constants its_file.sound
+      ∙ sites_are after.packages marks v (names_of view) p.types.now (knows marks after v q view iq its_file) iq.constants its_file.sound (its_file.told p.types.now)
 
   pub stays_kept : (kept : List FoundObstacle) → AreSearched marks st (sites_in_file marks st w) kept None → TellTheSame p.values.now q.values.now (sites_in_file marks st w)
       → IsFile marks after v view × AreSearched marks after (sites_in_file marks after v) kept None
   stays_kept kept s same = (
     its_file,
     all_kept marks st after w v p q ip iq view iw its_file law (paths_told marks st p ip ∙ sym (paths_now marks st l after n) ∙ sym (paths_told marks after q iq)) (sites_in_file marks st w) kept None s
-        refl (sites_in_file marks after v) sites_same (placed st.packages marks w (names_of view) (knows marks st w p view ip iw) ip.constants iw.sound)
-        (placed after.packages marks v (names_of view) (knows marks after v q view iq its_file) iq.constants its_file.sound) same,
+        refl (sites_in_file marks after v) sites_same (placed st.packages marks w (names_of view) p.types.now (knows marks st w p view ip iw) ip.constants iw.sound (iw.told p.types.now))
+        (placed after.packages marks v (names_of view) p.types.now (knows marks after v q view iq its_file) iq.constants its_file.sound (its_file.told p.types.now)) same,
   )
 
 pub kept_files_stay : MarkedUsesAreSites → UsesArePlaced → KeptUsesStay → KeptFilesStay
@@ -177,12 +177,12 @@ flags_stay sites_are placed law marks st l after n s t tokens more changed were 
     let m = may b.file b.there set in
     let was = settled b.file b.there m.was_set in
     let none : FoundNoneOf changed was.kept = none_changed changed were b.file.number b.file.file_number m.unused was.kept was.used in
-    let p : ProgramView = record { packages = s.packages; values = s.values } in
-    let q : ProgramView = record { packages = t.packages; values = t.values } in
+    let p : ProgramView = record { packages = s.packages; values = s.values; types = s.types } in
+    let q : ProgramView = record { packages = t.packages; values = t.values; types = t.types } in
     let own : IsProgram marks st p = program_told marks st s tokens held p refl refl in
     let told : TellTheSame s.values.now t.values.now (sites_in_file marks st b.file) =
     marked_told st.packages marks b.file (names_of was.view) changed s.values.now t.values.now same (sites_in_file marks st b.file)
-    (placed st.packages marks b.file (names_of was.view) (knows marks st b.file p was.view own was.is_file) held.constants was.is_file.sound)
+    (placed st.packages marks b.file (names_of was.view) s.types.now (knows marks st b.file p was.view own was.is_file) held.constants was.is_file.sound (was.is_file.told s.types.now))
     (found_none marks st changed (sites_in_file marks st b.file) was.kept None was.searched refl none) in
     let r = stays_kept sites_are placed law marks st l after n p q b.file v was.view paths own (program_told marks after t more now q refl refl)
     (record { before = b.there; after = there; number_is = b.number_is; file_is = b.file_is; other = m.other }) (now.searchable v there) was.is_file was.kept was.searched told in

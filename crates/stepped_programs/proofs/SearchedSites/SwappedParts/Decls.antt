@@ -5,7 +5,7 @@ use Rattle.go_tree.specs.File.{TypeSpec, Receiver, Func, Decl, values, types, fu
 use Rattle.pkg_graph.specs.Package.{Package}
 use Rattle.constant_forms.specs.Views.{name_expr}
 use Rattle.printed_constants.specs.TypedParts.StandingUses.ImportUses.Parts as parts
-use Rattle.printed_constants.specs.TypedParts.StandingUses.ImportUses.Parts.{EachSeen, IsKeyed, IsName, StandsOnce}
+use Rattle.printed_constants.specs.TypedParts.StandingUses.ImportUses.Parts.{EachSeen, IsKeyed, IsName}
 use Rattle.printed_constants.proofs.TypedParts.StandingUses.ImportUses.Stays.{change}
 use Rattle.printed_constants.proofs.TypedParts.StandingUses.ImportUses.Walk.{IsForm, a_form, a_qualified}
 use Rattle.printed_constants.proofs.TypedParts.StandingUses.ImportUses.Once.{is_form}
@@ -17,10 +17,8 @@ use Rattle.run_rules.specs.Programs.{top_place, body_place, constants_at_top, va
 use Rattle.run_rules.specs.Rewriting.{Changes, new_sig, new_stmts}
 use Rattle.run_rules.specs.Steps.{At, same_here, new_constants, new_variables, new_receiver_option, new_type_spec, new_decl}
 use Rattle.run_rules.specs.Surroundings.{Place, Seen, seen, seen_type, seen_stmt, in_constant, alike, value_use}
-use Rattle.stepped_programs.specs.SearchedSites.SwappedParts.Swaps.{HasNoDot}
 use Rattle.stepped_programs.specs.SearchedSites.SwappedParts.Laws.{StepsSwapParts}
 use Rattle.stepped_programs.proofs.SearchedSites.SwappedParts.Lists as lists
-use Rattle.stepped_programs.proofs.SearchedSites.SwappedParts.Lists.{Asked}
 use Rattle.stepped_programs.proofs.SearchedSites.SwappedParts.Walk as walk
 use Rattle.stepped_programs.proofs.SearchedSites.SwappedParts.Walk.{Go}
 
@@ -80,26 +78,26 @@ module _ {S : Type 0} (hits : Expr S → Bool) (use_ new : Expr S) (use_form : I
 
 -- ---- what is asked
 
-module _ {S : Type 0} (hits : Expr S → Bool) where
+module _ {S : Type 0} where
   -- what is said of all literals is said of each
-  each_asked : (xs : List (Seen S)) → Keyed xs → EachSeen (HasNoDot hits) xs → EachSeen (λ x. HasNoDot hits x × IsKeyed x) xs
-  each_asked [] h d = tt
-  each_asked (seen p u (ident s n) ∷ xs) h d = ((d.0, tt), each_asked xs h d.1)
-  each_asked (seen p u (int_lit s n) ∷ xs) h d = ((d.0, tt), each_asked xs h d.1)
-  each_asked (seen p u (rune_lit s n) ∷ xs) h d = ((d.0, tt), each_asked xs h d.1)
-  each_asked (seen p u (str_lit s n) ∷ xs) h d = ((d.0, tt), each_asked xs h d.1)
-  each_asked (seen p u (composite s y es) ∷ xs) h d = ((d.0, h.0), each_asked xs h.1 d.1)
-  each_asked (seen p u (selector s b n) ∷ xs) h d = ((d.0, tt), each_asked xs h d.1)
-  each_asked (seen p u (index s b i) ∷ xs) h d = ((d.0, tt), each_asked xs h d.1)
-  each_asked (seen p u (slice s b i j) ∷ xs) h d = ((d.0, tt), each_asked xs h d.1)
-  each_asked (seen p u (call s f ys r) ∷ xs) h d = ((d.0, tt), each_asked xs h d.1)
-  each_asked (seen p u (func_lit s g z b) ∷ xs) h d = ((d.0, tt), each_asked xs h d.1)
-  each_asked (seen p u (type_operand s y) ∷ xs) h d = ((d.0, tt), each_asked xs h d.1)
-  each_asked (seen p u (unary s o e) ∷ xs) h d = ((d.0, tt), each_asked xs h d.1)
-  each_asked (seen p u (binary s o a b) ∷ xs) h d = ((d.0, tt), each_asked xs h d.1)
-  each_asked (seen p u (star s e) ∷ xs) h d = ((d.0, tt), each_asked xs h d.1)
-  each_asked (seen_type p y ∷ xs) h d = ((tt, tt), each_asked xs h d.1)
-  each_asked (seen_stmt p s ∷ xs) h d = ((tt, tt), each_asked xs h d.1)
+  each_asked : (xs : List (Seen S)) → Keyed xs → EachSeen IsKeyed xs
+  each_asked [] h = tt
+  each_asked (seen p u (ident s n) ∷ xs) h = (tt, each_asked xs h)
+  each_asked (seen p u (int_lit s n) ∷ xs) h = (tt, each_asked xs h)
+  each_asked (seen p u (rune_lit s n) ∷ xs) h = (tt, each_asked xs h)
+  each_asked (seen p u (str_lit s n) ∷ xs) h = (tt, each_asked xs h)
+  each_asked (seen p u (composite s y es) ∷ xs) h = (h.0, each_asked xs h.1)
+  each_asked (seen p u (selector s b n) ∷ xs) h = (tt, each_asked xs h)
+  each_asked (seen p u (index s b i) ∷ xs) h = (tt, each_asked xs h)
+  each_asked (seen p u (slice s b i j) ∷ xs) h = (tt, each_asked xs h)
+  each_asked (seen p u (call s f ys r) ∷ xs) h = (tt, each_asked xs h)
+  each_asked (seen p u (func_lit s g z b) ∷ xs) h = (tt, each_asked xs h)
+  each_asked (seen p u (type_operand s y) ∷ xs) h = (tt, each_asked xs h)
+  each_asked (seen p u (unary s o e) ∷ xs) h = (tt, each_asked xs h)
+  each_asked (seen p u (binary s o a b) ∷ xs) h = (tt, each_asked xs h)
+  each_asked (seen p u (star s e) ∷ xs) h = (tt, each_asked xs h)
+  each_asked (seen_type p y ∷ xs) h = (tt, each_asked xs h)
+  each_asked (seen_stmt p s ∷ xs) h = (tt, each_asked xs h)
 
   -- a use is such a name
   use_is : {p : Place S} {e : Expr S} → IsName p e → IsForm e
@@ -107,7 +105,7 @@ module _ {S : Type 0} (hits : Expr S → Bool) where
   use_is (parts.behind s z q n) = a_qualified s z q n
 
 pub swap_parts : StepsSwapParts
-swap_parts ps w d p e z at q n is_name no_old once keyed no_dot =
+swap_parts ps w d p e z at q n is_name no_old once keyed =
     let hits : Expr At → Bool = is_at same_here z in
-    let g = decl_goes hits e (name_expr at q n) (use_is hits is_name) (is_form at q n) same_here ps w.number w.of w.source.tree d [] [] in
-    g.hit p no_old (each_asked hits (decl_seen ps w.number w.of w.source.tree d) keyed no_dot) once refl
+    let g = decl_goes hits e (name_expr at q n) (use_is is_name) (is_form at q n) same_here ps w.number w.of w.source.tree d [] [] in
+    g.hit p no_old (each_asked (decl_seen ps w.number w.of w.source.tree d) keyed) once refl

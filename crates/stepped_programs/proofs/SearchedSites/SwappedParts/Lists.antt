@@ -6,11 +6,11 @@ use Rattle.go_tree.specs.GoTypes.Answers.{otherwise}
 use Rattle.printed_constants.specs.TypedParts.StandingUses.ImportUses.Parts.{EachSeen, IsElsewhere, IsKeyed, StandsOnce, here, later}
 use Rattle.printed_constants.proofs.TypedParts.StandingUses.ImportUses.Walk.{IsForm, a_form, a_qualified}
 use Rattle.member_uses.specs.PossibleUses.Candidates.{Candidate, plain_part}
-use Rattle.member_uses.specs.PossibleUses.Parts.{put, put_selector, after_type, after_fields, after_expr}
+use Rattle.member_uses.specs.PossibleUses.Parts.{put, after_type, after_fields, after_expr}
 use Rattle.run_rules.specs.Sites.{Part, an_expr, a_type_part, part_span}
 use Rattle.run_rules.specs.Surroundings.{Use, stored, Place, Seen, seen, seen_type, seen_stmt, is_old}
 use Rattle.run_rules.specs.Places.{old_seen}
-use Rattle.stepped_programs.specs.SearchedSites.SwappedParts.Swaps.{parts_in, spans_in, PartsSwap, HasNoDot}
+use Rattle.stepped_programs.specs.SearchedSites.SwappedParts.Swaps.{parts_in, spans_in, PartsSwap}
 
 module _ {S : Type 0} where
   pub front : (P : Seen S → Type 0) (xs ys : List (Seen S)) → EachSeen P (xs ++ ys) → EachSeen P xs
@@ -52,7 +52,7 @@ module _ {S : Type 0} (hits : Expr S → Bool) (use_ new : Expr S) (use_form : I
 
   -- what is asked of each part that is seen
   abbrev pub Asked : Seen S → Type 0
-  Asked x = HasNoDot hits x × IsKeyed x
+  Asked x = IsKeyed x
 
   abbrev pub NoOld : Place S → Type 0
   NoOld p = (n : NameAt S) → use_ ≡ ident n.span n.name → is_old p n ≡ true → ⊥
@@ -198,25 +198,3 @@ module _ {S : Type 0} (hits : Expr S → Bool) (use_ new : Expr S) (use_form : I
           subst (λ (z : Expr S). Split (after_expr x xs) (after_expr z ys)) (unhit (hits x) r m.1.0)
           ((inner (behind Asked all (seen p u x ∷ []) a).0).hit q n (front Asked all (seen p u x ∷ []) a) m.0 h)
       by q n a h (inr m) = itself q h m.1
-
-  -- ---- before a dot
-
-  -- what isn't hit stays a name, or stays none
-  pub dotted : (b r : Expr S) (s : S) (n m : NameAt S) {all : List (Seen S)} {xs ys us vs : List (Candidate S)} → Goes all xs ys us vs
-      → ((ws zs : List (Candidate S)) → Goes [] ws zs (put_selector b (selector s b n) ws) (put_selector r (selector s r m) zs))
-      → Goes all xs ys (put_selector b (selector s b n) us) (put_selector r (selector s r m) vs)
-  dotted b r s n m {all = all} {us = us} {vs = vs} g f =
-      record {
-        same = λ a e h. (f us vs).same tt tt (g.same a e h);
-        split = λ a e h. (f us vs).split tt tt (g.split a e h);
-        hit = λ p k a o h. (f us vs).split tt tt (g.hit p k a o h);
-      }
-
-  -- the same where the expression may be the use, but isn't
-  pub unless_hit : (x r : Expr S) (s : S) (n m : NameAt S) → hits x ≡ false
-      → ((ws zs : List (Candidate S)) → Goes [] ws zs (put_selector x (selector s x n) ws) (put_selector r (selector s r m) zs))
-      → (ws zs : List (Candidate S))
-      → Goes [] ws zs (put_selector x (selector s x n) ws)
-      (put_selector (otherwise (if hits x then Some new else None) r) (selector s (otherwise (if hits x then Some new else None) r) m) zs)
-  unless_hit x r s n m h f ws zs =
-      subst (λ (z : Expr S). Goes [] ws zs (put_selector x (selector s x n) ws) (put_selector z (selector s z m) zs)) (unhit (hits x) r h) (f ws zs)

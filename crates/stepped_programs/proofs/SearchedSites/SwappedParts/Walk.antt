@@ -2,7 +2,7 @@
 use Rattle.std.proofs.Common.{◌≡◌, ◌∙◌, refl, sym, ap, ℕ, suc, Bool, true, false, if◌then◌else◌, List, [], ◌∷◌, ◌++◌, map, Option, Some, None}
 use Rattle.std.proofs.lemmas.List.{map-append}
 use Rattle.go_tree.specs.GoTypes.Types.{GoType}
-use Rattle.go_tree.specs.Tree.{NameAt, Param, Sig, TypeExpr, Expr, ident, int_lit, rune_lit, str_lit, composite, selector, index, slice, call, func_lit, type_operand, unary, binary, star, Exprs, no_exprs, expr_and, ExprOption, no_expr, some_expr, Elems, no_elems, elem, Value, plain, braced, ValueOption, no_value, some_value, Stmt, const_decl, var_decl, empty, eval, step, assign, define, return_, break_, continue_, inner, if_, for_, range_, switch, defer, label, Stmts, no_stmts, stmt_and, StmtOption, no_stmt, some_stmt, BlockOption, no_block, some_block, RangeLeft, nothing, assigns, defines, Arms, no_arms, arm, Cases, no_cases, case, ValueSpecs, no_specs, spec}
+use Rattle.go_tree.specs.Tree.{Param, Sig, TypeExpr, Expr, ident, int_lit, rune_lit, str_lit, composite, selector, index, slice, call, func_lit, type_operand, unary, binary, star, Exprs, no_exprs, expr_and, ExprOption, no_expr, some_expr, Elems, no_elems, elem, Value, plain, braced, ValueOption, no_value, some_value, Stmt, const_decl, var_decl, empty, eval, step, assign, define, return_, break_, continue_, inner, if_, for_, range_, switch, defer, label, Stmts, no_stmts, stmt_and, StmtOption, no_stmt, some_stmt, BlockOption, no_block, some_block, RangeLeft, nothing, assigns, defines, Arms, no_arms, arm, Cases, no_cases, case, ValueSpecs, no_specs, spec}
 use Rattle.go_tree.specs.GoTypes.Answers.{given, meets, otherwise}
 use Rattle.go_tree.specs.GoTypes.Defined.{under}
 use Rattle.go_tree.specs.GoTypes.Entities.{defined_in}
@@ -19,9 +19,10 @@ use Rattle.run_rules.specs.Sites.{an_expr, part_span}
 use Rattle.printed_constants.proofs.TypedParts.StandingUses.ImportUses.Stays.{change}
 use Rattle.printed_constants.proofs.TypedParts.StandingUses.ImportUses.Walk.{IsForm}
 use Rattle.member_uses.specs.PossibleUses.Among.{ElemsKeyed, KeyKeyed, ValueKeyed}
-use Rattle.member_uses.specs.PossibleUses.Candidates.{Candidate, plain_part, key_part}
+use Rattle.member_uses.specs.PossibleUses.Candidates.{Candidate, plain_part, key_of}
 use Rattle.member_uses.specs.PossibleUses.Parts as after
-use Rattle.member_uses.specs.PossibleUses.Parts.{put, put_selector, after_type, after_type_option, after_params, after_sig, after_expr, after_exprs, after_expr_option, after_elems, after_key, after_value, after_stmts, after_stmt_option, after_block_option, after_left, after_cases, after_specs}
+use Rattle.member_uses.specs.PossibleUses.Parts.{put, after_type, after_type_option, after_params, after_sig, after_expr, after_exprs, after_expr_option, after_elems, after_key, after_value, after_stmts, after_stmt_option, after_block_option, after_left, after_cases, after_specs}
+use Rattle.member_uses.specs.PossibleUses.Written.{inner_written, keys_written}
 use Rattle.stepped_programs.specs.SearchedSites.SwappedParts.Swaps.{parts_in, spans_in, PartsSwap}
 use Rattle.stepped_programs.proofs.SearchedSites.SwappedParts.Lists as lists
 use Rattle.stepped_programs.proofs.SearchedSites.SwappedParts.Lists.{Asked, Goes}
@@ -74,30 +75,12 @@ module _ {S : Type 0} (hits : Expr S → Bool) (use_ new : Expr S) (use_form : I
   pub sig_goes : (p r : Place S) (g : Sig S) (xs ys : Cs) → Go (sig_seen p g) xs ys (after_sig g xs) (after_sig (new_sig c r g) ys)
   sig_goes p r g xs ys = both (params_go p r g.params xs ys) (params_go p r g.results _ _)
 
-  -- ---- before a dot
-
-  base_goes : (q : Place S) (s : S) (b : Expr S) (n m : NameAt S) → hits b ≡ false → (ws zs : Cs) → Go [] ws zs (put_selector b (selector s b n) ws) (put_selector (new_expr c q other b) (selector s (new_expr c q other b) m) zs)
-  base_goes q s (ident z k) n m h ws zs = lists.unless_hit hits use_ new use_form new_form (ident z k) _ s n m h (λ ws zs. put_part (plain_part (an_expr (selector s (ident z k) n))) (plain_part (an_expr (selector s (ident z k) m))) refl) ws zs
-  base_goes q s (int_lit z k) n m h ws zs = lists.unless_hit hits use_ new use_form new_form (int_lit z k) _ s n m h (λ ws zs. stay) ws zs
-  base_goes q s (rune_lit z k) n m h ws zs = lists.unless_hit hits use_ new use_form new_form (rune_lit z k) _ s n m h (λ ws zs. stay) ws zs
-  base_goes q s (str_lit z k) n m h ws zs = lists.unless_hit hits use_ new use_form new_form (str_lit z k) _ s n m h (λ ws zs. stay) ws zs
-  base_goes q s (composite z t es) n m h ws zs = lists.unless_hit hits use_ new use_form new_form (composite z t es) _ s n m h (λ ws zs. stay) ws zs
-  base_goes q s (selector z b k) n m h ws zs = lists.unless_hit hits use_ new use_form new_form (selector z b k) _ s n m h (λ ws zs. stay) ws zs
-  base_goes q s (index z b i) n m h ws zs = lists.unless_hit hits use_ new use_form new_form (index z b i) _ s n m h (λ ws zs. stay) ws zs
-  base_goes q s (slice z b i j) n m h ws zs = lists.unless_hit hits use_ new use_form new_form (slice z b i j) _ s n m h (λ ws zs. stay) ws zs
-  base_goes q s (call z b es r) n m h ws zs = lists.unless_hit hits use_ new use_form new_form (call z b es r) _ s n m h (λ ws zs. stay) ws zs
-  base_goes q s (func_lit z y a b) n m h ws zs = lists.unless_hit hits use_ new use_form new_form (func_lit z y a b) _ s n m h (λ ws zs. stay) ws zs
-  base_goes q s (type_operand z t) n m h ws zs = lists.unless_hit hits use_ new use_form new_form (type_operand z t) _ s n m h (λ ws zs. stay) ws zs
-  base_goes q s (unary z o b) n m h ws zs = lists.unless_hit hits use_ new use_form new_form (unary z o b) _ s n m h (λ ws zs. stay) ws zs
-  base_goes q s (binary z o a b) n m h ws zs = lists.unless_hit hits use_ new use_form new_form (binary z o a b) _ s n m h (λ ws zs. stay) ws zs
-  base_goes q s (star z b) n m h ws zs = lists.unless_hit hits use_ new use_form new_form (star z b) _ s n m h (λ ws zs. stay) ws zs
-
   -- ---- keys
 
   -- a key is a part like any other
-  key_like : (y : Expr S) {all : List (Seen S)} {xs ys us : Cs} (vs : Cs) → Go all xs ys us (after_expr y vs) → Go all xs ys us (after_key (some_value (plain y)) vs)
-  key_like (ident s n) {us = us} vs g =
-      let q : Go [] vs vs (put (plain_part (an_expr (ident s n))) vs) (put (key_part (ident s n)) vs) = put_part (plain_part (an_expr (ident s n))) (key_part (ident s n)) refl in
+  key_like : (w : Option (TypeExpr S)) (y : Expr S) {all : List (Seen S)} {xs ys us : Cs} (vs : Cs) → Go all xs ys us (after_expr y vs) → Go all xs ys us (after_key w (some_value (plain y)) vs)
+  key_like w (ident s n) {us = us} vs g =
+      let q : Go [] vs vs (put (plain_part (an_expr (ident s n))) vs) (put (key_of w (ident s n)) vs) = put_part (plain_part (an_expr (ident s n))) (key_of w (ident s n)) refl in
       let same = q.same tt tt refl in
       record {
         same = λ k o h. g.same k o h ∙ same;
@@ -107,80 +90,80 @@ module _ {S : Type 0} (hits : Expr S → Bool) (use_ new : Expr S) (use_form : I
     where
       moved : {us vs ws : Cs} → spans_in vs ≡ spans_in ws → PartsSwap use_ new us vs → PartsSwap use_ new us ws
       moved e k = record { front = k.front; back = k.back; old_is = k.old_is; now_is = sym e ∙ k.now_is }
-  key_like (int_lit z k) vs g = g
-  key_like (rune_lit z k) vs g = g
-  key_like (str_lit z k) vs g = g
-  key_like (composite z t es) vs g = g
-  key_like (selector z b k) vs g = g
-  key_like (index z b i) vs g = g
-  key_like (slice z b i j) vs g = g
-  key_like (call z b es r) vs g = g
-  key_like (func_lit z y a b) vs g = g
-  key_like (type_operand z t) vs g = g
-  key_like (unary z o b) vs g = g
-  key_like (binary z o a b) vs g = g
-  key_like (star z b) vs g = g
+  key_like w (int_lit z k) vs g = g
+  key_like w (rune_lit z k) vs g = g
+  key_like w (str_lit z k) vs g = g
+  key_like w (composite z t es) vs g = g
+  key_like w (selector z b k) vs g = g
+  key_like w (index z b i) vs g = g
+  key_like w (slice z b i j) vs g = g
+  key_like w (call z b es r) vs g = g
+  key_like w (func_lit z y a b) vs g = g
+  key_like w (type_operand z t) vs g = g
+  key_like w (unary z o b) vs g = g
+  key_like w (binary z o a b) vs g = g
+  key_like w (star z b) vs g = g
 
   -- the same of the old key, which is a name or not
-  old_key : (y : Expr S) {all : List (Seen S)} {xs ys vs : Cs} (us : Cs) → Go all xs ys (after_expr y us) vs → Go all xs ys (after_key (some_value (plain y)) us) vs
-  old_key (ident s n) {vs = vs} us g =
+  old_key : (w : Option (TypeExpr S)) (y : Expr S) {all : List (Seen S)} {xs ys vs : Cs} (us : Cs) → Go all xs ys (after_expr y us) vs → Go all xs ys (after_key w (some_value (plain y)) us) vs
+  old_key w (ident s n) {vs = vs} us g =
       record {
         same = λ k o h. sym (ap (map part_span) parts_same) ∙ g.same k o h;
         split = λ k o h. moved (g.split k o h);
         hit = λ p n k o h. moved (g.hit p n k o h);
       }
     where
-      parts_same : parts_in (put (plain_part (an_expr (ident s n))) us) ≡ parts_in (put (key_part (ident s n)) us)
+      parts_same : parts_in (put (plain_part (an_expr (ident s n))) us) ≡ parts_in (put (key_of w (ident s n)) us)
       parts_same =
           map-append (λ a. a.part) us (plain_part (an_expr (ident s n)) ∷ [])
-          ∙ sym (map-append (λ a. a.part) us (key_part (ident s n) ∷ []))
+          ∙ sym (map-append (λ a. a.part) us (key_of w (ident s n) ∷ []))
 
-      moved : PartsSwap use_ new (put (plain_part (an_expr (ident s n))) us) vs → PartsSwap use_ new (put (key_part (ident s n)) us) vs
+      moved : PartsSwap use_ new (put (plain_part (an_expr (ident s n))) us) vs → PartsSwap use_ new (put (key_of w (ident s n)) us) vs
       moved k = record { front = k.front; back = k.back; old_is = sym parts_same ∙ k.old_is; now_is = k.now_is }
-  old_key (int_lit z k) us g = g
-  old_key (rune_lit z k) us g = g
-  old_key (str_lit z k) us g = g
-  old_key (composite z t es) us g = g
-  old_key (selector z b k) us g = g
-  old_key (index z b i) us g = g
-  old_key (slice z b i j) us g = g
-  old_key (call z b es r) us g = g
-  old_key (func_lit z y a b) us g = g
-  old_key (type_operand z t) us g = g
-  old_key (unary z o b) us g = g
-  old_key (binary z o a b) us g = g
-  old_key (star z b) us g = g
+  old_key w (int_lit z k) us g = g
+  old_key w (rune_lit z k) us g = g
+  old_key w (str_lit z k) us g = g
+  old_key w (composite z t es) us g = g
+  old_key w (selector z b k) us g = g
+  old_key w (index z b i) us g = g
+  old_key w (slice z b i j) us g = g
+  old_key w (call z b es r) us g = g
+  old_key w (func_lit z y a b) us g = g
+  old_key w (type_operand z t) us g = g
+  old_key w (unary z o b) us g = g
+  old_key w (binary z o a b) us g = g
+  old_key w (star z b) us g = g
 
   differ : {b : Bool} → b ≡ false → b ≡ true → ⊥
   differ e f = absurd cc
 
   -- a key that stays, or doesn't
-  plain_key : (p : Place S) (u : Option GoType) (x : Expr S) (b : Bool) → meets u is_struct ≡ b → KeyKeyed p u (some_value (plain x)) → (xs ys : Cs)
+  plain_key : (w : Option (TypeExpr S)) (p : Place S) (u : Option GoType) (x : Expr S) (b : Bool) → meets u is_struct ≡ b → KeyKeyed p u (some_value (plain x)) → (xs ys : Cs)
       → Go (expr_seen p (key_use p.env u) x) xs ys (after_expr x xs) (after_expr (new_expr c p (key_use p.env u) x) ys)
-      → Go (if b then [] else value_seen p (key_use p.env u) (plain x)) xs ys (after_key (some_value (plain x)) xs)
-      (after_key (some_value (if b then value_with c.span (plain x) else new_value c p (key_use p.env u) (plain x))) ys)
-  plain_key p u x false e h xs ys g = old_key x xs (key_like (new_expr c p (key_use p.env u) x) ys g)
-  plain_key p u (ident s n) true e h xs ys g = put_part (key_part (ident s n)) (key_part (ident s n)) refl
-  plain_key p u (int_lit z k) true e h xs ys g = absurd (differ (h.0) e)
-  plain_key p u (rune_lit z k) true e h xs ys g = absurd (differ (h.0) e)
-  plain_key p u (str_lit z k) true e h xs ys g = absurd (differ (h.0) e)
-  plain_key p u (composite z t es) true e h xs ys g = absurd (differ (h.0) e)
-  plain_key p u (selector z b k) true e h xs ys g = absurd (differ (h.0) e)
-  plain_key p u (index z b i) true e h xs ys g = absurd (differ (h.0) e)
-  plain_key p u (slice z b i j) true e h xs ys g = absurd (differ (h.0) e)
-  plain_key p u (call z b es r) true e h xs ys g = absurd (differ (h.0) e)
-  plain_key p u (func_lit z y a b) true e h xs ys g = absurd (differ (h.0) e)
-  plain_key p u (type_operand z t) true e h xs ys g = absurd (differ (h.0) e)
-  plain_key p u (unary z o b) true e h xs ys g = absurd (differ (h.0) e)
-  plain_key p u (binary z o a b) true e h xs ys g = absurd (differ (h.0) e)
-  plain_key p u (star z b) true e h xs ys g = absurd (differ (h.0) e)
+      → Go (if b then [] else value_seen p (key_use p.env u) (plain x)) xs ys (after_key w (some_value (plain x)) xs)
+      (after_key w (some_value (if b then value_with c.span (plain x) else new_value c p (key_use p.env u) (plain x))) ys)
+  plain_key w p u x false e h xs ys g = old_key w x xs (key_like w (new_expr c p (key_use p.env u) x) ys g)
+  plain_key w p u (ident s n) true e h xs ys g = put_part (key_of w (ident s n)) (key_of w (ident s n)) refl
+  plain_key w p u (int_lit z k) true e h xs ys g = absurd (differ (h.0) e)
+  plain_key w p u (rune_lit z k) true e h xs ys g = absurd (differ (h.0) e)
+  plain_key w p u (str_lit z k) true e h xs ys g = absurd (differ (h.0) e)
+  plain_key w p u (composite z t es) true e h xs ys g = absurd (differ (h.0) e)
+  plain_key w p u (selector z b k) true e h xs ys g = absurd (differ (h.0) e)
+  plain_key w p u (index z b i) true e h xs ys g = absurd (differ (h.0) e)
+  plain_key w p u (slice z b i j) true e h xs ys g = absurd (differ (h.0) e)
+  plain_key w p u (call z b es r) true e h xs ys g = absurd (differ (h.0) e)
+  plain_key w p u (func_lit z y a b) true e h xs ys g = absurd (differ (h.0) e)
+  plain_key w p u (type_operand z t) true e h xs ys g = absurd (differ (h.0) e)
+  plain_key w p u (unary z o b) true e h xs ys g = absurd (differ (h.0) e)
+  plain_key w p u (binary z o a b) true e h xs ys g = absurd (differ (h.0) e)
+  plain_key w p u (star z b) true e h xs ys g = absurd (differ (h.0) e)
 
-  braced_key : (p : Place S) (u : Option GoType) (s : S) (es : Elems S) (b : Bool) → meets u is_struct ≡ b → KeyKeyed p u (some_value (braced s es)) → (xs ys : Cs)
-      → (ValueKeyed p (key_use p.env u) (braced s es) → Go (value_seen p (key_use p.env u) (braced s es)) xs ys (after_value (braced s es) xs) (after_value (new_value c p (key_use p.env u) (braced s es)) ys))
-      → Go (if b then [] else value_seen p (key_use p.env u) (braced s es)) xs ys (after_key (some_value (braced s es)) xs)
-      (after_key (some_value (if b then value_with c.span (braced s es) else new_value c p (key_use p.env u) (braced s es))) ys)
-  braced_key p u s es false e h xs ys g = g h.1
-  braced_key p u s es true e h xs ys g = absurd (differ (h.0) e)
+  braced_key : (w : Option (TypeExpr S)) (p : Place S) (u : Option GoType) (s : S) (es : Elems S) (b : Bool) → meets u is_struct ≡ b → KeyKeyed p u (some_value (braced s es)) → (xs ys : Cs)
+      → (ValueKeyed p (key_use p.env u) (braced s es) → Go (value_seen p (key_use p.env u) (braced s es)) xs ys (after_value (keys_written w) (braced s es) xs) (after_value (keys_written w) (new_value c p (key_use p.env u) (braced s es)) ys))
+      → Go (if b then [] else value_seen p (key_use p.env u) (braced s es)) xs ys (after_key w (some_value (braced s es)) xs)
+      (after_key w (some_value (if b then value_with c.span (braced s es) else new_value c p (key_use p.env u) (braced s es))) ys)
+  braced_key w p u s es false e h xs ys g = g h.1
+  braced_key w p u s es true e h xs ys g = absurd (differ (h.0) e)
 
   mutual
     pub expr_goes : (p : Place S) (u : Use) (x : Expr S) (xs ys : Cs) → Go (expr_seen p u x) xs ys (after_expr x xs) (after_expr (new_expr c p u x) ys)
@@ -190,11 +173,11 @@ module _ {S : Type 0} (hits : Expr S → Bool) (use_ new : Expr S) (use_form : I
     expr_goes p u (str_lit s n) xs ys = answered p u (str_lit s n) _ [] (λ h. stay)
     expr_goes p u (composite s t es) xs ys =
         answered p u (composite s t es) _ _
-        (λ h. both {all = seen_type p t ∷ []} (type_goes p t xs ys) (elems_go (in_slot (a_slot 1 false false) p) (given (type_meant p.env t) (λ u. Some (under (defined_in p.env) u))) 0 es h.1 _ _))
+        (λ h. both {all = seen_type p t ∷ []} (type_goes p t xs ys) (elems_go (Some t) (in_slot (a_slot 1 false false) p) (given (type_meant p.env t) (λ u. Some (under (defined_in p.env) u))) 0 es h _ _))
     expr_goes p u (selector s b n) xs ys =
         answered p u (selector s b n) _ _
-        (λ h. lists.dotted hits use_ new use_form new_form b (new_expr c (in_slot (inner_slot p.slot (selector s b n) 7 false true) p) other b) s n (new_name c n)
-        (expr_goes (in_slot (inner_slot p.slot (selector s b n) 7 false true) p) other b xs ys) (base_goes (in_slot (inner_slot p.slot (selector s b n) 7 false true) p) s b n (new_name c n) h.0))
+        (λ h. then_put (plain_part (an_expr (selector s b n))) (plain_part (an_expr (selector s _ (new_name c n)))) refl
+        (expr_goes (in_slot (inner_slot p.slot (selector s b n) 7 false true) p) other b xs ys))
     expr_goes p u (index s b i) xs ys = answered p u (index s b i) _ _ (λ h. both (expr_goes _ other b xs ys) (expr_goes _ other i _ _))
     expr_goes p u (slice s b i j) xs ys = answered p u (slice s b i j) _ _ (λ h. both (both (expr_goes _ other b xs ys) (option_goes _ i _ _)) (option_goes _ j _ _))
     expr_goes p u (call s f es r) xs ys =
@@ -215,19 +198,19 @@ module _ {S : Type 0} (hits : Expr S → Bool) (use_ new : Expr S) (use_form : I
     option_goes p no_expr xs ys = stay
     option_goes p (some_expr x) xs ys = expr_goes p other x xs ys
 
-    elems_go : (p : Place S) (u : Option GoType) (i : ℕ) (es : Elems S) → ElemsKeyed p u i es → (xs ys : Cs) → Go (elems_seen p u i es) xs ys (after_elems es xs) (after_elems (new_elems c p u i es) ys)
-    elems_go p u i no_elems h xs ys = stay
-    elems_go p u i (elem s k v es) h xs ys =
-        both (both (key_goes p u k h.0 xs ys) (value_goes (record p { slot = a_slot 1 false (elem_closed es) }) (elem_use p.env u i k) v h.1.0 _ _)) (elems_go p u (suc i) es h.1.1 _ _)
+    elems_go : (w : Option (TypeExpr S)) (p : Place S) (u : Option GoType) (i : ℕ) (es : Elems S) → ElemsKeyed p u i es → (xs ys : Cs) → Go (elems_seen p u i es) xs ys (after_elems w es xs) (after_elems w (new_elems c p u i es) ys)
+    elems_go w p u i no_elems h xs ys = stay
+    elems_go w p u i (elem s k v es) h xs ys =
+        both (both (key_goes w p u k h.0 xs ys) (value_goes (inner_written w) (record p { slot = a_slot 1 false (elem_closed es) }) (elem_use p.env u i k) v h.1.0 _ _)) (elems_go w p u (suc i) es h.1.1 _ _)
 
-    key_goes : (p : Place S) (u : Option GoType) (k : ValueOption S) → KeyKeyed p u k → (xs ys : Cs) → Go (key_seen p u k) xs ys (after_key k xs) (after_key (new_key c p u k) ys)
-    key_goes p u no_value h xs ys = stay
-    key_goes p u (some_value (plain x)) h xs ys = plain_key p u x (meets u is_struct) refl h xs ys (expr_goes p (key_use p.env u) x xs ys)
-    key_goes p u (some_value (braced s es)) h xs ys = braced_key p u s es (meets u is_struct) refl h xs ys (λ k. elems_go p _ 0 es k xs ys)
+    key_goes : (w : Option (TypeExpr S)) (p : Place S) (u : Option GoType) (k : ValueOption S) → KeyKeyed p u k → (xs ys : Cs) → Go (key_seen p u k) xs ys (after_key w k xs) (after_key w (new_key c p u k) ys)
+    key_goes w p u no_value h xs ys = stay
+    key_goes w p u (some_value (plain x)) h xs ys = plain_key w p u x (meets u is_struct) refl h xs ys (expr_goes p (key_use p.env u) x xs ys)
+    key_goes w p u (some_value (braced s es)) h xs ys = braced_key w p u s es (meets u is_struct) refl h xs ys (λ k. elems_go (keys_written w) p _ 0 es k xs ys)
 
-    value_goes : (p : Place S) (u : Use) (v : Value S) → ValueKeyed p u v → (xs ys : Cs) → Go (value_seen p u v) xs ys (after_value v xs) (after_value (new_value c p u v) ys)
-    value_goes p u (plain e) h xs ys = expr_goes p u e xs ys
-    value_goes p u (braced s es) h xs ys = elems_go p _ 0 es h xs ys
+    value_goes : (w : Option (TypeExpr S)) (p : Place S) (u : Use) (v : Value S) → ValueKeyed p u v → (xs ys : Cs) → Go (value_seen p u v) xs ys (after_value w v xs) (after_value w (new_value c p u v) ys)
+    value_goes w p u (plain e) h xs ys = expr_goes p u e xs ys
+    value_goes w p u (braced s es) h xs ys = elems_go w p _ 0 es h xs ys
 
     stmt_goes : (p : Place S) (l : Bool) (s : Stmt S) (xs ys : Cs) → Go (stmt_seen p l s) xs ys (after.after_stmt s xs) (after.after_stmt (new_stmt c p l s) ys)
     stmt_goes p l (const_decl s g ss) xs ys = stmt_itself p (const_decl s g ss) (constants_go (plain_slot p) nothing_to_repeat 0 ss xs ys)

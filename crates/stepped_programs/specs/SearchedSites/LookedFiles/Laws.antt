@@ -17,7 +17,8 @@ use Rattle.constant_steps.specs.FormImports.ImportLaws.Steps.{names_standing}
 use Rattle.member_uses.specs.Uses.{Names}
 use Rattle.member_uses.specs.Laws.{Knows}
 use Rattle.file_names.specs.Members.{IsBlockOf}
-use Rattle.repeated_parts.specs.UseSearch.UsesOfMarks.Laws.{EachSound}
+use Rattle.repeated_parts.specs.declared.literal_types.table.LiteralTypes.{LiteralTypes}
+use Rattle.repeated_parts.specs.UseSearch.UsesOfMarks.Laws.{EachSound, EachTold}
 use Rattle.stepped_programs.specs.declared.package_search.looks.FileLook.{FileLook}
 use Rattle.stepped_programs.specs.declared.package_search.looks.ProgramSources.{ProgramSources}
 use Rattle.stepped_programs.specs.PackageSearch.Looks.{IsLook}
@@ -25,7 +26,8 @@ use Rattle.stepped_programs.specs.SearchedSites.Told.{IsFile}
 
 -- The file stands there in a program of these packages, and reads from its text, of which these are the comments; its
 -- package's block has these names; its identifiers, with the names to avoid, are fewer than 2^64; and its declarations
--- are as marked_uses asks, by whatever table of its scopes.
+-- are as marked_uses asks, by whatever table of its scopes, and whatever table tells which keys of composite literals
+-- name fields.
 pub record StandsAs
     (marks : List MarkRef) (st : Standing) (w : Where At) (s : ProgramSources) (source : SourceTree)
     (tokens : TokenLists) (block : List (List ℕ)) : Type 0 where
@@ -39,9 +41,10 @@ pub record StandsAs
   pub comments_are : tokens.comments ≡ text.comments
   pub block_is : IsBlockOf block (package_with here_of w.of)
   pub few_words : fuel_for w.source.tree (avoided (names_standing st.packages w) []) < 2 ^ 64
-  pub sound :
-      (f : Names) → Knows here_of (file_with here_of) st.packages w f
-      → EachSound st.packages marks w f w.source.tree.decls
+  pub sound : EachSound st.packages w w.source.tree.decls
+  pub told :
+      (f : Names) (t : LiteralTypes) → Knows here_of (file_with here_of) st.packages w f
+      → EachTold st.packages w f t w.source.tree.decls
 
 -- A look at such a file tells of it what searches ask.
 abbrev pub LooksTellFiles : Type 0

@@ -21,7 +21,8 @@ use Rattle.member_uses.specs.Laws.{AllConstants, Knows}
 use Rattle.module_marks.specs.Tables.{IsTableOf}
 use Rattle.module_marks.specs.Views.{mark_ref_of}
 use Rattle.repeated_parts.specs.UseSearch.MarkValues.Tables.{DeclKey, key_of, value_in}
-use Rattle.repeated_parts.specs.UseSearch.UsesOfMarks.Laws.{EachSound}
+use Rattle.repeated_parts.specs.declared.literal_types.table.LiteralTypes.{LiteralTypes}
+use Rattle.repeated_parts.specs.UseSearch.UsesOfMarks.Laws.{EachSound, EachTold}
 use Rattle.stepped_programs.specs.declared.package_search.looks.ProgramSources.{ProgramSources}
 use Rattle.stepped_programs.specs.PackageSearch.Search.{is_settled}
 use Rattle.stepped_programs.specs.SearchedSites.Searched.{AreSearched, sites_in_file}
@@ -43,12 +44,14 @@ pub record AreTokensOf (st : Standing) (w : Where At) (list : TokenLists) : Type
   pub comments_are : list.comments ≡ text.comments
 
 -- The file may be searched: its identifiers, with the names to avoid, are fewer than 2^64, and its declarations are as
--- marked_uses asks, by whatever table of its scopes.
+-- marked_uses asks, by whatever table of its scopes, and whatever table tells which keys of composite literals name
+-- fields.
 pub record IsSearchable (marks : List MarkRef) (st : Standing) (w : Where At) : Type 0 where
   pub few_words : fuel_for w.source.tree (avoided (names_standing st.packages w) []) < 2 ^ 64
-  pub sound :
-      (f : Names) → Knows here_of (file_with here_of) st.packages w f
-      → EachSound st.packages marks w f w.source.tree.decls
+  pub sound : EachSound st.packages w w.source.tree.decls
+  pub told :
+      (f : Names) (t : LiteralTypes) → Knows here_of (file_with here_of) st.packages w f
+      → EachTold st.packages w f t w.source.tree.decls
 
 -- The code has the program: its packages, which of their declarations are marked, what these are declared as, and the
 -- tokens of the files of each package by its number. Each file may be searched.

@@ -1,11 +1,10 @@
 -- Parts of declarations that may be uses, with those of one name in the place of those of another (Go specification,
 -- Operands; Qualified identifiers; Selectors).
-use Rattle.std.specs.Prelude.{◌≡◌, Bool, true, false, List, [], ◌∷◌, ◌++◌, map}
-use Rattle.go_tree.specs.Tree.{Expr, selector}
+use Rattle.std.specs.Prelude.{◌≡◌, Bool, true, List, [], ◌∷◌, ◌++◌, map}
+use Rattle.go_tree.specs.Tree.{Expr}
 use Rattle.member_uses.specs.PossibleUses.Candidates.{Candidate}
 use Rattle.member_uses.specs.PossibleUses.Parts.{after_expr}
 use Rattle.run_rules.specs.Sites.{Part, part_span}
-use Rattle.run_rules.specs.Surroundings.{Seen, seen}
 
 module _ {S : Type 0} where
   -- parts without whether they are keys
@@ -23,11 +22,6 @@ module _ {S : Type 0} where
     pub back : List (Part S)
     pub old_is : parts_in old ≡ front ++ (parts_in (after_expr use_ []) ++ back)
     pub now_is : spans_in now ≡ map part_span front ++ (spans_in (after_expr new []) ++ map part_span back)
-
-  -- no dot stands behind what is hit
-  abbrev pub HasNoDot : (Expr S → Bool) → Seen S → Type 0
-  HasNoDot hits (seen p u (selector s b n)) = hits b ≡ false
-  HasNoDot hits x = Unit {0}
 
   -- the test holds of each span
   abbrev pub EachSpan : (S → Bool) → List S → Type 0

@@ -62,6 +62,7 @@ pub fn search_program(
         places: &program.places,
         marks: &program.marks,
         values: &program.values,
+        types: &program.types,
     };
     search_kept(
         alloc,

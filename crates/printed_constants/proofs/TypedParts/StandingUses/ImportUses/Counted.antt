@@ -112,20 +112,7 @@ module _ {S : Type 0} (to : S → Span) (ps : List (packages.Package S)) (w : Wh
 
   not_counted : (e : Expr S) (p : Place S) (u : Use) → may_be_use e ≡ false → uses_of named_so (seen p u e) ≡ 0
   not_counted (ident s n) p u h = refl
-  not_counted (selector s (ident y m) n) p u h = absurd (grind (arith, h))
-  not_counted (selector s (int_lit y m) n) p u h = refl
-  not_counted (selector s (rune_lit y m) n) p u h = refl
-  not_counted (selector s (str_lit y m) n) p u h = refl
-  not_counted (selector s (composite y z es) n) p u h = refl
-  not_counted (selector s (selector y b m) n) p u h = refl
-  not_counted (selector s (index y b i) n) p u h = refl
-  not_counted (selector s (slice y b i j) n) p u h = refl
-  not_counted (selector s (call y b es r) n) p u h = refl
-  not_counted (selector s (func_lit y g z b) n) p u h = refl
-  not_counted (selector s (type_operand y z) n) p u h = refl
-  not_counted (selector s (unary y o b) n) p u h = refl
-  not_counted (selector s (binary y o b d) n) p u h = refl
-  not_counted (selector s (star y b) n) p u h = refl
+  not_counted (selector s b n) p u h = absurd (grind (arith, h))
   not_counted (int_lit s n) p u h = refl
   not_counted (rune_lit s n) p u h = refl
   not_counted (str_lit s n) p u h = refl

@@ -1,11 +1,12 @@
 -- What holds of the spans of a declaration holds of the names among its parts.
-use Rattle.std.proofs.Common.{List, [], ◌∷◌, sym, subst}
+use Rattle.std.proofs.Common.{List, [], ◌∷◌, Option, Some, sym, subst}
 use Rattle.go_tree.specs.declared.spans.Span.{Span}
-use Rattle.go_tree.specs.Tree.{Expr, ident, int_lit, rune_lit, str_lit, composite, selector, index, slice, call, func_lit, type_operand, unary, binary, star, Exprs, no_exprs, expr_and, ExprOption, no_expr, some_expr, Elems, no_elems, elem, Value, plain, braced, ValueOption, no_value, some_value, Stmt, const_decl, var_decl, empty, eval, step, assign, define, return_, break_, continue_, inner, if_, for_, range_, switch, defer, label, Stmts, no_stmts, stmt_and, StmtOption, no_stmt, some_stmt, BlockOption, no_block, some_block, RangeLeft, nothing, assigns, defines, Arms, no_arms, arm, Cases, no_cases, case, ValueSpecs, no_specs, spec}
+use Rattle.go_tree.specs.Tree.{TypeExpr, Expr, ident, int_lit, rune_lit, str_lit, composite, selector, index, slice, call, func_lit, type_operand, unary, binary, star, Exprs, no_exprs, expr_and, ExprOption, no_expr, some_expr, Elems, no_elems, elem, Value, plain, braced, ValueOption, no_value, some_value, Stmt, const_decl, var_decl, empty, eval, step, assign, define, return_, break_, continue_, inner, if_, for_, range_, switch, defer, label, Stmts, no_stmts, stmt_and, StmtOption, no_stmt, some_stmt, BlockOption, no_block, some_block, RangeLeft, nothing, assigns, defines, Arms, no_arms, arm, Cases, no_cases, case, ValueSpecs, no_specs, spec}
 use Rattle.go_tree.specs.File.{Decl, values, types, func}
 use Rattle.run_rules.specs.Sites.{an_expr}
-use Rattle.member_uses.specs.PossibleUses.Candidates.{plain_part, key_part}
-use Rattle.member_uses.specs.PossibleUses.Parts.{put, put_selector, after_arms, after_block_option, after_cases, after_decl, after_elems, after_expr, after_expr_option, after_exprs, after_key, after_left, after_receiver, after_sig, after_specs, after_stmt, after_stmt_option, after_stmts, after_type, after_type_option, after_value}
+use Rattle.member_uses.specs.PossibleUses.Candidates.{plain_part, key_of}
+use Rattle.member_uses.specs.PossibleUses.Written.{inner_written, keys_written}
+use Rattle.member_uses.specs.PossibleUses.Parts.{put, after_arms, after_block_option, after_cases, after_decl, after_elems, after_expr, after_expr_option, after_exprs, after_key, after_left, after_receiver, after_sig, after_specs, after_stmt, after_stmt_option, after_stmts, after_type, after_type_option, after_value}
 use Rattle.splice_laws.proofs.RunLaws.NodeSpans.{AllExpr, AllExprs, AllExprOption, AllElems, AllValue, AllValueOption, AllStmt, AllStmts, AllStmtOption, AllBlockOption, AllLeft, AllArms, AllCases, AllSpecs, AllDecl}
 use Rattle.printed_constants.proofs.TypedParts.StandingUses.LoneUses.Grown.{C, All, Free, all_both, none_all, free_both}
 use Rattle.printed_constants.proofs.TypedParts.StandingUses.LoneUses.Walk.{type_free, type_option_free, sig_free, types_free, receiver_free}
@@ -23,12 +24,8 @@ module _ (P : Span → Type 0) where
     expr (int_lit s n) xs h k = k
     expr (rune_lit s n) xs h k = k
     expr (str_lit s n) xs h k = k
-    expr (composite s t es) xs h k = elems es (after_type t xs) h.2 (past (type_free t xs) k)
-    expr (selector s b n) xs h k = chosen b (expr b xs h.1 k)
-      where
-        chosen : (d : Expr Span) → All P (after_expr b xs) → All P (put_selector d (selector s b n) (after_expr b xs))
-        chosen (ident y m) g = one_more (plain_part (an_expr (selector s b n))) (after_expr b xs) (h.0, tt) g
-        chosen _ g = g
+    expr (composite s t es) xs h k = elems (Some t) es (after_type t xs) h.2 (past (type_free t xs) k)
+    expr (selector s b n) xs h k = one_more (plain_part (an_expr (selector s b n))) (after_expr b xs) (h.0, tt) (expr b xs h.1 k)
     expr (index s b i) xs h k = expr i (after_expr b xs) h.2 (expr b xs h.1 k)
     expr (slice s b i j) xs h k = option j (after_expr_option i (after_expr b xs)) h.3 (option i (after_expr b xs) h.2 (expr b xs h.1 k))
     expr (call s f es r) xs h k = one_more (plain_part (an_expr (call s f es r))) (after_exprs es (after_expr f xs)) (tt, tt) (exprs es (after_expr f xs) h.2 (expr f xs h.1 k))
@@ -46,19 +43,20 @@ module _ (P : Span → Type 0) where
     option no_expr xs h k = k
     option (some_expr e) xs h k = expr e xs h k
 
-    elems : (es : Elems Span) (xs : List C) → AllElems P es → All P xs → All P (after_elems es xs)
-    elems no_elems xs h k = k
-    elems (elem s q v es) xs h k = elems es (after_value v (after_key q xs)) h.2 (value v (after_key q xs) h.1 (key q xs h.0 k))
+    elems : (w : Option (TypeExpr Span)) (es : Elems Span) (xs : List C) → AllElems P es → All P xs → All P (after_elems w es xs)
+    elems w no_elems xs h k = k
+    elems w (elem s q v es) xs h k =
+        elems w es (after_value (inner_written w) v (after_key w q xs)) h.2 (value (inner_written w) v (after_key w q xs) h.1 (key w q xs h.0 k))
 
-    key : (q : ValueOption Span) (xs : List C) → AllValueOption P q → All P xs → All P (after_key q xs)
-    key no_value xs h k = k
-    key (some_value (plain (ident s n))) xs h k = one_more (key_part (ident s n)) xs (h, tt) k
-    key (some_value (plain e)) xs h k = value (plain e) xs h k
-    key (some_value (braced s es)) xs h k = value (braced s es) xs h k
+    key : (w : Option (TypeExpr Span)) (q : ValueOption Span) (xs : List C) → AllValueOption P q → All P xs → All P (after_key w q xs)
+    key w no_value xs h k = k
+    key w (some_value (plain (ident s n))) xs h k = one_more (key_of w (ident s n)) xs (h, tt) k
+    key w (some_value (plain e)) xs h k = value (keys_written w) (plain e) xs h k
+    key w (some_value (braced s es)) xs h k = value (keys_written w) (braced s es) xs h k
 
-    value : (v : Value Span) (xs : List C) → AllValue P v → All P xs → All P (after_value v xs)
-    value (plain e) xs h k = expr e xs h k
-    value (braced s es) xs h k = elems es xs h k
+    value : (w : Option (TypeExpr Span)) (v : Value Span) (xs : List C) → AllValue P v → All P xs → All P (after_value w v xs)
+    value w (plain e) xs h k = expr e xs h k
+    value w (braced s es) xs h k = elems w es xs h k
 
     stmt : (s : Stmt Span) (xs : List C) → AllStmt P s → All P xs → All P (after_stmt s xs)
     stmt (const_decl s g ss) xs h k = specs ss xs h k

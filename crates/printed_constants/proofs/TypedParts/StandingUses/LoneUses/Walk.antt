@@ -6,8 +6,9 @@ use Rattle.go_tree.specs.File.{TypeSpec, Receiver, Decl, values, types, func}
 use Rattle.run_rules.specs.Sites.{an_expr, a_type_part}
 use Rattle.order_runs.proofs.RunSteps.TokenPlaces.{itself}
 use Rattle.order_runs.proofs.RunSteps.SpanPlaces.{ExprIn, ExprsIn, OptionIn, ElemsIn, KeyIn, ValueIn, StmtIn, StmtsIn, FirstIn, BlockIn, LeftIn, ArmsIn, CasesIn, SpecsIn, DeclIn}
-use Rattle.member_uses.specs.PossibleUses.Candidates.{plain_part, key_part, receiver_part}
-use Rattle.member_uses.specs.PossibleUses.Parts.{put_selector, after_arms, after_block_option, after_cases, after_decl, after_elems, after_expr, after_expr_option, after_exprs, after_fields, after_key, after_left, after_params, after_receiver, after_sig, after_specs, after_stmt, after_stmt_option, after_stmts, after_type, after_type_option, after_types, after_value}
+use Rattle.member_uses.specs.PossibleUses.Candidates.{plain_part, key_of, receiver_part}
+use Rattle.member_uses.specs.PossibleUses.Written.{inner_written, keys_written}
+use Rattle.member_uses.specs.PossibleUses.Parts.{after_arms, after_block_option, after_cases, after_decl, after_elems, after_expr, after_expr_option, after_exprs, after_fields, after_key, after_left, after_params, after_receiver, after_sig, after_specs, after_stmt, after_stmt_option, after_stmts, after_type, after_type_option, after_types, after_value}
 use Rattle.printed_constants.proofs.TypedParts.StandingUses.LoneUses.Grown.{C, Free, Grows, free_none, free_put, free_both, stays, wider, one, two, behind, before, leaf, short}
 
 -- ---- types name nothing
@@ -51,13 +52,8 @@ mutual
   expr (int_lit s n) xs h = stays
   expr (rune_lit s n) xs h = stays
   expr (str_lit s n) xs h = stays
-  expr (composite s t es) xs h = behind (type_free t xs) (wider h.1.above itself (one h.1.it (λ a b k. elems es (after_type t xs) k)))
-  expr (selector s b n) {lo = lo} {hi = hi} xs h =
-      chosen b (one h.1.it (λ a c k. expr b xs k))
-    where
-      chosen : (d : Expr Span) → Grows lo h.1.upto xs (after_expr b xs) → Grows lo hi xs (put_selector d (selector s b n) (after_expr b xs))
-      chosen (ident y m) g = short (plain_part (an_expr (selector s b n))) s refl h.0 h.1.before h.1.below g
-      chosen _ g = wider itself h.1.below g
+  expr (composite s t es) xs h = behind (type_free t xs) (wider h.1.above itself (one h.1.it (λ a b k. elems (Some t) es (after_type t xs) k)))
+  expr (selector s b n) xs h = short (plain_part (an_expr (selector s b n))) s refl h.0 h.1.before h.1.below (one h.1.it (λ a c k. expr b xs k))
   expr (index s b i) xs h = two h.1.both (λ a c k. one k (λ v w q. expr b xs q)) (λ a c k. one k (λ v w q. expr i (after_expr b xs) q))
   expr (slice s b i j) xs h =
       two h.1.both (λ a c k. one k (λ v w q. expr b xs q))
@@ -79,20 +75,20 @@ mutual
   option no_expr xs h = stays
   option (some_expr e) xs h = one h (λ v w q. expr e xs q)
 
-  elems : (es : Elems Span) {lo hi : ℕ} (xs : List C) → ElemsIn lo hi es → Grows lo hi xs (after_elems es xs)
-  elems no_elems xs h = stays
-  elems (elem s k v es) xs h =
-      two h (λ a b q. two q (λ c d m. key k xs m) (λ c d m. value v (after_key k xs) m)) (λ a b q. elems es (after_value v (after_key k xs)) q)
+  elems : (w : Option (TypeExpr Span)) (es : Elems Span) {lo hi : ℕ} (xs : List C) → ElemsIn lo hi es → Grows lo hi xs (after_elems w es xs)
+  elems w no_elems xs h = stays
+  elems w (elem s k v es) xs h =
+      two h (λ a b q. two q (λ c d m. key w k xs m) (λ c d m. value (inner_written w) v (after_key w k xs) m)) (λ a b q. elems w es (after_value (inner_written w) v (after_key w k xs)) q)
 
-  key : (k : ValueOption Span) {lo hi : ℕ} (xs : List C) → KeyIn lo hi k → Grows lo hi xs (after_key k xs)
-  key no_value xs h = stays
-  key (some_value (plain (ident s n))) xs h = one h (λ v w q. leaf (key_part (ident s n)) xs s refl q)
-  key (some_value (plain e)) xs h = value (plain e) xs h
-  key (some_value (braced s es)) xs h = value (braced s es) xs h
+  key : (w : Option (TypeExpr Span)) (k : ValueOption Span) {lo hi : ℕ} (xs : List C) → KeyIn lo hi k → Grows lo hi xs (after_key w k xs)
+  key w no_value xs h = stays
+  key w (some_value (plain (ident s n))) xs h = one h (λ v m q. leaf (key_of w (ident s n)) xs s refl q)
+  key w (some_value (plain e)) xs h = value (keys_written w) (plain e) xs h
+  key w (some_value (braced s es)) xs h = value (keys_written w) (braced s es) xs h
 
-  value : (v : Value Span) {lo hi : ℕ} (xs : List C) → ValueIn lo hi v → Grows lo hi xs (after_value v xs)
-  value (plain e) xs h = one h (λ v w q. expr e xs q)
-  value (braced s es) xs h = one h (λ v w q. elems es xs q)
+  value : (w : Option (TypeExpr Span)) (v : Value Span) {lo hi : ℕ} (xs : List C) → ValueIn lo hi v → Grows lo hi xs (after_value w v xs)
+  value w (plain e) xs h = one h (λ v m q. expr e xs q)
+  value w (braced s es) xs h = one h (λ v m q. elems w es xs q)
 
   stmt : (s : Stmt Span) {lo hi : ℕ} (xs : List C) → StmtIn lo hi s → Grows lo hi xs (after_stmt s xs)
   stmt (const_decl s g ss) xs h = one h (λ v w q. specs ss xs q)

@@ -14,7 +14,7 @@ returns c = λ ps ms h.
       uses = c.in_ok-uses.uses.items;
       are_all =
           c.in_ok-uses.ensures ps ms h
-          ∙ ap (λ (ds : List Decl). decls_uses (λ s. s) ps ms (names_of c.args.file.now) (numbered (map decl_of ds))) c.items.ensures;
+          ∙ ap (λ (ds : List Decl). decls_uses (λ s. s) ps ms (names_of c.args.file.now) c.args.program.now.types.now (numbered (map decl_of ds))) c.items.ensures;
       searched =
           subst (λ (us : List MarkedUse). IsSearched c.args.program.now c.args.file.now us c.in_ok-found.found.kept.items c.in_ok-found.found.free)
           c.deref.ensures.value c.in_ok-found.ensures;

@@ -8,7 +8,7 @@ use Rattle.repeated_parts.proofs.UsesRepeated.Kept.{flags_kept}
 use Rattle.repeated_parts.proofs.uses_repeated.laws.repeated_uses_are_sites.Goals as goal
 
 pub returns-clause-read : goal.returns-clause-read
-returns-clause-read c = λ ps marks w f i d k a there scoped keyed. flags_kept Span (λ s. s) (λ f. f) flags_follow read_places_mean read_blocks_local ps marks w f i d k a there scoped keyed
+returns-clause-read c = λ ps marks w f t i d k a there scoped keyed told. flags_kept Span (λ s. s) (λ f. f) flags_follow read_places_mean read_blocks_local ps marks w f t i d k a there scoped keyed told
 
 pub returns-clause-standing : goal.returns-clause-standing
-returns-clause-standing c = λ ps marks w f i d k a there scoped keyed. flags_kept At here_of (file_with here_of) flags_follow (places_mean At here_of) (blocks_local At here_of) ps marks w f i d k a there scoped keyed
+returns-clause-standing c = λ ps marks w f t i d k a there scoped keyed told. flags_kept At here_of (file_with here_of) flags_follow (places_mean At here_of) (blocks_local At here_of) ps marks w f t i d k a there scoped keyed told

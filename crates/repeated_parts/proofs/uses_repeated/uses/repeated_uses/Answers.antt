@@ -7,5 +7,5 @@ use Rattle.repeated_parts.proofs.uses_repeated.uses.repeated_uses.Goals as goal
 pub loop-at-preserved : goal.loop-at-preserved
 loop-at-preserved c =
     one_part (names_in c.args.file.now) c.args.parts.now c.args.flags.now c.loop-at.at c.index-parts-at.result
-    c.flag_at-repeated.result (map flagged_of c.loop-at.uses.items) (map flagged_of c.add_part.new.uses.items) _
-    c.loop-at-test.true c.index-parts-at.is c.flag_at-repeated.ensures c.in_ok-add_part.ensures c.loop-at.invariant
+    c.flag_at-flag.result (map flagged_of c.loop-at.uses.items) (map flagged_of c.add_part.new.uses.items) _
+    c.loop-at-test.true c.index-parts-at.is c.flag_at-flag.ensures c.in_ok-add_part.ensures c.loop-at.invariant

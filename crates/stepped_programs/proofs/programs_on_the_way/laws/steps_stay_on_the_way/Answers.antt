@@ -3,11 +3,11 @@ use Rattle.stepped_programs.proofs.programs_on_the_way.laws.steps_stay_on_the_wa
 
 pub returns-clause-stay : goal.returns-clause-stay
 returns-clause-stay c =
-    stay_on c.found_uses_may_step.ensures.stand c.printed_dots_are_qualified.ensures.uses c.printed_files_are_searchable.ensures c.printed_steps_keep.ensures.over c.printed_steps_keep.ensures.kept
+    stay_on c.found_uses_may_step.ensures.stand c.printed_files_are_searchable.ensures c.printed_steps_keep.ensures.over c.printed_steps_keep.ensures.kept
     c.printed_steps_avoid_few_names.ensures.total c.origins_are_swapped.ensures.found c.progress_follows_steps.ensures.next c.steps_are_counted.ensures.step c.steps_keep_programs.ensures.keep
     c.steps_keep_settled.ensures.settled
 
 pub returns-clause-blocks : goal.returns-clause-blocks
 returns-clause-blocks c =
-    blocks_stay_on c.found_uses_may_step.ensures.stand c.printed_dots_are_qualified.ensures.uses c.printed_steps_keep.ensures.over c.printed_steps_avoid_few_names.ensures.total
+    blocks_stay_on c.found_uses_may_step.ensures.stand c.printed_steps_avoid_few_names.ensures.total
     c.origins_are_swapped.ensures.found c.progress_follows_steps.ensures.next

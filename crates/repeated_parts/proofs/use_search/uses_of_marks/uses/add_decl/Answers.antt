@@ -10,7 +10,7 @@ use Rattle.repeated_parts.proofs.use_search.uses_of_marks.uses.add_decl.Goals as
 
 pub returns : goal.returns
 returns c = λ ps marks h.
-    let f = names_in c.args.file.now in
+    let f = names_in c.args.scopes.now.file in
     c.in_ok-add_uses.ensures ps marks h
     ∙ ap (λ (us : List (Used × Bool)). map placed_of c.args.uses.now.items ++ placed_in ps marks c.args.number us)
     (ap (map flagged_of) c.deref-3.ensures.value ∙ c.in_ok-found.ensures

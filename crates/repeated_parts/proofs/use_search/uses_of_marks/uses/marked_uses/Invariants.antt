@@ -13,5 +13,5 @@ use Rattle.repeated_parts.proofs.use_search.uses_of_marks.uses.marked_uses.Given
 abbrev pub invariant-loop-number : goal.invariant-loop-number
 invariant-loop-number l =
     (ps : List (Package Span)) (marks : List MarkRef) → IsTableOf ps marks l.table
-    → map placed_of l.uses.items ++ decls_uses (λ s. s) ps marks (names_in l.file) (numbered_from l.number (map decl_of (drop l.number l.decls)))
-    ≡ decls_uses (λ s. s) ps marks (names_in l.file) (numbered (map decl_of l.decls))
+    → map placed_of l.uses.items ++ decls_uses (λ s. s) ps marks (names_in l.scopes.file) l.scopes.types.now (numbered_from l.number (map decl_of (drop l.number l.decls)))
+    ≡ decls_uses (λ s. s) ps marks (names_in l.scopes.file) l.scopes.types.now (numbered (map decl_of l.decls))
