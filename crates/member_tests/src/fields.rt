@@ -10,6 +10,7 @@ use std::test::Fail;
 
 /// The number of the package of the file, and of the one that it imports.
 const HOME: usize = 1;
+
 const IMPORTED: usize = 0;
 
 fn row(
@@ -102,17 +103,47 @@ fn fields_are_no_uses(rt: HostRuntime) -> Result<(), Fail> {
     let cases: &[(&str, &str)] = &[
         ("package p\n\nimport \"m/q\"\n\nvar x = S{A: B}\n", "S B "),
         ("package p\n\nimport \"m/q\"\n\nvar x = q.T{A: B}\n", "T B "),
-        ("package p\n\nimport \"m/q\"\n\nvar x = &P{A: B}\n", "P A B "),
+        (
+            "package p\n\nimport \"m/q\"\n\nvar x = &P{A: B}\n",
+            "P A B ",
+        ),
         ("package p\n\nimport \"m/q\"\n\nvar x = N{A: B}\n", "N A B "),
-        ("package p\n\nimport \"m/q\"\n\nvar x = M{A: {A: B}, {B: C}: {}}\n", "M A B C "),
-        ("package p\n\nimport \"m/q\"\n\nvar x = L{A: {A: B}}\n", "L A B "),
-        ("package p\n\nimport \"m/q\"\n\nvar x = []P{A: {A: B}}\n", "P A B "),
-        ("package p\n\nimport \"m/q\"\n\nvar x = []*S{A: {A: B}}\n", "S A B "),
-        ("package p\n\nimport \"m/q\"\n\nvar x = map[S]N{{A: B}: C}\n", "S N B C "),
-        ("package p\n\nimport \"m/q\"\n\nvar x = map[N][]S{A: {B: {C: B}}}\n", "N S A B B "),
-        ("package p\n\nimport \"m/q\"\n\nvar x = struct{ A int }{A: B}\n", "B "),
-        ("package p\n\nimport \"m/q\"\n\nvar x = S{A: M{A: {B: C}}}\n", "S M A C "),
-        ("package p\n\nimport \"m/q\"\n\nfunc f(S int) {\n\tx := S{A: B}\n\t_ = x\n}\n", "A B "),
+        (
+            "package p\n\nimport \"m/q\"\n\nvar x = M{A: {A: B}, {B: C}: {}}\n",
+            "M A B C ",
+        ),
+        (
+            "package p\n\nimport \"m/q\"\n\nvar x = L{A: {A: B}}\n",
+            "L A B ",
+        ),
+        (
+            "package p\n\nimport \"m/q\"\n\nvar x = []P{A: {A: B}}\n",
+            "P A B ",
+        ),
+        (
+            "package p\n\nimport \"m/q\"\n\nvar x = []*S{A: {A: B}}\n",
+            "S A B ",
+        ),
+        (
+            "package p\n\nimport \"m/q\"\n\nvar x = map[S]N{{A: B}: C}\n",
+            "S N B C ",
+        ),
+        (
+            "package p\n\nimport \"m/q\"\n\nvar x = map[N][]S{A: {B: {C: B}}}\n",
+            "N S A B B ",
+        ),
+        (
+            "package p\n\nimport \"m/q\"\n\nvar x = struct{ A int }{A: B}\n",
+            "B ",
+        ),
+        (
+            "package p\n\nimport \"m/q\"\n\nvar x = S{A: M{A: {B: C}}}\n",
+            "S M A C ",
+        ),
+        (
+            "package p\n\nimport \"m/q\"\n\nfunc f(S int) {\n\tx := S{A: B}\n\t_ = x\n}\n",
+            "A B ",
+        ),
     ];
     for (text, want) in cases {
         if !uses(alloc, text, want)? {

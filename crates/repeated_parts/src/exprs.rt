@@ -126,7 +126,13 @@ fn elems_flags(
 {
     for elem in elems.items() {
         key_flags(scopes, &elem.key, of, repeated, flags)?;
-        value_flags(scopes, &elem.value, in_elements(scopes, of), repeated, flags)?;
+        value_flags(
+            scopes,
+            &elem.value,
+            in_elements(scopes, of),
+            repeated,
+            flags,
+        )?;
     }
     Ok(())
 }

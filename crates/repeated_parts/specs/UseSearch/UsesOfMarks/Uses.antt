@@ -34,11 +34,11 @@ module _ {S : Type 0} (ps : List (Package S)) (marks : List MarkRef) where
 -- `to` says where a node stands in the text; `t` has the declared types.
 module _ {S P : Type 0} (to : S → Span) (ps : List (Package P)) (marks : List MarkRef) (f : Names) (t : LiteralTypes)
   where
-  -- the uses of marked constants in a numbered declaration
-  abbrev pub decl_uses : ℕ × Decl S → List PlacedMark
-  decl_uses d = placed_in ps marks d.0 (flagged_uses to f (parts_of d.1) (flags_of (numbers_in to f t) d.1))
+    -- the uses of marked constants in a numbered declaration
+    abbrev pub decl_uses : ℕ × Decl S → List PlacedMark
+    decl_uses d = placed_in ps marks d.0 (flagged_uses to f (parts_of d.1) (flags_of (numbers_in to f t) d.1))
 
-  -- those in numbered declarations
-  abbrev pub decls_uses : List (ℕ × Decl S) → List PlacedMark
-  decls_uses [] = []
-  decls_uses (d ∷ ds) = decl_uses d ++ decls_uses ds
+    -- those in numbered declarations
+    abbrev pub decls_uses : List (ℕ × Decl S) → List PlacedMark
+    decls_uses [] = []
+    decls_uses (d ∷ ds) = decl_uses d ++ decls_uses ds
