@@ -65,7 +65,7 @@ fn put_uses(uses: &[FlaggedUse], words: &mut Vec<u8>) -> Result<(), Fail> {
     Ok(())
 }
 
-fn words_of(alloc: Global, file: &Tabled, types: &LiteralTypes) -> Result<Vec<u8>, Fail> {
+fn words_of<'x>(alloc: Global, file: &'x Tabled, types: &'x LiteralTypes) -> Result<Vec<u8>, Fail> {
     let imports = [IMPORTED];
     let scopes = TypeScopes {
         file: FileScopes {
