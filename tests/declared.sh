@@ -120,6 +120,16 @@ chain 'const B = 1' 'const C{m} = C{n} + B' 2000 'const C2000 = C0'
 counts "a cycle of 2,001 constants" 0 'const C'
 shows "a cycle of 2,001 constants" $'\nmain.go:3:1: const B untyped int = 1\nmain.go:4:1: refused'
 
+# specs of two names, each of which leads through the first name of the one before; and constants that are refused since they
+# lead to a spec with another name that is
+chain 'const C0, D0 = 1, 2' 'const C{n}, D{n} = C{m} + 1, C{n}' 2000 'var v int16 = D2000'
+shows "2,000 specs of two names" $'\nmain.go:2003:1: const D2000 untyped int = 2001\nmain.go:2004:1: var v int16'
+chain 'const C0, D0 = 1, missing' 'const C{n} = C{m} + 1' 2000 'const B = 1'
+counts "2,000 constants behind a spec that is refused" 0 'const C'
+shows "2,000 constants behind a spec that is refused" $'\nmain.go:2004:1: const B untyped int = 1\nmain.go:3:1: refused'
+chain 'const B = 1' 'const C{m} = C{n} + B' 2000 'const C2000, D = 1, missing'
+counts "2,000 constants before a spec that is refused" 0 'const C'
+
 # strings of constants that double: 64 KiB, and a terabyte, for which there is no memory
 chain 'const S0 = "x"' 'const S{n} = S{m} + S{m}' 16 'const N = len(S16)'
 shows "a constant of 64 KiB" $'\nmain.go:20:1: const N int = 65536'

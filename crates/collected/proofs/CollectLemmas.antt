@@ -10,7 +10,7 @@ use Rattle.go_tree.specs.GoTypes.Entities.{World}
 use Rattle.go_tree.specs.GoTypes.Primary.{find_method}
 use Rattle.go_tree.specs.GoTypes.Programs.{Program, headed}
 use Rattle.go_tree.specs.GoTypes.MethodDeclarations.{DeclaredMethod, methods_from, methods_on, with_methods}
-use Rattle.go_tree.specs.GoTypes.Collect.{collected, typed_world, valued_world, world_of}
+use Rattle.go_tree.specs.GoTypes.Collect.{typed_world, world_of, collected, valued_world}
 use Rattle.type_table.specs.TypeRelations.Environment.{Environment, defined_types}
 use Rattle.typed_names.specs.declared.entities.Entity.{Entity}
 use Rattle.typed_names.specs.declared.entities.Entity.TheVariants.{Variable, Constant, TypeName, Function, Package, Predeclared, Refused}

@@ -1,6 +1,7 @@
 pub mod Bound
 pub mod ValueLemmas
 pub mod HeaderLemmas
+pub mod RefusalLemmas
 pub mod SpelledLiterals
 pub mod SpelledExprs
 pub mod SpelledFiles

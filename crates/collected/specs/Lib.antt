@@ -11,6 +11,7 @@ pub use Rattle.header_order.specs.FirstImports.Firsts
 pub use Rattle.header_order.specs.Files
 pub use Rattle.initial_values.specs.ValuePlaces.Places
 pub use Rattle.initial_values.specs.ValueBlocks.Values
+pub mod SingleHeaders
 pub mod PackageValues
 pub mod ValueHeaders
 pub mod Types

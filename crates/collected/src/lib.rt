@@ -7,6 +7,7 @@
 mod declarations;
 mod methods;
 mod package_values;
+mod single_headers;
 mod types;
 mod value_headers;
 
@@ -18,6 +19,4 @@ pub use header_order::{
 };
 pub use initial_values::value_place;
 pub use package_values::{DeclaredValues, declare_values};
-pub use value_headers::{
-    declare_header, is_value, read_bodies_are_formed, read_values_are_spelled,
-};
+pub use value_headers::{is_value, read_bodies_are_formed, read_values_are_spelled};

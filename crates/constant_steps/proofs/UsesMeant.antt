@@ -14,20 +14,22 @@ use Rattle.go_tree.specs.GoTypes.Typing.{all_parts}
 use Rattle.go_tree.specs.GoTypes.Bodiless.{all_bodiless}
 use Rattle.go_tree.specs.GoTypes.Statements.{bind_each}
 use Rattle.go_tree.specs.GoTypes.Programs.{constants, Headed, SourcePackage, Program, headed, header_names, is_init}
-use Rattle.go_tree.specs.GoTypes.Collect.{file_env, env_of, DeclaredTypes, good_entity, declared_by, binds_or_refused, types_declared, valued_world}
+use Rattle.go_tree.specs.GoTypes.Collect.{file_env, env_of, DeclaredTypes, good_entity, declared_by, binds_or_refused, value_round, types_declared, named_world, valued_world}
+use Rattle.go_tree.specs.GoTypes.SingleNames.{by_names}
 use Rattle.go_tree.proofs.GoTypes.Agreeing.{from_given, from_both, from_only, some_same}
 use Rattle.typed_in_place.specs.Declared.{FirstWith, HasNumber, ConstantOrRefused, a_constant, refused_yet, NamesConstant}
 use Rattle.typed_in_place.specs.Declared as declared
 use Rattle.typed_in_place.specs.Leaves.{Names, plain_name}
-use Rattle.typed_in_place.specs.ProgramReplaced.{ValuesEnd}
+use Rattle.typed_in_place.specs.ProgramReplaced.{ValuesEnd, after_names, after_values, at_last}
 use Rattle.typed_in_place.proofs.Headers.{declared_in, value_phase}
 use Rattle.typed_in_place.proofs.Blocks.{Fits}
-use Rattle.typed_in_place.proofs.Collected.{valued_settled}
+use Rattle.typed_in_place.proofs.Collected.{named_settled, valued_settled}
+use Rattle.typed_in_place.proofs.RoundsEnded.{rounds_end}
+use Rattle.typed_in_place.proofs.NameRounds.FirstNames.{first_by_names, one_itself}
 use Rattle.typed_in_place.proofs.SettledNames.{first_means, block_of_package, binding_means, constant_means}
 use Rattle.run_rules.specs.Surroundings.{Place, is_local}
 use Rattle.constant_steps.proofs.WrittenLiteral.NamesMeant.{means_join}
 use Rattle.constant_steps.specs.StepLaws.ConstantUses.{UseOfConstant}
-use Rattle.constant_steps.proofs.StepLaws.StepUses.{same-blocks}
 use Rattle.constant_steps.specs.Alone.{PackageAt, this_package, a_later_package, ConstantHeader, FirstIs}
 
 same_number : (a : ℕ) → nat_eq a a ≡ true
@@ -58,16 +60,8 @@ one_bound ds t n (v ∷ vs) bs s q =
     alone [] e cs q k r = record { entity = e; kind = k; bound = λ ms. ap (λ bs. means (bs ++ ms) n) (sym r ∙ ap (λ cs. binding n e ++ cs) (sym (some_same [] cs q))) ∙ binding_means n e ms s }
     alone (w ∷ ws) e cs q k r = absurd (grind (arith, q))
 
-module _ {S : Type 0} (ps : Program S) where
-  abbrev hs : List (Headed S)
-  hs = headed ps
-
-  abbrev v : World
-  v = valued_world ps hs
-
-  abbrev ds : DeclaredTypes
-  ds = types_declared ps hs
-
+-- in a world that a further round leaves as it is
+module _ {S : Type 0} (ps : Program S) (hs : List (Headed S)) (ds : DeclaredTypes) (v : World) (settled : value_round ps hs ds v ≡ v) where
   fits_all : (k : Headed S) → Fits k (declared_by ds v k)
   fits_all k = (value_phase ds v).fits v.blocks k
 
@@ -82,15 +76,23 @@ module _ {S : Type 0} (ps : Program S) where
       let t = from_given (all_typed u.1) (bind_all (constant_entity v.defined u.0) (c.name ∷ [])) bs u.4 in
       one_bound v.defined u.0 c.name t.0 bs s t.2
 
-  -- a name whose first header declares a constant alone means a constant, or what is refused
-  pub constant_or_refused : (h : Headed S) (c : NameAt S) (kind : Option (TypeExpr S)) (e : Expr S) (i : ℕ) → h.header ≡ constants (c ∷ []) kind (expr_and e no_exprs) i → is_blank c.name ≡ false → FirstWith c.name h hs → HasNumber h.home ps → ConstantOrRefused (means (block_of v.blocks h.home) c.name)
-  constant_or_refused h c kind e i q s first number =
+  settled_constant : (h : Headed S) (c : NameAt S) (kind : Option (TypeExpr S)) (e : Expr S) (i : ℕ) → h.header ≡ constants (c ∷ []) kind (expr_and e no_exprs) i → is_blank c.name ≡ false → FirstWith c.name h hs → HasNumber h.home ps → ConstantOrRefused (means (block_of v.blocks h.home) c.name)
+  settled_constant h c kind e i q s first number =
       let b : BoundTo c.name (declared_by ds v h) = header_binds h c kind e i q s (declared_by ds v h) refl in
       let one : ((ms : Environment Entity) → means (binds_or_refused h (declared_by ds v h) ++ ms) c.name ≡ Some b.entity) = (λ ms. ap (λ y. means (otherwise (declared_by ds v h) (bind_each refused (header_names y)) ++ ms) c.name) q ∙ b.bound ms) in
       subst ConstantOrRefused
-      (sym (ap (λ bs. means (block_of bs h.home) c.name) (sym (ap (λ w. w.blocks) (valued_settled ps hs)))
+      (sym (ap (λ bs. means (block_of bs h.home) c.name) (sym (ap (λ w. w.blocks) settled))
       ∙ ap (λ m. means m c.name) (block_of_package (declared_by ds v) hs h.home number)
       ∙ (first_means (declared_by ds v) fits_all c.name h hs first (λ ms. Some b.entity) one (same_number h.home)).1)) b.kind
+
+-- a name whose first header declares a constant alone means a constant, or what is refused
+pub constant_or_refused : {S : Type 0} (ps : Program S) (w : World) → ValuesEnd ps w → (h : Headed S) (c : NameAt S) (kind : Option (TypeExpr S)) (e : Expr S) (i : ℕ) → h.header ≡ constants (c ∷ []) kind (expr_and e no_exprs) i → is_blank c.name ≡ false → FirstWith c.name h (headed ps) → HasNumber h.home ps → ConstantOrRefused (means (block_of w.blocks h.home) c.name)
+constant_or_refused ps _ after_names h c kind e i q s first number =
+    settled_constant ps (by_names (headed ps)) (types_declared ps (headed ps)) (named_world ps (headed ps)) (named_settled ps (headed ps)) h c kind e i q s (first_by_names c.name h (headed ps) (one_itself h c kind e i q) first) number
+constant_or_refused ps _ after_values h c kind e i q s first number =
+    settled_constant ps (headed ps) (types_declared ps (headed ps)) (valued_world ps (headed ps)) (valued_settled ps (headed ps)) h c kind e i q s first number
+constant_or_refused ps _ at_last h c kind e i q s first number =
+    settled_constant ps (headed ps) (types_declared ps (headed ps)) (valued_world ps (headed ps)) (valued_settled ps (headed ps)) h c kind e i q s first number
 
 -- a name that no import has, by the package block and the universe block
 block_meaning : (is b : Environment Entity) (n : List ℕ) → means is n ≡ None → means ((is ++ b) ++ universe) n ≡ or_else (means b n) (means universe n)
@@ -106,11 +108,8 @@ has_number p _ (this_package {ps = ps}) = declared.this_package (same_number p.n
 has_number p _ (a_later_package e r) = declared.a_later_package e (has_number p _ r)
 
 module _ {S : Type 0} (ps : Program S) (w : World) (ended : ValuesEnd ps w) (p : SourcePackage S) (k : ℕ) (stands : PackageAt p k ps) where
-  abbrev last : World
-  last = valued_world ps (headed ps)
-
   abbrev block : Environment Entity
-  block = block_of last.blocks p.number
+  block = block_of w.blocks p.number
 
   -- the use n of a constant c that is declared as d, and d in its place: the use's file has the imports `there`, that
   -- of c's declaration the imports `home`
@@ -127,18 +126,17 @@ module _ {S : Type 0} (ps : Program S) (w : World) (ended : ValuesEnd ps w) (p :
       let number : HasNumber f.header.home ps = subst (λ a. HasNumber a ps) (sym f.home_is) (has_number p k stands) in
       let number' : HasNumber f'.header.home ps = subst (λ a. HasNumber a ps) (sym f'.home_is) (has_number p k stands) in
       let known' : ConstantOrRefused (means block d) =
-      subst (λ m. ConstantOrRefused (means block m)) u'.named (subst (λ a. ConstantOrRefused (means (block_of last.blocks a) c'.name)) f'.home_is (constant_or_refused ps f'.header c' kind e' u'.number u'.is blank' first' number')) in
-      let a : Env = env_of last f.header (Some u.number) in
+      subst (λ m. ConstantOrRefused (means block m)) u'.named (subst (λ a. ConstantOrRefused (means (block_of w.blocks a) c'.name)) f'.home_is (constant_or_refused ps w ended f'.header c' kind e' u'.number u'.is blank' first' number')) in
+      let a : Env = env_of w f.header (Some u.number) in
       let at_home : meaning a d ≡ means block d =
-      (λ i. means ((f.imports_are i ++ block_of last.blocks (f.home_is i)) ++ universe) d) ∙ block_meaning home block d hd ∙ found_first (means block d) (means universe d) known' in
+      (λ i. means ((f.imports_are i ++ block_of w.blocks (f.home_is i)) ++ universe) d) ∙ block_meaning home block d hd ∙ found_first (means block d) (means universe d) known' in
       let known : ConstantOrRefused (meaning a d) = subst ConstantOrRefused (sym at_home) known' in
       let sound : f.header.sound ≡ true = f.sound ∙ ap not si in
       let names : Names a (ident t d) (meaning a d) d = plain_name in
-      let declares : NamesConstant ps (headed ps) f.header c (ident t d) (meaning a d) =
+      let declares : NamesConstant ps (headed ps) w f.header c (ident t d) (meaning a d) =
       record { number = u.number; looked_up = d; header = u.is; sound = sound; bodiless = refl; named = blank; home = same_number f.header.home; names = names; known = known; first = first; in_program = number } in
-      let means_it : means (block_of last.blocks f.header.home) c.name ≡ meaning a d = constant_means ps (headed ps) f.header c (ident t d) u.number u.is sound refl blank (same_number f.header.home) names known first number in
-      let now : means (block_of w.blocks p.number) n ≡ meaning a d = same-blocks ps w p.number n ended ∙ (λ i. means (block_of last.blocks (sym f.home_is i)) (sym u.named i)) ∙ means_it in
-      let new : means (block_of w.blocks p.number) d ≡ means block d = same-blocks ps w p.number d ended in
+      let means_it : means (block_of w.blocks f.header.home) c.name ≡ meaning a d = constant_means ps (headed ps) f.header c (ident t d) (meaning a d) w (rounds_end ps ended) declares in
+      let now : means (block_of w.blocks p.number) n ≡ meaning a d = (λ i. means (block_of w.blocks (sym f.home_is i)) (sym u.named i)) ∙ means_it in
       record {
         meant = meaning a d;
         declares = declares;
@@ -152,7 +150,7 @@ module _ {S : Type 0} (ps : Program S) (w : World) (ended : ValuesEnd ps w) (p :
         old_is =
             block_meaning there (block_of w.blocks p.number) n tn ∙ ap (λ o. or_else o (means universe n)) now ∙ found_first (meaning a d) (means universe n) known ∙ sym now
             ∙ (λ i. means (block_of w.blocks (sym f.home_is i)) (sym u.named i));
-        new_is = block_meaning there (block_of w.blocks p.number) d td ∙ ap (λ o. or_else o (means universe d)) new ∙ found_first (means block d) (means universe d) known' ∙ sym at_home;
+        new_is = block_meaning there (block_of w.blocks p.number) d td ∙ found_first (means block d) (means universe d) known' ∙ sym at_home;
         old_spelled = sn;
         new_spelled = sd;
         old_free = ln;

@@ -2,6 +2,7 @@
 
 ghost use Rattle.constant_steps.specs.StepLaws.Laws.{AnsweredBodiesStand, AnsweredExpressionsStand};
 ghost use Rattle.constant_steps.specs.StepLaws.Laws.{HeadersAreTyped, NamesAroundAreKnown, RunsMeanTheSame};
+ghost use Rattle.constant_steps.specs.StepLaws.Laws.{NamesEndAlike};
 ghost use Rattle.constant_steps.specs.StepLaws.Laws.{DeclarationsWithUsesKeepTheirCode};
 ghost use Rattle.constant_steps.specs.StepLaws.Laws.{DeclarationsWithUsesStand, NamesOutsideHold};
 ghost use Rattle.constant_steps.specs.StepLaws.Laws.{UsesMeanOneConstant};
@@ -33,6 +34,7 @@ pub fn answered_places_stand()
 /// rounds of declarations have ended.
 pub fn uses_of_constants_stand()
     ensures facts { UsesOfConstantsStand }
+    ensures names { NamesEndAlike }
     ensures ends { ValuesEndAlike }
     ensures declarations { DeclarationsWithUsesStand }
     ensures code { DeclarationsWithUsesKeepTheirCode }

@@ -11,60 +11,25 @@ use Rattle.go_tree.specs.GoTypes.Types.{GoType}
 use Rattle.go_tree.specs.GoTypes.Defined.{under, has_keys}
 use Rattle.go_tree.specs.GoTypes.Entities.{Entity, World, block_of}
 use Rattle.go_tree.specs.GoTypes.TypeNames.{resolved, type_meant}
-use Rattle.go_tree.specs.GoTypes.Programs.{Header, constants, variables, a_type_spec, a_func, Headed, Program, headed, file_env}
-use Rattle.go_tree.specs.GoTypes.Collect.{declared_types, aliased_world, types_declared, typed_world, valued_world, collected, methods_from}
+use Rattle.go_tree.specs.GoTypes.Programs.{variables, Headed, Program, headed, file_env}
+use Rattle.go_tree.specs.GoTypes.Collect.{declared_types, aliased_world, types_declared, typed_world, named_world, valued_world, collected, methods_from}
 use Rattle.go_tree.proofs.GoTypes.Agreeing.{from_given}
-use Rattle.typed_in_place.specs.ProgramReplaced.{ValuesEnd, after_values, at_last}
-use Rattle.typed_in_place.specs.ProgramsAlike.{OneByOne, no_more, and_more, SameHeaders, SameNumbers, AliasesStand, TypesStand}
-use Rattle.typed_in_place.specs.HeaderReplaced.{SpecsIn, types_of_constants, types_of_variables, types_of_spec, types_of_func}
-use Rattle.typed_in_place.proofs.Collected.{aliases_same, types_same, declared_types_same}
+use Rattle.typed_in_place.specs.ProgramReplaced.{ValuesEnd, after_names, after_values, at_last}
+use Rattle.typed_in_place.specs.ProgramsAlike.{OneByOne, SameHeaders, SameNumbers, AliasesStand, TypesStand}
+use Rattle.typed_in_place.proofs.SamePrograms.{aliases_same, types_same, declared_types_same}
 use Rattle.typed_in_place.proofs.MethodsAside.{under_methods, keys_methods}
 use Rattle.typed_in_place.proofs.ProgramsReplaced.{one_by_one, each_one, append_one, replaced_aliases_stand, replaced_types_stand, aliases_stand_itself, types_stand_itself}
 use Rattle.typed_in_place.proofs.Rising.{keeps_some}
 use Rattle.constant_steps.specs.StepLaws.DeclStands.{HeadedBy, ResolvedAlike, TypesAlike}
 use Rattle.constant_steps.specs.StepLaws.ConstantSteps.{constant_put}
 use Rattle.constant_steps.proofs.StepLaws.ConstantStepLaw.{resolved-stays, types-stay-put}
-use Rattle.constant_steps.proofs.StepLaws.DeclChanged.{receiver_itself}
 use Rattle.constant_steps.proofs.StepLaws.StepInPlace.{names-declared, program-by, same-packages}
 use Rattle.imported_typing.proofs.ProgramsAlike.{headed_both}
 use Rattle.imported_typing.proofs.TypesKept.{TypesKept, text_kept}
-use Rattle.constants_anywhere.proofs.TypeRounds.{kept_itself, HeaderFollows, KnowsTypes, values_follow}
-
--- ---- lists one by one
-
-module _ {A B : Type 0} where
-  one_head : (R : A → B → Type 0) (a : A) (b : B) (xs : List A) (ys : List B) → OneByOne R (a ∷ xs) (b ∷ ys) → R a b
-  one_head R a b _ _ (and_more r rs) = r
-
-  one_rest : (R : A → B → Type 0) (a : A) (b : B) (xs : List A) (ys : List B) → OneByOne R (a ∷ xs) (b ∷ ys) → OneByOne R xs ys
-  one_rest R a b _ _ (and_more r rs) = rs
-
-  -- what is so one by one in each case is so in all cases one by one
-  for_each : {I : Type 0} (R : I → A → B → Type 0) (i : I) (xs : List A) (ys : List B) → ((i : I) → OneByOne (R i) xs ys) → OneByOne (λ a b. (i : I) → R i a b) xs ys
-  for_each R i [] [] f = no_more
-  for_each R i [] (y ∷ ys) f = elim (f i) [ ]
-  for_each R i (x ∷ xs) [] f = elim (f i) [ ]
-  for_each R i (x ∷ xs) (y ∷ ys) f = and_more (λ j. one_head (R j) x y xs ys (f j)) (for_each R i xs ys (λ j. one_rest (R j) x y xs ys (f j)))
+use Rattle.constants_anywhere.proofs.TypeRounds.{kept_itself, KnowsTypes, known_to_names, known_to_values, known_by_names}
 
 no_world : World
 no_world = record { defined = []; blocks = [] }
-
-module _ {S : Type 0} where
-  -- the kind of a header
-  kind_of : {P : TypeExpr S → TypeExpr S → Type 0} (h k : Header S) → SpecsIn P h k → SpecsIn (λ t u. Unit {0}) h k
-  kind_of _ _ (types_of_constants e) = types_of_constants e
-  kind_of _ _ (types_of_variables e) = types_of_variables e
-  kind_of _ _ (types_of_spec e a b) = types_of_spec e a tt
-  kind_of _ _ (types_of_func r e) = types_of_func r e
-
-  kind_itself : (h : Header S) → SpecsIn (λ t u. Unit {0}) h h
-  kind_itself (constants ns t es i) = types_of_constants refl
-  kind_itself (variables ns t es) = types_of_variables refl
-  kind_itself (a_type_spec t) = types_of_spec refl refl tt
-  kind_itself (a_func f) = types_of_func (receiver_itself f.receiver) refl
-
-  follows_itself : (h : Headed S) → HeaderFollows h h
-  follows_itself h = record { home = refl; sound = refl; names = refl; specs = kind_itself h.header; good = λ ds w. refl }
 
 -- what a world knows of types another knows
 pub record TypesReach (right w : World) : Type 0 where
@@ -103,17 +68,6 @@ module _ {S : Type 0} (same : S → S → Bool) (rs : List (Package S)) (z : S) 
   types_stand : (w : World) → OneByOne (TypesStand w) (headed whole) (headed after)
   types_stand w = with_more (types_stand_itself w) (one_by_one (λ h k x. replaced_types_stand w h k (record { home = x.home; imports = x.imports; specs = x.headers })) (types_by w))
 
-  follow : OneByOne HeaderFollows (headed whole) (headed after)
-  follow =
-      with_more follows_itself
-      (one_by_one (λ h k x. record {
-        home = (x no_world).home;
-        sound = (x no_world).sound;
-        names = names-declared h.header k.header (x no_world).headers;
-        specs = kind_of h.header k.header (x no_world).headers;
-        good = λ ds w. (replaced_types_stand w h k (record { home = (x w).home; imports = (x w).imports; specs = (x w).headers })).good ds;
-      }) (for_each (λ w h k. HeadedBy (TypesAlike w) h k) no_world (headed ps) (headed qs) types_by))
-
   numbers : SameNumbers whole after
   numbers = append_one (one_by_one (λ p q a. a.number) (same-packages (ResolvedAlike no_world) (λ a b d e h k x. names-declared h k x) (resolved-stays same rs z e number pk file no_world k m n ps))) (each_one (λ p. refl) more)
 
@@ -130,7 +84,10 @@ module _ {S : Type 0} (same : S → S → Bool) (rs : List (Package S)) (z : S) 
   typed_are = types_same whole (headed whole) after (headed after) numbers same_headers aliases_are types_are (one_by_one (λ h k r. r.good _) (types_stand _)) (one_by_one (λ h k r. r.good _) (types_stand _))
 
   values_known : KnowsTypes (valued_world whole (headed whole)) (valued_world after (headed after))
-  values_known = values_follow whole after (headed whole) (headed after) follow numbers types_are typed_are
+  values_known = known_to_values whole after (headed whole) (headed after) typed_are
+
+  names_known : KnowsTypes (valued_world whole (headed whole)) (named_world after (headed after))
+  names_known = known_to_names whole after (headed whole) (headed after) typed_are
 
   abbrev v : World
   v = valued_world whole (headed whole)
@@ -140,6 +97,11 @@ module _ {S : Type 0} (same : S → S → Bool) (rs : List (Package S)) (z : S) 
 
   -- in the worlds of the program before
   pub before_reached : (w : World) → ValuesEnd whole w → TypesReach (collected whole) w
+  before_reached _ after_names = record {
+    same_under = λ t. under_methods (methods_from v [] (headed whole)) v.defined t ∙ ap (λ d. under d t) (known_by_names whole (headed whole)).defined;
+    same_keys = λ t. keys_methods (methods_from v [] (headed whole)) v.defined t ∙ ap (λ d. has_keys d t) (known_by_names whole (headed whole)).defined;
+    blocks = (known_by_names whole (headed whole)).blocks;
+  }
   before_reached _ after_values = record {
     same_under = λ t. under_methods (methods_from v [] (headed whole)) v.defined t;
     same_keys = λ t. keys_methods (methods_from v [] (headed whole)) v.defined t;
@@ -149,6 +111,11 @@ module _ {S : Type 0} (same : S → S → Bool) (rs : List (Package S)) (z : S) 
 
   -- in those of the one after
   pub after_reached : (w : World) → ValuesEnd after w → TypesReach (collected whole) w
+  after_reached _ after_names = record {
+    same_under = λ t. under_methods (methods_from v [] (headed whole)) v.defined t ∙ ap (λ d. under d t) names_known.defined;
+    same_keys = λ t. keys_methods (methods_from v [] (headed whole)) v.defined t ∙ ap (λ d. has_keys d t) names_known.defined;
+    blocks = names_known.blocks;
+  }
   after_reached _ after_values = record {
     same_under = λ t. under_methods (methods_from v [] (headed whole)) v.defined t ∙ ap (λ d. under d t) values_known.defined;
     same_keys = λ t. keys_methods (methods_from v [] (headed whole)) v.defined t ∙ ap (λ d. has_keys d t) values_known.defined;

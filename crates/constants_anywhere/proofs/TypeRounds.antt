@@ -1,7 +1,7 @@
--- The types that names mean once all is found, in a program and in the one after a step over a constant: each that is
--- known before is known after.
+-- The types that names mean once all is found: each is known where the rounds of types end, and so in a program of the
+-- same types.
 use Rattle.std.specs.Prelude.{◌≡◌, refl, ℕ, zero, suc, Bool, true, false, ◌&&◌, ◌||◌, length, List, [], ◌∷◌, ◌++◌, Option, Some, None, if◌then◌else◌, nat_eq, bytes_eq, is_some}
-use mathlib.Core.Path.{ap, sym, subst}
+use mathlib.Core.Path.{ap, sym, ◌∙◌, subst}
 use Rattle.std.proofs.Common.{arith}
 use Rattle.go_tree.specs.Tree.{NameAt, TypeExpr, Exprs}
 use Rattle.go_tree.specs.File.{TypeSpec, Receiver, Func}
@@ -20,15 +20,16 @@ use Rattle.go_tree.specs.GoTypes.Initial.{all_initial}
 use Rattle.go_tree.specs.GoTypes.Typing.{all_parts}
 use Rattle.go_tree.specs.GoTypes.Programs.{Program, Header, constants, variables, a_type_spec, a_func, spec_of, Headed, header_names, env_of}
 use Rattle.go_tree.specs.GoTypes.TypeDeclarations.{DeclaredTypes}
-use Rattle.go_tree.specs.GoTypes.Collect.{times, type_entity, spec_type, is_good_type, good_entity, package_constants, package_variables, may_be_main, function_declared, func_declared, declared_by, binds_or_refused, block_by, blocks_by, value_round, typed_world}
+use Rattle.go_tree.specs.GoTypes.Collect.{times, type_entity, spec_type, is_good_type, good_entity, package_constants, package_variables, may_be_main, function_declared, func_declared, declared_by, binds_or_refused, block_by, blocks_by, entity_binds, type_round, value_round, rounds, typed_world}
+use Rattle.go_tree.specs.GoTypes.SingleNames.{by_names}
 use Rattle.typed_in_place.specs.Known.{Keeps, no_answer, kept, BlockClearer, end_of_block, was_refused, was_known}
 use Rattle.typed_in_place.proofs.Rising.{keeps_given, keeps_only, keeps_meets}
 use Rattle.imported_typing.specs.Reach.{IfAny}
 use Rattle.imported_typing.proofs.TypesKept.{EntityKept, TypesKept, no_names, and_name, Plain, text_kept}
-use Rattle.typed_in_place.proofs.Headers.{value_phase}
-use Rattle.typed_in_place.specs.ProgramsAlike.{OneByOne, no_more, and_more, SameNumbers}
-use Rattle.typed_in_place.specs.HeaderReplaced.{SpecsIn, types_of_constants, types_of_variables, types_of_spec, types_of_func}
-use Rattle.go_tree.specs.GoTypes.Collect.{is_finite, types_declared, valued_world}
+use Rattle.typed_in_place.proofs.Blocks.{block_of_clearer}
+use Rattle.typed_in_place.proofs.Collected.{typed_settled, named_is, valued_is, types_in_names, types_in_values, ends_below}
+use Rattle.typed_in_place.proofs.NameRounds.TypeBlocks.{typed_by_names}
+use Rattle.go_tree.specs.GoTypes.Collect.{is_finite, types_declared, named_world, valued_world}
 use Rattle.go_tree.specs.GoTypes.Defined.{has_keys}
 
 itself : (e : Entity) → EntityKept e e
@@ -230,20 +231,20 @@ module _ {S : Type 0} where
   func_untyped w h f None = function_untyped w h f
   func_untyped w h f (Some r) = no_names
 
--- ---- two headers, one in the place of the other, in worlds of which the second knows more
+-- ---- headers in worlds of which the second knows more
 
 -- what a type that is declared here or there binds
-type_both : (n : List ℕ) (p q : Option Entity) → Keeps p q → TypesKept (otherwise (given p (λ e. Some (binding n e))) (bind_each refused (n ∷ []))) (otherwise (given q (λ e. Some (binding n e))) (bind_each refused (n ∷ [])))
-type_both n None None k = kept_itself (bind_each refused (n ∷ []))
-type_both n None (Some d) k = go (is_blank n)
+type_alone :
+    (n : List ℕ) (p q : Option Entity) → Keeps p q →
+    TypesKept (otherwise (given p (λ e. Some (binding n e))) (bind_each refused (n ∷ [])))
+    (otherwise (given q (λ e. Some (binding n e ++ []))) (bind_each refused (n ∷ [])))
+type_alone n None None k = kept_itself (bind_each refused (n ∷ []))
+type_alone n None (Some d) k = kept_both (binding_kept n refused d (was_none d)) no_names
+type_alone n (Some e) q k = go q k
   where
-    go : (b : Bool) → TypesKept ((if b then [] else (n, refused) ∷ []) ++ []) (if b then [] else (n, d) ∷ [])
-    go true = no_names
-    go false = and_name (was_none d) no_names
-type_both n (Some e) q k = go q k
-  where
-    go : (q : Option Entity) → Keeps (Some e) q → TypesKept (binding n e) (otherwise (given q (λ e. Some (binding n e))) (bind_each refused (n ∷ [])))
-    go _ kept = kept_itself (binding n e)
+    go : (q : Option Entity) → Keeps (Some e) q →
+        TypesKept (binding n e) (otherwise (given q (λ e. Some (binding n e ++ []))) (bind_each refused (n ∷ [])))
+    go _ kept = binding_alone n e e (itself e)
 
 -- what is kept is kept on
 keeps_then : {A : Type 0} (o q r : Option A) → Keeps o q → Keeps q r → Keeps o r
@@ -257,14 +258,6 @@ kept_then (and_name {e = e} {d = d} i r) (and_name {d = c} j s) =
       type = keeps_then (type_of_name (Some e)) (type_of_name (Some d)) (type_of_name (Some c)) i.type j.type;
       package_there = keeps_then (package_of (Some e)) (package_of (Some d)) (package_of (Some c)) i.package_there j.package_there;
     }) (kept_then r s)
-
--- two headers of the same kind, which declare the same names, and the same types in each world
-pub record HeaderFollows {S : Type 0} (h k : Headed S) : Type 0 where
-  pub home : h.home ≡ k.home
-  pub sound : h.sound ≡ k.sound
-  pub names : header_names h.header ≡ header_names k.header
-  pub specs : SpecsIn (λ t u. Unit {0}) h.header k.header
-  pub good : (ds : DeclaredTypes) (w : World) → good_entity ds w h ≡ good_entity ds w k
 
 -- a world of which another knows all types
 pub record KnowsTypes (x y : World) : Type 0 where
@@ -303,14 +296,6 @@ module _ {S : Type 0} (ds : DeclaredTypes) (x y : World) (knows : KnowsTypes x y
   abbrev BindsAs : World → Headed S → Header S → Bool → Binds
   BindsAs w h a s = otherwise (only_if s (declares_as w h a)) (bind_each refused (header_names a))
 
-  -- what was refused
-  from_refused : (k : Headed S) (b : Header S) (s : Bool) → ((bs : Binds) → only_if s (declares_as y k b) ≡ Some bs → BlockClearer (bind_each refused (header_names b)) bs) → TypesKept (bind_each refused (header_names b)) (BindsAs y k b s)
-  from_refused k b s fit = go (only_if s (declares_as y k b)) fit
-    where
-      go : (o : Option Binds) → ((bs : Binds) → o ≡ Some bs → BlockClearer (bind_each refused (header_names b)) bs) → TypesKept (bind_each refused (header_names b)) (otherwise o (bind_each refused (header_names b)))
-      go None f = kept_itself (bind_each refused (header_names b))
-      go (Some bs) f = clearer_kept (f bs refl)
-
   -- what isn't a type
   plain_as : (h : Headed S) (a : Header S) (s : Bool) → spec_of a ≡ None → TypesKept (BindsAs x h a s) (bind_each refused (header_names a))
   plain_as h a false e = kept_itself (bind_each refused (header_names a))
@@ -319,59 +304,137 @@ module _ {S : Type 0} (ds : DeclaredTypes) (x y : World) (knows : KnowsTypes x y
   plain_as h (a_type_spec t) true e = absurd (grind (arith, ap is_some e))
   plain_as h (a_func g) true e = untyped_or (header_names (a_func g)) (func_declared x h g) (func_untyped x h g g.receiver)
 
-  pair_kept : (h k : Headed S) (a b : Header S) (s : Bool) → SpecsIn (λ t u. Unit {0}) a b → header_names a ≡ header_names b → Keeps (good_entity ds x h) (good_entity ds y k) → ((bs : Binds) → only_if s (declares_as y k b) ≡ Some bs → BlockClearer (bind_each refused (header_names b)) bs) → TypesKept (BindsAs x h a s) (BindsAs y k b s)
-  pair_kept h k _ _ s (types_of_constants {ns = ns} {ms = ms} {t = t} {u = u} {es = es} {fs = fs} {i = i} {j = j} e) n g fit =
-      kept_then (subst (λ l. TypesKept (BindsAs x h (constants ns t es i) s) (bind_each refused l)) n (plain_as h (constants ns t es i) s refl)) (from_refused k (constants ms u fs j) s fit)
-  pair_kept h k _ _ s (types_of_variables {ns = ns} {ms = ms} {t = t} {u = u} {es = es} {fs = fs} e) n g fit =
-      kept_then (subst (λ l. TypesKept (BindsAs x h (variables ns t es) s) (bind_each refused l)) n (plain_as h (variables ns t es) s refl)) (from_refused k (variables ms u fs) s fit)
-  pair_kept h k _ _ false (types_of_spec {t = t} {u = u} e a f) n g fit = subst (λ l. TypesKept (bind_each refused (t.name.name ∷ [])) (bind_each refused l)) n (kept_itself (bind_each refused (t.name.name ∷ [])))
-  pair_kept h k _ _ true (types_of_spec {t = t} {u = u} e a f) n g fit =
-      subst (λ m. TypesKept (BindsAs x h (a_type_spec t) true) (otherwise (given (good_entity ds y k) (λ d. Some (binding m d))) (bind_each refused (m ∷ [])))) e (type_both t.name.name (good_entity ds x h) (good_entity ds y k) g)
-  pair_kept h k _ _ s (types_of_func {f = f} {g = g} r e) n m fit =
-      kept_then (subst (λ l. TypesKept (BindsAs x h (a_func f) s) (bind_each refused l)) n (plain_as h (a_func f) s refl)) (from_refused k (a_func g) s fit)
+  -- beside the types alone
+  types_as : (h : Headed S) (a : Header S) (s : Bool) (o : Option Entity) → Keeps (good_entity ds x h) o →
+      (spec_of a ≡ None → o ≡ None) →
+      TypesKept (BindsAs x h a s)
+      (otherwise (only_if s (given o (λ e. Some (bind_each e (header_names a))))) (bind_each refused (header_names a)))
+  types_as h a false o k none = kept_itself (bind_each refused (header_names a))
+  types_as h (constants ns t es i) true o k none =
+      subst
+      (λ o.
+      TypesKept (BindsAs x h (constants ns t es i) true)
+      (otherwise (given o (λ e. Some (bind_each e (names_of ns)))) (bind_each refused (names_of ns))))
+      (sym (none refl)) (plain_as h (constants ns t es i) true refl)
+  types_as h (variables ns t es) true o k none =
+      subst
+      (λ o.
+      TypesKept (BindsAs x h (variables ns t es) true)
+      (otherwise (given o (λ e. Some (bind_each e (names_of ns)))) (bind_each refused (names_of ns))))
+      (sym (none refl)) (plain_as h (variables ns t es) true refl)
+  types_as h (a_type_spec t) true o k none = type_alone t.name.name (good_entity ds x h) o k
+  types_as h (a_func f) true o k none =
+      subst
+      (λ o.
+      TypesKept (BindsAs x h (a_func f) true)
+      (otherwise (given o (λ e. Some (bind_each e (header_names (a_func f))))) (bind_each refused
+      (header_names (a_func f)))))
+      (sym (none refl)) (plain_as h (a_func f) true refl)
 
-  header_follows : (h k : Headed S) → HeaderFollows h k → TypesKept (binds_or_refused h (declared_by ds x h)) (binds_or_refused k (declared_by ds y k))
-  header_follows h k r =
-      subst (λ s. TypesKept (binds_or_refused h (declared_by ds x h)) (BindsAs y k k.header s)) r.sound
-      (pair_kept h k h.header k.header h.sound r.specs r.names (subst (Keeps (good_entity ds x h)) (r.good ds y) (good_keeps h))
-      (subst (λ s. (bs : Binds) → only_if s (declares_as y k k.header) ≡ Some bs → BlockClearer (bind_each refused (header_names k.header)) bs) (sym r.sound) ((value_phase ds y).fits y.blocks k)))
+  no_type : (h : Headed S) → spec_of h.header ≡ None → good_entity ds y h ≡ None
+  no_type h e = λ z. given (e z) (λ t. only_if (is_good_type y ds h t) (type_entity (spec_type y h t)))
 
-  block_follows : (p : ℕ) {hs ks : List (Headed S)} → OneByOne HeaderFollows hs ks → TypesKept (block_by (λ h. declared_by ds x h) p hs) (block_by (λ h. declared_by ds y h) p ks)
-  block_follows p no_more = no_names
-  block_follows p (and_more {a = h} {b = k} {xs = hs} {ys = ks} r rs) =
-      subst (λ c. TypesKept (block_by (λ h. declared_by ds x h) p (h ∷ hs)) (if nat_eq c p then binds_or_refused k (declared_by ds y k) ++ block_by (λ h. declared_by ds y h) p ks else block_by (λ h. declared_by ds y h) p ks)) r.home
-      (go (nat_eq h.home p) (header_follows h k r) (block_follows p rs))
+  header_typed : (h : Headed S) →
+      TypesKept (binds_or_refused h (declared_by ds x h)) (binds_or_refused h (entity_binds h (good_entity ds y h)))
+  header_typed h = types_as h h.header h.sound (good_entity ds y h) (good_keeps h) (no_type h)
+
+  block_typed : (p : ℕ) (hs : List (Headed S)) →
+      TypesKept (block_by (λ h. declared_by ds x h) p hs)
+      (block_by (λ h. entity_binds h (good_entity ds y h)) p hs)
+  block_typed p [] = no_names
+  block_typed p (h ∷ hs) = go (nat_eq h.home p) (header_typed h) (block_typed p hs)
     where
-      go : (b : Bool) → TypesKept (binds_or_refused h (declared_by ds x h)) (binds_or_refused k (declared_by ds y k)) → TypesKept (block_by (λ h. declared_by ds x h) p hs) (block_by (λ h. declared_by ds y h) p ks)
-          → TypesKept (if b then binds_or_refused h (declared_by ds x h) ++ block_by (λ h. declared_by ds x h) p hs else block_by (λ h. declared_by ds x h) p hs) (if b then binds_or_refused k (declared_by ds y k) ++ block_by (λ h. declared_by ds y h) p ks else block_by (λ h. declared_by ds y h) p ks)
+      go : (b : Bool) →
+          TypesKept (binds_or_refused h (declared_by ds x h)) (binds_or_refused h (entity_binds h (good_entity ds y h)))
+          → TypesKept (block_by (λ h. declared_by ds x h) p hs)
+          (block_by (λ h. entity_binds h (good_entity ds y h)) p hs) →
+          TypesKept
+          (if b then binds_or_refused h (declared_by ds x h) ++ block_by (λ h. declared_by ds x h) p hs
+          else block_by (λ h. declared_by ds x h) p hs)
+          (if b then binds_or_refused h (entity_binds h (good_entity ds y h)) ++ block_by
+          (λ h. entity_binds h (good_entity ds y h)) p hs
+          else block_by (λ h. entity_binds h (good_entity ds y h)) p hs)
       go true i j = kept_both i j
       go false i j = j
 
-  blocks_follow : (p : ℕ) {hs ks : List (Headed S)} → OneByOne HeaderFollows hs ks → {ps qs : Program S} → SameNumbers ps qs → TypesKept (block_of (blocks_by (λ h. declared_by ds x h) ps hs) p) (block_of (blocks_by (λ h. declared_by ds y h) qs ks) p)
-  blocks_follow p r no_more = no_names
-  blocks_follow p {hs = hs} {ks = ks} r (and_more {a = a} {b = b} {xs = ps} {ys = qs} n ns) =
-      subst (λ c. TypesKept (block_of (blocks_by (λ h. declared_by ds x h) (a ∷ ps) hs) p) (if nat_eq c p then block_by (λ h. declared_by ds y h) c ks else block_of (blocks_by (λ h. declared_by ds y h) qs ks) p)) n
-      (go (nat_eq a.number p) (block_follows a.number r) (blocks_follow p r ns))
+  blocks_typed : (hs : List (Headed S)) (p : ℕ) (ps : Program S) →
+      TypesKept (block_of (blocks_by (λ h. declared_by ds x h) ps hs) p)
+      (block_of (blocks_by (λ h. entity_binds h (good_entity ds y h)) ps hs) p)
+  blocks_typed hs p [] = no_names
+  blocks_typed hs p (q ∷ ps) = go (nat_eq q.number p) (block_typed q.number hs) (blocks_typed hs p ps)
     where
-      go : (c : Bool) → TypesKept (block_by (λ h. declared_by ds x h) a.number hs) (block_by (λ h. declared_by ds y h) a.number ks) → TypesKept (block_of (blocks_by (λ h. declared_by ds x h) ps hs) p) (block_of (blocks_by (λ h. declared_by ds y h) qs ks) p)
-          → TypesKept (if c then block_by (λ h. declared_by ds x h) a.number hs else block_of (blocks_by (λ h. declared_by ds x h) ps hs) p) (if c then block_by (λ h. declared_by ds y h) a.number ks else block_of (blocks_by (λ h. declared_by ds y h) qs ks) p)
+      go : (b : Bool) →
+          TypesKept (block_by (λ h. declared_by ds x h) q.number hs)
+          (block_by (λ h. entity_binds h (good_entity ds y h)) q.number hs) →
+          TypesKept (block_of (blocks_by (λ h. declared_by ds x h) ps hs) p)
+          (block_of (blocks_by (λ h. entity_binds h (good_entity ds y h)) ps hs) p) →
+          TypesKept
+          (if b then block_by (λ h. declared_by ds x h) q.number hs
+          else block_of (blocks_by (λ h. declared_by ds x h) ps hs) p)
+          (if b then block_by (λ h. entity_binds h (good_entity ds y h)) q.number hs
+          else block_of (blocks_by (λ h. entity_binds h (good_entity ds y h)) ps hs) p)
       go true i j = i
       go false i j = j
 
--- ---- rounds
+-- ---- rounds of values: no type comes that isn't known before
 
-module _ {S : Type 0} {hs ks : List (Headed S)} (follow : OneByOne HeaderFollows hs ks) {ps qs : Program S} (numbers : SameNumbers ps qs) (ds : DeclaredTypes) where
-  rounds_follow : (n : ℕ) (x y : World) → KnowsTypes x y → KnowsTypes (times n (value_round ps hs ds) x) (times n (value_round qs ks ds) y)
-  rounds_follow zero x y k = k
-  rounds_follow (suc n) x y k = rounds_follow n (value_round ps hs ds x) (value_round qs ks ds y) (record { defined = k.defined; blocks = λ p. blocks_follow ds x y k p follow numbers })
+module _ {S : Type 0} (ps : Program S) (hs : List (Headed S)) where
+  abbrev T : World
+  T = typed_world ps hs
 
-as_many : {A B : Type 0} {R : A → B → Type 0} {xs : List A} {ys : List B} → OneByOne R xs ys → length xs ≡ length ys
-as_many no_more = refl
-as_many (and_more r rs) = ap suc (as_many rs)
+  abbrev kinds : DeclaredTypes
+  kinds = types_declared ps hs
 
--- where the same types are declared, the types of the one are known to the other once all values are found
-pub values_follow : {S : Type 0} (ps qs : Program S) (hs ks : List (Headed S)) → OneByOne HeaderFollows hs ks → SameNumbers ps qs → types_declared ps hs ≡ types_declared qs ks → typed_world ps hs ≡ typed_world qs ks → KnowsTypes (valued_world ps hs) (valued_world qs ks)
-values_follow ps qs hs ks follow numbers types typed =
-    subst (λ (v : DeclaredTypes × World). KnowsTypes (valued_world ps hs) (times (suc (length ks)) (value_round qs ks v.0) v.1)) (λ i. (types i, typed i))
-    (subst (λ n. KnowsTypes (valued_world ps hs) (times (suc n) (value_round qs ks (types_declared ps hs)) (typed_world ps hs))) (as_many follow)
-    (rounds_follow follow numbers (types_declared ps hs) (suc (length hs)) (typed_world ps hs) (typed_world ps hs) (record { defined = refl; blocks = λ p. kept_itself (block_of (typed_world ps hs).blocks p) })))
+  -- of headers, by which a further round of types changes nothing
+  module _ (xs : List (Headed S)) (same : type_round ps xs kinds T ≡ T) where
+    one_round : (w : World) → KnowsTypes w T → KnowsTypes (value_round ps xs kinds w) T
+    one_round w k = record {
+      defined = k.defined;
+      blocks = λ p.
+          subst (λ v. TypesKept (block_of (blocks_by (λ h. declared_by kinds w h) ps xs) p) (block_of v.blocks p)) same
+          (blocks_typed kinds w T k xs p ps);
+    }
+
+    all_rounds : (n : ℕ) (w : World) → KnowsTypes w T → KnowsTypes (times n (value_round ps xs kinds) w) T
+    all_rounds zero w k = k
+    all_rounds (suc n) w k = all_rounds n (value_round ps xs kinds w) (one_round w k)
+
+  named_typed : KnowsTypes (named_world ps hs) T
+  named_typed =
+      all_rounds (by_names hs) (typed_by_names ps hs) (rounds ps (by_names hs)) T
+      (record { defined = refl; blocks = λ p. kept_itself (block_of T.blocks p) })
+
+  -- the types that names mean at last they mean where the rounds of types end
+  pub valued_typed : KnowsTypes (valued_world ps hs) (typed_world ps hs)
+  valued_typed = all_rounds hs (typed_settled ps hs) (rounds ps hs) (named_world ps hs) named_typed
+
+-- where the same types are found in another program, the types of the one are known to the other
+pub known_to_names :
+    {S : Type 0} (ps qs : Program S) (hs ks : List (Headed S)) → typed_world ps hs ≡ typed_world qs ks →
+    KnowsTypes (valued_world ps hs) (named_world qs ks)
+known_to_names ps qs hs ks typed = record {
+  defined = (valued_typed ps hs).defined ∙ ap (λ w. w.defined) typed ∙ sym (ap (λ w. w.defined) (named_is qs ks));
+  blocks = λ p.
+      kept_then ((valued_typed ps hs).blocks p)
+      (subst (λ w. TypesKept (block_of w.blocks p) (block_of (named_world qs ks).blocks p)) (sym typed)
+      (clearer_kept (block_of_clearer (types_in_names qs ks) p)));
+}
+
+pub known_to_values :
+    {S : Type 0} (ps qs : Program S) (hs ks : List (Headed S)) → typed_world ps hs ≡ typed_world qs ks →
+    KnowsTypes (valued_world ps hs) (valued_world qs ks)
+known_to_values ps qs hs ks typed = record {
+  defined = (valued_typed ps hs).defined ∙ ap (λ w. w.defined) typed ∙ sym (ap (λ w. w.defined) (valued_is qs ks));
+  blocks = λ p.
+      kept_then ((valued_typed ps hs).blocks p)
+      (subst (λ w. TypesKept (block_of w.blocks p) (block_of (valued_world qs ks).blocks p)) (sym typed)
+      (clearer_kept (block_of_clearer (types_in_values qs ks) p)));
+}
+
+-- and in the program itself what is found at last is known before whole headers are refused
+pub known_by_names :
+    {S : Type 0} (ps : Program S) (hs : List (Headed S)) → KnowsTypes (valued_world ps hs) (named_world ps hs)
+known_by_names ps hs = record {
+  defined = ap (λ w. w.defined) (valued_is ps hs) ∙ sym (ap (λ w. w.defined) (named_is ps hs));
+  blocks = λ p. clearer_kept (block_of_clearer (ends_below ps hs) p);
+}

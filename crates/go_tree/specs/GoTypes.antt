@@ -20,6 +20,7 @@ pub mod Initial
 pub mod Bodiless
 pub mod TypeDeclarations
 pub mod MethodDeclarations
+pub mod SingleNames
 pub mod Collect
 pub mod WellTyped
 pub mod Recorded

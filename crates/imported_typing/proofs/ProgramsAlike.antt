@@ -1,5 +1,5 @@
 -- Packages declare the same beside further packages that none of them imports, and the same is refused of them.
-use Rattle.std.specs.Prelude.{◌≡◌, refl, ℕ, zero, suc, Bool, true, false, not, ◌&&◌, ◌||◌, List, [], ◌∷◌, ◌++◌, length, Option, Some, None, if◌then◌else◌, nat_eq, bytes_eq, is_none}
+use Rattle.std.specs.Prelude.{◌≡◌, refl, ℕ, zero, suc, Bool, true, false, not, ◌&&◌, ◌||◌, List, [], ◌∷◌, ◌++◌, map, length, Option, Some, None, if◌then◌else◌, nat_eq, bytes_eq, is_none}
 use Rattle.std.specs.List.{list_any, list_all}
 use mathlib.Core.Path.{ap, ap₂, sym, ◌∙◌, subst}
 use Rattle.std.proofs.Common.{arith}
@@ -12,10 +12,12 @@ use Rattle.go_tree.specs.GoTypes.Entities.{Entity, package_name, refused, World,
 use Rattle.go_tree.specs.GoTypes.Programs.{Import, SourceFile, SourcePackage, Program, Header, Headed, import_entity, import_sound, header_sound, file_block, header_names, headed_file, headed_files, headed_package, headed, all_headers, names_in, block_names, is_main}
 use Rattle.go_tree.specs.GoTypes.TypeDeclarations.{DeclaredType, DeclaredTypes, declared_as, under_within, underlying, is_finite_by, are_finite_by, is_finite_within, is_finite}
 use Rattle.go_tree.specs.GoTypes.MethodDeclarations.{DeclaredMethod, methods_on, with_methods, methods_from}
-use Rattle.go_tree.specs.GoTypes.Collect.{times, alias_entity, type_declared, declared_types, good_entity, declared_by, binds_or_refused, entity_binds, block_by, blocks_by, alias_round, type_round, value_round, refused_world, rounds, aliased_world, types_declared, typed_world, valued_world, world_of, collected}
+use Rattle.go_tree.specs.GoTypes.Collect.{times, alias_entity, type_declared, declared_types, good_entity, declared_by, binds_or_refused, entity_binds, block_by, blocks_by, alias_round, type_round, value_round, refused_world, rounds, aliased_world, types_declared, typed_world, named_world, valued_world, world_of, collected}
+use Rattle.go_tree.specs.GoTypes.SingleNames.{single_names, with_header, singly, by_names}
 use Rattle.go_tree.specs.GoTypes.WellTyped.{NotTyped, refused_in, first_refused, refused_place, well_typed}
 use Rattle.typed_in_place.proofs.Rounds.{times_fixed}
-use Rattle.typed_in_place.proofs.Collected.{aliased_settled, typed_settled, valued_settled}
+use Rattle.typed_in_place.proofs.Collected.{aliased_settled, typed_settled, named_settled, valued_settled}
+use Rattle.typed_in_place.proofs.NameRounds.Singles.{names_of_both}
 use Rattle.typed_in_place.proofs.SameWorlds.AtHome.{nat_same, at_home, block_at_home, types_at_home, methods_at_home}
 use Rattle.imported_typing.specs.Reach.{Reach, AllOf, IfAny, TypeWithin, FieldsWithin, MethodWithin, DefinedWithin, EntityWithin, SameWithin, HeaderWithin}
 use Rattle.imported_typing.specs.Further.{has_package, imports_itself, are_others, own_reach, refused_among, is_end, chains_end}
@@ -139,6 +141,17 @@ module _ {S : Type 0} where
         (of_files (λ (h : Headed S). nat_eq h.home k ≡ false) p.number (is_main p) (block_names p.files) 0 [] p.files
         (elsewhere_in_files p o.0 p.files))
         (elsewhere more o.1)
+
+  -- single names stand where their headers stand
+  module _ (K : Headed S → Type 0) (f : (h : Headed S) (x : Header S) → K h → K (with_header h x)) where
+    of_singles : (h : Headed S) → K h → (xs : List (Header S)) → AllOf K (map (with_header h) xs)
+    of_singles h k [] = tt
+    of_singles h k (x ∷ xs) = (f h x k, of_singles h k xs)
+
+    of_names : (hs : List (Headed S)) → AllOf K hs → AllOf K (by_names hs)
+    of_names [] k = tt
+    of_names (h ∷ hs) k =
+        all_both K (singly h) (by_names hs) (of_singles h k.0 (single_names h.header)) (of_names hs k.1)
 
   at_home_front : (k : ℕ) (hs ms : List (Headed S)) → AllOf (λ (h : Headed S). nat_eq h.home k ≡ false) ms →
       at_home k (hs ++ ms) ≡ at_home k hs
@@ -366,32 +379,41 @@ module _ {S : Type 0} (ps more : Program S) (itself : imports_itself ps ≡ true
         go true i j = binds_both r (binds_or_refused h (f h)) (block_by f k xs) i j
         go false i j = j
 
-    left_block : (f : Headed S → Option Binds) (k : ℕ) → has_package ps k ≡ true →
-        block_of (blocks_by f ps hs) k ≡ block_by f k hs
-    left_block f k e = block_is f hs k ps ∙ (λ z. if e z then block_by f k hs else [])
+    left_block : (f : Headed S → Option Binds) (xs : List (Headed S)) (k : ℕ) → has_package ps k ≡ true →
+        block_of (blocks_by f ps xs) k ≡ block_by f k xs
+    left_block f xs k e = block_is f xs k ps ∙ (λ z. if e z then block_by f k xs else [])
 
-    right_block : (g : Headed S → Option Binds) (k : ℕ) → has_package ps k ≡ true →
-        block_of (blocks_by g qs ks) k ≡ block_by g k hs
-    right_block g k e =
-        block_is g ks k qs ∙ (λ z. if any_both (λ (p : SourcePackage S). nat_eq p.number k) ps more e z then
-        block_by g k
-        ks else [])
-        ∙ block_at_home g k ks ∙ (λ z. block_by g k (at_home_front k hs ms (all_elsewhere k e) z)) ∙ sym
-        (block_at_home g k hs)
+    -- headers that stand in none of the packages
+    abbrev AllElsewhere : List (Headed S) → Type 0
+    AllElsewhere zs = (k : ℕ) → has_package ps k ≡ true → AllOf (λ (h : Headed S). nat_eq h.home k ≡ false) zs
+
+    right_block : (g : Headed S → Option Binds) (xs zs : List (Headed S)) → AllElsewhere zs → (k : ℕ) →
+        has_package ps k ≡ true → block_of (blocks_by g qs (xs ++ zs)) k ≡ block_by g k xs
+    right_block g xs zs away k e =
+        block_is g (xs ++ zs) k qs
+        ∙ (λ z. if any_both (λ (p : SourcePackage S). nat_eq p.number k) ps more e z then
+        block_by g k (xs ++ zs) else [])
+        ∙ block_at_home g k (xs ++ zs) ∙ (λ z. block_by g k (at_home_front k xs zs (away k e) z)) ∙ sym
+        (block_at_home g k xs)
 
     -- worlds in which the same is found of them
     abbrev Same : World → World → Type 0
     Same w v = SameWithin r w v
 
-    after_round : (f g : Headed S → Option Binds) (w v : World) → Same w v → AnswersAlike f g hs →
-        Same (record w { blocks = blocks_by f ps hs }) (record v { blocks = blocks_by g qs ks })
-    after_round f g w v s a = record {
+    round_over : (xs zs : List (Headed S)) → AllElsewhere zs → (f g : Headed S → Option Binds) (w v : World) →
+        Same w v → AnswersAlike f g xs →
+        Same (record w { blocks = blocks_by f ps xs }) (record v { blocks = blocks_by g qs (xs ++ zs) })
+    round_over xs zs away f g w v s a = record {
       types = s.types;
       parts = s.parts;
-      blocks = λ k e. left_block f k e ∙ block_by_same f g k hs a ∙ sym (right_block g k e);
-      members = λ k e n. subst (λ bs. IfAny (EntityWithin r) (means bs n)) (sym (left_block f k e))
-          (means_of r (block_by f k hs) (block_by_within f g k hs a) n);
+      blocks = λ k e. left_block f xs k e ∙ block_by_same f g k xs a ∙ sym (right_block g xs zs away k e);
+      members = λ k e n. subst (λ bs. IfAny (EntityWithin r) (means bs n)) (sym (left_block f xs k e))
+          (means_of r (block_by f k xs) (block_by_within f g k xs a) n);
     }
+
+    after_round : (f g : Headed S → Option Binds) (w v : World) → Same w v → AnswersAlike f g hs →
+        Same (record w { blocks = blocks_by f ps hs }) (record v { blocks = blocks_by g qs ks })
+    after_round f g w v s a = round_over hs ms all_elsewhere f g w v s a
 
     -- ---- rounds
 
@@ -400,17 +422,22 @@ module _ {S : Type 0} (ps more : Program S) (itself : imports_itself ps ≡ true
     times_same F G f zero w v s = s
     times_same F G f (suc n) w v s = times_same F G f n (F w) (G v) (f w v s)
 
-    as_many_rounds : rounds qs ks ≡ plus (rounds ps hs) (length ms)
-    as_many_rounds = λ z. suc (count_both hs ms z)
+    rounds_over : (xs zs : List (Headed S)) (F G : World → World) → ((w v : World) → Same w v → Same (F w) (G v)) →
+        (w v : World) → Same w v → F (times (rounds ps xs) F w) ≡ times (rounds ps xs) F w →
+        Same (times (rounds ps xs) F w) (times (rounds qs (xs ++ zs)) G v)
+    rounds_over xs zs F G f w v s e =
+        subst (λ x. Same x (times (rounds qs (xs ++ zs)) G v))
+        (ap (λ n. times n F w) (as_many xs zs) ∙ times_more (rounds ps xs) (length zs) F w ∙ times_fixed F (length zs)
+        (times (rounds ps xs) F w) e)
+        (times_same F G f (rounds qs (xs ++ zs)) w v s)
+      where
+        as_many : (xs zs : List (Headed S)) → rounds qs (xs ++ zs) ≡ plus (rounds ps xs) (length zs)
+        as_many xs zs = λ z. suc (count_both xs zs z)
 
     rounds_same : (F G : World → World) → ((w v : World) → Same w v → Same (F w) (G v)) → (w v : World) → Same w v →
         F (times (rounds ps hs) F w) ≡ times (rounds ps hs) F w → Same (times (rounds ps hs) F w)
         (times (rounds qs ks) G v)
-    rounds_same F G f w v s e =
-        subst (λ x. Same x (times (rounds qs ks) G v))
-        (ap (λ n. times n F w) as_many_rounds ∙ times_more (rounds ps hs) (length ms) F w ∙ times_fixed F (length ms)
-        (times (rounds ps hs) F w) e)
-        (times_same F G f (rounds qs ks) w v s)
+    rounds_same F G f w v s e = rounds_over hs ms F G f w v s e
 
     entity_answers : (h : Headed S) (x y : Option Entity) → Alike (EntityWithin r) x y →
         Alike (BindsWithin r) (entity_binds h x) (entity_binds h y)
@@ -652,14 +679,35 @@ module _ {S : Type 0} (ps more : Program S) (itself : imports_itself ps ≡ true
         value_answers w v s xs k.1,
       )
 
-      value_after : (w v : World) → Same w v → Same (value_round ps hs ds w) (value_round qs ks es v)
-      value_after w v s = after_round (λ h. declared_by ds w h) (λ h. declared_by es v h) w v s
-          (value_answers w v s hs headers_within)
+      -- ---- names, each by itself, and whole headers
+
+      value_after : (xs zs : List (Headed S)) → AllElsewhere zs → AllOf (HeaderWithin r) xs → (w v : World) →
+          Same w v → Same (value_round ps xs ds w) (value_round qs (xs ++ zs) es v)
+      value_after xs zs away within w v s =
+          round_over xs zs away (λ h. declared_by ds w h) (λ h. declared_by es v h) w v s (value_answers w v s xs within)
+
+      names_within : AllOf (HeaderWithin r) (by_names hs)
+      names_within =
+          of_names (HeaderWithin r) (λ h x k. record { home = k.home; imports = k.imports }) hs headers_within
+
+      names_elsewhere : AllElsewhere (by_names ms)
+      names_elsewhere k e =
+          of_names (λ (h : Headed S). nat_eq h.home k ≡ false) (λ h x k. k) ms (all_elsewhere k e)
+
+      named_same : Same (named_world ps hs) (named_world qs ks)
+      named_same =
+          subst
+          (λ xs. Same (named_world ps hs) (times (rounds qs xs) (value_round qs xs es) (typed_world qs ks)))
+          (sym (names_of_both hs ms))
+          (rounds_over (by_names hs) (by_names ms) (value_round ps (by_names hs) ds)
+          (value_round qs (by_names hs ++ by_names ms) es)
+          (value_after (by_names hs) (by_names ms) names_elsewhere names_within) (typed_world ps hs) (typed_world qs ks)
+          typed_same (named_settled ps hs))
 
       valued_same : Same (valued_world ps hs) (valued_world qs ks)
       valued_same =
-          rounds_same (value_round ps hs ds) (value_round qs ks es) value_after (typed_world ps hs) (typed_world qs ks)
-          typed_same (valued_settled ps hs)
+          rounds_same (value_round ps hs ds) (value_round qs ks es) (value_after hs ms all_elsewhere headers_within)
+          (named_world ps hs) (named_world qs ks) named_same (valued_settled ps hs)
 
       -- ---- methods
 

@@ -18,11 +18,13 @@ use Rattle.go_tree.specs.GoTypes.Initial.{all_initial}
 use Rattle.go_tree.specs.GoTypes.Typing.{all_parts}
 use Rattle.go_tree.specs.GoTypes.Programs.{Program, Header, constants, variables, a_type_spec, a_func, spec_of, Headed, header_names, env_of}
 use Rattle.go_tree.specs.GoTypes.TypeDeclarations.{DeclaredTypes}
-use Rattle.go_tree.specs.GoTypes.Collect.{times, type_entity, spec_type, alias_entity, is_good_type, good_entity, package_constants, package_variables, may_be_main, function_declared, func_declared, declared_by, binds_or_refused, entity_binds, block_by, blocks_by, value_round, rounds, aliased_world, typed_world}
+use Rattle.go_tree.specs.GoTypes.Collect.{times, type_entity, spec_type, alias_entity, is_good_type, good_entity, package_constants, package_variables, may_be_main, function_declared, func_declared, declared_by, binds_or_refused, entity_binds, block_by, blocks_by, value_round, rounds, aliased_world, typed_world, alias_round}
+use Rattle.go_tree.specs.GoTypes.SingleNames.{by_names}
 use Rattle.typed_in_place.specs.Known.{Keeps, no_answer, kept, BlockClearer, end_of_block, was_refused, was_known, BlocksClearer}
 use Rattle.typed_in_place.proofs.Blocks.{block_of_clearer}
 use Rattle.typed_in_place.proofs.Rising.{keeps_given, keeps_both}
 use Rattle.typed_in_place.proofs.Collected.{aliased_settled}
+use Rattle.typed_in_place.proofs.NameRounds.TypeBlocks.{aliased_by_names}
 use Rattle.imported_typing.specs.Reach.{IfAny}
 
 -- a type or a package that one entity is, the other is too
@@ -394,19 +396,36 @@ module _ {S : Type 0} where
     abbrev pub WorldKept : World → Type 0
     WorldKept w = (p : ℕ) → TypesKept (block_of w.blocks p) (block_of (aliased_world ps hs).blocks p)
 
-    after_round : (w : World) → WorldKept w → WorldKept (value_round ps hs ds w)
-    after_round w k p =
-        subst (λ v. TypesKept (block_of (value_round ps hs ds w).blocks p) (block_of v.blocks p))
-        (aliased_settled ps hs)
-        (blocks_kept ds w (aliased_world ps hs) k hs p ps)
+    -- of these headers the aliases are found that are found of all
+    abbrev SameAliases : List (Headed S) → Type 0
+    SameAliases xs = alias_round ps xs (aliased_world ps hs) ≡ aliased_world ps hs
 
-    after_rounds : (n : ℕ) (w : World) → WorldKept w → WorldKept (times n (value_round ps hs ds) w)
-    after_rounds zero w k = k
-    after_rounds (suc n) w k = after_rounds n (value_round ps hs ds w) (after_round w k)
+    after_round : (xs : List (Headed S)) → SameAliases xs → (w : World) → WorldKept w →
+        WorldKept (value_round ps xs ds w)
+    after_round xs same w k p =
+        subst (λ v. TypesKept (block_of (value_round ps xs ds w).blocks p) (block_of v.blocks p)) same
+        (blocks_kept ds w (aliased_world ps hs) k xs p ps)
+
+    after_rounds : (xs : List (Headed S)) → SameAliases xs → (n : ℕ) (w : World) → WorldKept w →
+        WorldKept (times n (value_round ps xs ds) w)
+    after_rounds xs same zero w k = k
+    after_rounds xs same (suc n) w k =
+        after_rounds xs same n (value_round ps xs ds w) (after_round xs same w k)
 
     pub begins_kept : (w : World) → BlocksClearer w.blocks (aliased_world ps hs).blocks → WorldKept w
     begins_kept w d p = clearer_kept (block_of_clearer d p)
 
+    -- single names, each by itself
+    pub names_kept : BlocksClearer (typed_world ps hs).blocks (aliased_world ps hs).blocks →
+        WorldKept (times (rounds ps (by_names hs)) (value_round ps (by_names hs) ds) (typed_world ps hs))
+    names_kept d =
+        after_rounds (by_names hs) (aliased_by_names ps hs) (rounds ps (by_names hs)) (typed_world ps hs)
+        (begins_kept (typed_world ps hs) d)
+
+    -- and whole headers
     pub values_kept : BlocksClearer (typed_world ps hs).blocks (aliased_world ps hs).blocks →
-        WorldKept (times (rounds ps hs) (value_round ps hs ds) (typed_world ps hs))
-    values_kept d = after_rounds (rounds ps hs) (typed_world ps hs) (begins_kept (typed_world ps hs) d)
+        WorldKept (times (rounds ps hs) (value_round ps hs ds)
+        (times (rounds ps (by_names hs)) (value_round ps (by_names hs) ds) (typed_world ps hs)))
+    values_kept d =
+        after_rounds hs (aliased_settled ps hs) (rounds ps hs)
+        (times (rounds ps (by_names hs)) (value_round ps (by_names hs) ds) (typed_world ps hs)) (names_kept d)

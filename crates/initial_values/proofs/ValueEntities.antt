@@ -1,3 +1,4 @@
 pub mod ValueLemmas
 pub mod ListLemmas
 pub mod SpecLemmas
+pub mod SingleLemmas

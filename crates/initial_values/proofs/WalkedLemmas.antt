@@ -15,7 +15,7 @@ second true b e = e
 second false b e = grind (arith, e)
 
 mutual
-  expr_walked : (e : Expr Span) → bodiless e ≡ true → HasGoodLiterals e → IsWalked e
+  pub expr_walked : (e : Expr Span) → bodiless e ≡ true → HasGoodLiterals e → IsWalked e
   expr_walked (ident _ n) b h = tt
   expr_walked (int_lit _ s) b h = h
   expr_walked (rune_lit _ s) b h = h

@@ -13,6 +13,8 @@ mod value_places;
 
 pub use bodiless::{all_bodiless, is_bodiless};
 pub use initial::{all_initial, is_initial};
-pub use value_blocks::{copied_blocks, set_values};
-pub use value_entities::{EntityList, ValueKind, no_constants, spec_constants, variables_at};
-pub use value_places::{value_names, value_place};
+pub use value_blocks::{copied_blocks, set_value, set_values};
+pub use value_entities::{
+    EntityList, ValueKind, constant_at, no_constants, spec_constants, variable_at, variables_at,
+};
+pub use value_places::{names_of_one, value_names, value_place};

@@ -5,4 +5,4 @@ mod copies;
 mod values;
 
 pub use copies::copied_blocks;
-pub use values::set_values;
+pub use values::{set_value, set_values};

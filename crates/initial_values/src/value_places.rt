@@ -5,5 +5,5 @@
 mod names;
 mod places;
 
-pub use names::value_names;
+pub use names::{names_of_one, value_names};
 pub use places::value_place;

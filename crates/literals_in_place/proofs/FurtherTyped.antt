@@ -17,7 +17,7 @@ use Rattle.go_translation.specs.Packages.{Package, sources, paths_in}
 use Rattle.typed_in_place.specs.ImportRule.{SamePackage, files_import, package_imports, imports_ok}
 use Rattle.typed_in_place.specs.ProgramReplaced.{All, all_of_none, all_and, Apart, InPlaceBeside}
 use Rattle.typed_in_place.specs.ProgramsAlike.{OneByOne, no_more, and_more, AliasesStand, TypesStand, ValuesStand, BodiesAlike}
-use Rattle.typed_in_place.proofs.ProgramsReplaced.{aliases_stand_itself, types_stand_itself, values_stand_itself, stays_well_typed_beside}
+use Rattle.typed_in_place.proofs.ProgramsReplaced.{aliases_stand_itself, types_stand_itself, values_stand_itself, other_body_stands, stays_well_typed_beside}
 use Rattle.typed_in_place.proofs.Rising.{and_first, and_second}
 use Rattle.imported_typing.specs.Further.{has_package, are_others, in_order, own_reach}
 use Rattle.imported_typing.specs.Reach.{AllOf, HeaderWithin}
@@ -224,8 +224,8 @@ module _ {S : Type 0} (Body : FuncName → List (List ℕ) → Here → Stmts S 
           aliases_after = headers_hold (AliasesStand (aliased_world (after ++ more) (headed (after ++ more)))) (λ h. aliases_stand_itself (aliased_world (after ++ more) (headed (after ++ more))) h) (λ h f b. record { header = record { home = refl; file = refl; sound = refl; names = refl; method = refl }; alias = refl; defined = refl }) r;
           types_before = headers_hold (TypesStand (typed_world (before ++ more) (headed (before ++ more)))) (λ h. types_stand_itself (typed_world (before ++ more) (headed (before ++ more))) h) (λ h f b. record { good = λ ds. refl }) r;
           types_after = headers_hold (TypesStand (typed_world (after ++ more) (headed (after ++ more)))) (λ h. types_stand_itself (typed_world (after ++ more) (headed (after ++ more))) h) (λ h f b. record { good = λ ds. refl }) r;
-          before = λ v y. headers_hold (ValuesStand v) (λ h. values_stand_itself v h) (λ h f b. record { declared = λ ds. refl; method = record { method = refl; on = refl } }) r;
-          after = λ v y. headers_hold (ValuesStand v) (λ h. values_stand_itself v h) (λ h f b. record { declared = λ ds. refl; method = record { method = refl; on = refl } }) r;
+          before = λ v y. headers_hold (ValuesStand v) (λ h. values_stand_itself v h) (λ h f b. other_body_stands v h f b) r;
+          after = λ v y. headers_hold (ValuesStand v) (λ h. values_stand_itself v h) (λ h f b. other_body_stands v h f b) r;
           bodies = bodies_there bodies (headers_within before more (first_import_themselves before more o) (later_are_others before more o)) (headers_within after more (first_import_themselves after more o') (later_are_others after more o'));
           packages = packages;
           apart = apart before more (later_are_others before more o);

@@ -3,7 +3,7 @@ use Rattle.std.specs.Prelude.{◌≡◌, refl, ℕ, true, List, [], ◌∷◌, �
 use mathlib.Core.Path.{ap}
 use Rattle.go_tree.specs.File.{Func as Function}
 use Rattle.go_tree.specs.Tree.{Stmts}
-use Rattle.go_tree.specs.GoTypes.Collect.{aliased_world, types_declared, typed_world, valued_world, collected, alias_entity, type_declared, good_entity, declared_by}
+use Rattle.go_tree.specs.GoTypes.Collect.{aliased_world, typed_world, collected}
 use Rattle.go_tree.specs.GoTypes.Entities.{World}
 use Rattle.go_tree.specs.GoTypes.Programs.{a_func, Headed, headed, Program}
 use Rattle.go_tree.specs.GoTypes.WellTyped.{well_typed}
@@ -12,9 +12,9 @@ use Rattle.go_translation.specs.Here.{Here}
 use Rattle.go_translation.specs.Packages.{Package, sources, paths_in}
 use Rattle.typed_in_place.specs.ImportRule.{SamePackage, imports_ok}
 use Rattle.typed_in_place.specs.ProgramReplaced.{InPlace}
-use Rattle.typed_in_place.specs.ProgramsAlike.{OneByOne, no_more, and_more, SameHeader, SameMethod, DeclareAlike, AliasesStand, TypesStand, ValuesStand, BodiesAlike}
-use Rattle.typed_in_place.proofs.Collected.{same_collected}
-use Rattle.typed_in_place.proofs.ProgramsReplaced.{aliases_stand_itself, types_stand_itself, values_stand_itself, stays_well_typed}
+use Rattle.typed_in_place.specs.ProgramsAlike.{OneByOne, no_more, and_more, DeclareAlike, AliasesStand, TypesStand, ValuesStand, BodiesAlike}
+use Rattle.typed_in_place.proofs.SamePrograms.{same_collected, declare_by}
+use Rattle.typed_in_place.proofs.ProgramsReplaced.{aliases_stand_itself, types_stand_itself, values_stand_itself, other_body_stands, stays_well_typed}
 use Rattle.meaning_in_place.specs.InPackages.{header_stays, function_stands, HeadersChange, no_headers, and_header, MembersChange, no_packages, and_package}
 
 appended : {A B : Type 0} {R : A → B → Type 0} {xs zs : List A} {ys vs : List B} → OneByOne R xs ys → OneByOne R zs vs → OneByOne R (xs ++ zs) (ys ++ vs)
@@ -52,20 +52,19 @@ module _ {S : Type 0} (Body : FuncName → List (List ℕ) → Here → Stmts S 
     abbrev after : Program S
     after = sources qs
 
+    aliases_stand : (v : World) → OneByOne (AliasesStand v) (headed before) (headed after)
+    aliases_stand v = all_headers (AliasesStand v) (λ h. aliases_stand_itself v h) (λ h f b. record { header = record { home = refl; file = refl; sound = refl; names = refl; method = refl }; alias = refl; defined = refl }) r
+
+    types_stand : (v : World) → OneByOne (TypesStand v) (headed before) (headed after)
+    types_stand v = all_headers (TypesStand v) (λ h. types_stand_itself v h) (λ h f b. record { good = λ ds. refl }) r
+
+    values_stand : (v : World) → OneByOne (ValuesStand v) (headed before) (headed after)
+    values_stand v = all_headers (ValuesStand v) (λ h. values_stand_itself v h) (λ h f b. other_body_stands v h f b) r
+
     declare_alike : DeclareAlike before after
     declare_alike =
-        record {
-          numbers = same_numbers r e;
-          headers = all_headers SameHeader (λ h. record { home = refl; file = refl; sound = refl; names = refl; method = refl }) (λ h f b. record { home = refl; file = refl; sound = refl; names = refl; method = refl }) r;
-          aliases_before = all_headers (λ h k. alias_entity (aliased_world before (headed before)) h ≡ alias_entity (aliased_world before (headed before)) k) (λ h. refl) (λ h f b. refl) r;
-          aliases_after = all_headers (λ h k. alias_entity (aliased_world after (headed after)) h ≡ alias_entity (aliased_world after (headed after)) k) (λ h. refl) (λ h f b. refl) r;
-          defined = all_headers (λ h k. type_declared (aliased_world before (headed before)) h ≡ type_declared (aliased_world before (headed before)) k) (λ h. refl) (λ h f b. refl) r;
-          good_before = all_headers (λ h k. good_entity (types_declared before (headed before)) (typed_world before (headed before)) h ≡ good_entity (types_declared before (headed before)) (typed_world before (headed before)) k) (λ h. refl) (λ h f b. refl) r;
-          good_after = all_headers (λ h k. good_entity (types_declared after (headed after)) (typed_world after (headed after)) h ≡ good_entity (types_declared after (headed after)) (typed_world after (headed after)) k) (λ h. refl) (λ h f b. refl) r;
-          declared_before = all_headers (λ h k. declared_by (types_declared before (headed before)) (valued_world before (headed before)) h ≡ declared_by (types_declared before (headed before)) (valued_world before (headed before)) k) (λ h. refl) (λ h f b. refl) r;
-          declared_after = all_headers (λ h k. declared_by (types_declared after (headed after)) (valued_world after (headed after)) h ≡ declared_by (types_declared after (headed after)) (valued_world after (headed after)) k) (λ h. refl) (λ h f b. refl) r;
-          methods = all_headers (SameMethod (valued_world before (headed before))) (λ h. record { method = refl; on = refl }) (λ h f b. record { method = refl; on = refl }) r;
-        }
+        declare_by before after (same_numbers r e) (aliases_stand (aliased_world before (headed before))) (aliases_stand (aliased_world after (headed after))) (types_stand (typed_world before (headed before)))
+        (types_stand (typed_world after (headed after))) (λ v y. values_stand v) (λ v y. values_stand v)
 
     pub declared_same : collected before ≡ collected after
     declared_same = same_collected before after declare_alike
@@ -73,12 +72,12 @@ module _ {S : Type 0} (Body : FuncName → List (List ℕ) → Here → Stmts S 
     in_place : OneByOne SamePackage before after → BodiesAlike (collected before) (headed before) (headed after) → InPlace before after
     in_place packages bodies =
         record {
-          aliases_before = all_headers (AliasesStand (aliased_world before (headed before))) (λ h. aliases_stand_itself (aliased_world before (headed before)) h) (λ h f b. record { header = record { home = refl; file = refl; sound = refl; names = refl; method = refl }; alias = refl; defined = refl }) r;
-          aliases_after = all_headers (AliasesStand (aliased_world after (headed after))) (λ h. aliases_stand_itself (aliased_world after (headed after)) h) (λ h f b. record { header = record { home = refl; file = refl; sound = refl; names = refl; method = refl }; alias = refl; defined = refl }) r;
-          types_before = all_headers (TypesStand (typed_world before (headed before))) (λ h. types_stand_itself (typed_world before (headed before)) h) (λ h f b. record { good = λ ds. refl }) r;
-          types_after = all_headers (TypesStand (typed_world after (headed after))) (λ h. types_stand_itself (typed_world after (headed after)) h) (λ h f b. record { good = λ ds. refl }) r;
-          before = λ w y. all_headers (ValuesStand w) (λ h. values_stand_itself w h) (λ h f b. record { declared = λ ds. refl; method = record { method = refl; on = refl } }) r;
-          after = λ w y. all_headers (ValuesStand w) (λ h. values_stand_itself w h) (λ h f b. record { declared = λ ds. refl; method = record { method = refl; on = refl } }) r;
+          aliases_before = aliases_stand (aliased_world before (headed before));
+          aliases_after = aliases_stand (aliased_world after (headed after));
+          types_before = types_stand (typed_world before (headed before));
+          types_after = types_stand (typed_world after (headed after));
+          before = λ v y. values_stand v;
+          after = λ v y. values_stand v;
           bodies = bodies;
           packages = packages;
         }

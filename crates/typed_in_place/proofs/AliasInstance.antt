@@ -14,10 +14,10 @@ use Rattle.go_tree.specs.GoTypes.WellTyped.{well_typed}
 use Rattle.typed_in_place.specs.SameFacts.{SameType, SameOperand}
 use Rattle.typed_in_place.specs.Replaced.{same_type, in_slice_type, in_struct_type, no_more_fields, in_field, some_type, no_params, in_param, no_name, one_name, same_operand, in_call, no_more_exprs, in_exprs, no_more_stmts, in_stmts, in_return}
 use Rattle.typed_in_place.specs.Leaves.{plain_name, qualified_name, type_by_name}
-use Rattle.typed_in_place.specs.HeaderReplaced.{types_of_variables, types_of_spec, types_of_func, in_variables, in_type_spec, in_func, no_receiver, HeaderReplaced, BodyIn, in_body, no_body_of_variables, no_body_of_a_type}
+use Rattle.typed_in_place.specs.HeaderReplaced.{no_more_bodies, bodies_alike, types_of_variables, types_of_spec, types_of_func, in_variables, in_type_spec, in_func, no_receiver, HeaderReplaced, BodyIn, in_body, no_body_of_variables, no_body_of_a_type}
 use Rattle.typed_in_place.specs.ProgramsAlike.{OneByOne, no_more, and_more, AliasesStand, TypesStand, ValuesStand, BodiesAlike}
 use Rattle.typed_in_place.specs.ImportRule.{imports_ok}
-use Rattle.typed_in_place.specs.ProgramReplaced.{InPlace, ValuesEnd, after_values, at_last}
+use Rattle.typed_in_place.specs.ProgramReplaced.{InPlace, ValuesEnd, after_names, after_values, at_last}
 use Rattle.go_tree.proofs.GoTypes.Trees.{n, es, ty, qty, slc, st, par, sig, v, sel, app, ret, vars_at, type_at, func_at, file, pack}
 use Rattle.typed_in_place.proofs.Leaves.{exprs_themselves, never}
 use Rattle.typed_in_place.proofs.TypeLeaves.{same_type_name, same_type_operand}
@@ -87,14 +87,16 @@ replaced : (w : World) → SameType [] (top w) alias_t lib_t → OneByOne (Heade
 replaced w l =
     and_more (header_itself w _) (and_more (header_itself w _)
     (and_more (record { home = refl; in_main = refl; file = refl; imports = refl; sound = refl; tree = in_type_spec refl refl (in_struct_type (in_field refl (in_slice_type (same_type l)) no_more_fields)) })
-    (and_more (record { home = refl; in_main = refl; file = refl; imports = refl; sound = refl; tree = in_variables refl (some_type (same_type l)) no_more_exprs refl })
+    (and_more (record { home = refl; in_main = refl; file = refl; imports = refl; sound = refl; tree = in_variables refl (some_type (same_type l)) no_more_exprs no_more_bodies })
     (and_more (record { home = refl; in_main = refl; file = refl; imports = refl; sound = refl; tree = in_func no_receiver refl (record { params = in_param (one_name refl) (same_type l) no_params; results = in_param no_name (same_type l) no_params }) }) no_more))))
 
 values_before : (w : World) → ValuesEnd before w → OneByOne (ValuesStand w) (headed before) (headed after)
+values_before _ after_names = one_by_one (replaced_values_stand _) (replaced _ (leaf _ refl refl))
 values_before _ after_values = one_by_one (replaced_values_stand _) (replaced _ (leaf _ refl refl))
 values_before _ at_last = one_by_one (replaced_values_stand _) (replaced _ (leaf _ refl refl))
 
 values_after : (w : World) → ValuesEnd after w → OneByOne (ValuesStand w) (headed before) (headed after)
+values_after _ after_names = one_by_one (replaced_values_stand _) (replaced _ (leaf _ refl refl))
 values_after _ after_values = one_by_one (replaced_values_stand _) (replaced _ (leaf _ refl refl))
 values_after _ at_last = one_by_one (replaced_values_stand _) (replaced _ (leaf _ refl refl))
 

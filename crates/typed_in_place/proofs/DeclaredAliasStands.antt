@@ -16,8 +16,8 @@ use Rattle.go_tree.specs.GoTypes.Programs.{Headed, Program}
 use Rattle.go_tree.specs.GoTypes.Collect.{env_of}
 use Rattle.typed_in_place.specs.SameFacts.{SameType, SameOperand}
 use Rattle.typed_in_place.specs.Leaves.{Names, plain_name, qualified_name, NamesType, type_by_name, type_by_text, type_by_star}
-use Rattle.typed_in_place.specs.Aliases.{SameText, same_name, same_pointer, same_slice, same_map, same_struct, SameFields, same_end, same_field, AsExpr, by_name, by_qualified, by_star, by_text, DeclaresAlias, TypesEnd, after_types, after_values, at_last}
-use Rattle.typed_in_place.proofs.DeclaredAliases.{as_declared, alias_means_typed, alias_means_valued, alias_use_means}
+use Rattle.typed_in_place.specs.Aliases.{SameText, same_name, same_pointer, same_slice, same_map, same_struct, SameFields, same_end, same_field, AsExpr, by_name, by_qualified, by_star, by_text, DeclaresAlias, TypesEnd, after_types, after_names, after_values, at_last}
+use Rattle.typed_in_place.proofs.DeclaredAliases.{as_declared, alias_means_typed, alias_means_named, alias_means_valued, alias_use_means}
 use Rattle.typed_in_place.proofs.MethodsAside.{alias_means_last}
 use Rattle.typed_in_place.proofs.TypeLeaves.{NoneAround, none_around_alike, same_type_operand}
 
@@ -90,6 +90,7 @@ module _ {S : Type 0} (ps : Program S) (hs : List (Headed S)) (h : Headed S) (t 
   -- the name of the alias in its package block
   alias_at_end : {w : World} → TypesEnd ps hs w → means (block_of w.blocks h.home) t.name.name ≡ Some (as_declared (type_meant (env_of w h None) t.of))
   alias_at_end after_types = alias_means_typed ps hs h t d.header d.alias d.sound d.named d.home d.first d.in_program
+  alias_at_end after_names = alias_means_named ps hs h t d.header d.alias d.sound d.named d.home d.first d.in_program
   alias_at_end after_values = alias_means_valued ps hs h t d.header d.alias d.sound d.named d.home d.first d.in_program
   alias_at_end at_last = alias_means_last ps hs h t d.header d.alias d.sound d.named d.home d.first d.in_program
 

@@ -12,11 +12,13 @@ use Rattle.go_tree.specs.GoTypes.Entities.{Entity, refused, type_name, type_of_n
 use Rattle.go_tree.specs.GoTypes.TypeNames.{resolved, named_meaning, type_meant}
 use Rattle.go_tree.specs.GoTypes.Statements.{bind_each}
 use Rattle.go_tree.specs.GoTypes.Programs.{a_type_spec, Headed, header_names, Program}
-use Rattle.go_tree.specs.GoTypes.Collect.{env_of, DeclaredTypes, is_finite, type_entity, alias_entity, good_entity, declared_by, entity_binds, binds_or_refused, aliased_world, types_declared, typed_world, valued_world}
+use Rattle.go_tree.specs.GoTypes.Collect.{env_of, DeclaredTypes, is_finite, type_entity, alias_entity, good_entity, declared_by, entity_binds, binds_or_refused, value_round, aliased_world, types_declared, typed_world, named_world, valued_world}
+use Rattle.go_tree.specs.GoTypes.SingleNames.{by_names}
 use Rattle.typed_in_place.specs.Declared.{FirstWith, HasNumber}
 use Rattle.typed_in_place.proofs.Headers.{alias_in, good_in, declared_in, alias_phase, type_phase, value_phase}
 use Rattle.typed_in_place.proofs.HeadersReplaced.{good_by_meant}
-use Rattle.typed_in_place.proofs.Collected.{aliased_settled, typed_settled, valued_settled}
+use Rattle.typed_in_place.proofs.Collected.{aliased_settled, typed_settled, named_settled, valued_settled}
+use Rattle.typed_in_place.proofs.NameRounds.FirstNames.{first_by_names, spec_itself}
 use Rattle.typed_in_place.proofs.SettledNames.{first_means, block_of_package, binding_means}
 
 -- the meaning of a name whose declaration gives this type, or none
@@ -71,21 +73,32 @@ module _ {S : Type 0} (ps : Program S) (hs : List (Headed S)) where
       ∙ ap (λ m. means m n) (block_of_package f hs h.home number)
       ∙ (first_means f (λ k. (type_phase ds w).fits w.blocks k) n h hs first (λ ms. Some (as_declared (type_meant (env_of w h None) t.of))) one e).1
 
-  -- and where all is found
+-- in a world of values that a further round leaves as it is
+alias_means_settled : {S : Type 0} (ps : Program S) (hs : List (Headed S)) (ds : DeclaredTypes) (w : World) → value_round ps hs ds w ≡ w → (h : Headed S) (t : TypeSpec S) → h.header ≡ a_type_spec t → t.alias ≡ true → h.sound ≡ true → is_blank t.name.name ≡ false → nat_eq h.home h.home ≡ true → FirstWith t.name.name h hs → HasNumber h.home ps
+    → means (block_of w.blocks h.home) t.name.name ≡ Some (as_declared (type_meant (env_of w h None) t.of))
+alias_means_settled {S = S} ps hs ds w settled h t q alias sound name e first number =
+    let n : List ℕ = t.name.name in
+    let f : (Headed S → Option Binds) = declared_by ds w in
+    let one : ((ms : Environment Entity) → means (binds_or_refused h (f h) ++ ms) n ≡ Some (as_declared (type_meant (env_of w h None) t.of))) =
+    (λ ms. ap₂ (λ b y. means (otherwise (only_if b (declared_in w h (good_in ds w h y) y)) (bind_each refused (header_names y)) ++ ms) n) sound q
+    ∙ ap (λ g. means (otherwise (only_if true (given g (λ e. Some (binding n e)))) (bind_each refused (n ∷ [])) ++ ms) n) (good_alias ds w h t alias)
+    ∙ alias_value n (type_meant (env_of w h None) t.of) ms name) in
+    ap (λ bs. means (block_of bs h.home) n) (sym (ap (λ w. w.blocks) settled))
+    ∙ ap (λ m. means m n) (block_of_package f hs h.home number)
+    ∙ (first_means f (λ k. (value_phase ds w).fits w.blocks k) n h hs first (λ ms. Some (as_declared (type_meant (env_of w h None) t.of))) one e).1
+
+module _ {S : Type 0} (ps : Program S) (hs : List (Headed S)) where
+  -- where each name is found by itself
+  pub alias_means_named : (h : Headed S) (t : TypeSpec S) → h.header ≡ a_type_spec t → t.alias ≡ true → h.sound ≡ true → is_blank t.name.name ≡ false → nat_eq h.home h.home ≡ true → FirstWith t.name.name h hs → HasNumber h.home ps
+      → means (block_of (named_world ps hs).blocks h.home) t.name.name ≡ Some (as_declared (type_meant (env_of (named_world ps hs) h None) t.of))
+  alias_means_named h t q alias sound name e first number =
+      alias_means_settled ps (by_names hs) (types_declared ps hs) (named_world ps hs) (named_settled ps hs) h t q alias sound name e (first_by_names t.name.name h hs (spec_itself h t q) first) number
+
+  -- and where whole headers are refused
   pub alias_means_valued : (h : Headed S) (t : TypeSpec S) → h.header ≡ a_type_spec t → t.alias ≡ true → h.sound ≡ true → is_blank t.name.name ≡ false → nat_eq h.home h.home ≡ true → FirstWith t.name.name h hs → HasNumber h.home ps
       → means (block_of (valued_world ps hs).blocks h.home) t.name.name ≡ Some (as_declared (type_meant (env_of (valued_world ps hs) h None) t.of))
   alias_means_valued h t q alias sound name e first number =
-      let w : World = valued_world ps hs in
-      let ds : DeclaredTypes = types_declared ps hs in
-      let n : List ℕ = t.name.name in
-      let f : (Headed S → Option Binds) = declared_by ds w in
-      let one : ((ms : Environment Entity) → means (binds_or_refused h (f h) ++ ms) n ≡ Some (as_declared (type_meant (env_of w h None) t.of))) =
-      (λ ms. ap₂ (λ b y. means (otherwise (only_if b (declared_in w h (good_in ds w h y) y)) (bind_each refused (header_names y)) ++ ms) n) sound q
-      ∙ ap (λ g. means (otherwise (only_if true (given g (λ e. Some (binding n e)))) (bind_each refused (n ∷ [])) ++ ms) n) (good_alias ds w h t alias)
-      ∙ alias_value n (type_meant (env_of w h None) t.of) ms name) in
-      ap (λ bs. means (block_of bs h.home) n) (sym (ap (λ w. w.blocks) (valued_settled ps hs)))
-      ∙ ap (λ m. means m n) (block_of_package f hs h.home number)
-      ∙ (first_means f (λ k. (value_phase ds w).fits w.blocks k) n h hs first (λ ms. Some (as_declared (type_meant (env_of w h None) t.of))) one e).1
+      alias_means_settled ps hs (types_declared ps hs) (valued_world ps hs) (valued_settled ps hs) h t q alias sound name e first number
 
 -- ---- a use of an alias means the type that the alias declares
 
@@ -98,7 +111,7 @@ meant_once ds (Some u) = go (has_keys ds u) refl
     go true e = ap (λ b. only_if b (Some u)) e
     go false e = refl
 
-declared_type : (r : Option GoType) → type_of_name (Some (as_declared r)) ≡ r
+pub declared_type : (r : Option GoType) → type_of_name (Some (as_declared r)) ≡ r
 declared_type None = refl
 declared_type (Some u) = refl
 

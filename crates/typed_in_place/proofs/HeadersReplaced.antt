@@ -14,12 +14,13 @@ use Rattle.go_tree.specs.GoTypes.Operands.{all_typed}
 use Rattle.go_tree.specs.GoTypes.Statements.{bind_all, bind_each, body_binds, body_ctx, constant_entity, variable_entity}
 use Rattle.go_tree.specs.GoTypes.Typing.{all_parts, stmts}
 use Rattle.go_tree.specs.GoTypes.Initial.{all_initial}
+use Rattle.go_tree.specs.GoTypes.Bodiless.{all_bodiless}
 use Rattle.go_tree.specs.GoTypes.Programs.{Header, Headed, header_names}
 use Rattle.go_tree.specs.GoTypes.Collect.{type_declared, file_env, env_of, DeclaredTypes, is_finite, type_entity, spec_type, alias_entity, good_entity, function_declared, declared_by, receiver_type, receiver_binds, method_declared}
 use Rattle.go_tree.specs.GoTypes.WellTyped.{is_method, receiver_of, body_env, function_ok, body_ok}
 use Rattle.typed_in_place.specs.Replaced.{TypeReplaced, TypeOptionReplaced, SameName, no_name, one_name, SigReplaced, ExprsReplaced, StmtsReplaced}
 use Rattle.typed_in_place.specs.ProgramsAlike.{SameHeader, SameMethod}
-use Rattle.typed_in_place.specs.HeaderReplaced.{SameReceiver, no_receiver, one_receiver, SpecsIn, types_of_constants, types_of_variables, types_of_spec, types_of_func, AliasesReplaced, TypesReplaced, HeaderIn, in_constants, in_variables, in_type_spec, in_func, HeaderReplaced, BodyIn, in_body}
+use Rattle.typed_in_place.specs.HeaderReplaced.{SameReceiver, no_receiver, one_receiver, SpecsIn, types_of_constants, types_of_variables, types_of_spec, types_of_func, AliasesReplaced, TypesReplaced, BodilessAlike, no_more_bodies, bodies_alike, HeaderIn, in_constants, in_variables, in_type_spec, in_func, HeaderReplaced, BodyIn, in_body}
 use Rattle.typed_in_place.proofs.TypingReplaced.{type_meant-in, written_type-in, func_type-in, body_binds-in, body_ctx-in, no_values-in, all_parts-in, stmts-in, labels_in-in}
 use Rattle.typed_in_place.proofs.InitialReplaced.{all_initial-in}
 use Rattle.typed_in_place.proofs.Headers.{type_in, method_in, on_in, body_in, alias_in, good_in, declared_in}
@@ -109,6 +110,11 @@ module _ {S T : Type 0} (w : World) (h : Headed S) (k : Headed T) (r : TypesRepl
   pub good-in : (ds : DeclaredTypes) → good_entity ds w h ≡ good_entity ds w k
   good-in ds = good_go ds r.specs
 
+-- function literals stand in both lists, or in none
+pub all_bodiless_alike : {S T : Type 0} {es : Exprs S} {fs : Exprs T} → BodilessAlike es fs → all_bodiless es ≡ all_bodiless fs
+all_bodiless_alike no_more_bodies = refl
+all_bodiless_alike (bodies_alike e d) = λ x. e x && all_bodiless_alike d x
+
 -- what is replaced in a declaration is replaced in its types
 pub types-in : {S T : Type 0} {at : Option ℕ → Env} {x : Header S} {y : Header T} → HeaderIn at x y → SpecsIn (TypeReplaced [] (at None)) x y
 types-in (in_constants n t e b) = types_of_constants n
@@ -139,11 +145,11 @@ module _ {S T : Type 0} (w : World) (h : Headed S) (k : Headed T) (r : HeaderRep
   func_go f g (one_receiver m p o) n s = refl
 
   declared_go : {x : Header S} {y : Header T} (p q : Option Entity) → p ≡ q → HeaderIn (env_of w h) x y → declared_in w h p x ≡ declared_in w k q y
-  declared_go p q e (in_constants {i = i} n t es b) = λ x. only_if (b x) (both (written_there (Some i) t x) (parts_there (Some i) es x) (λ t os. given (all_typed os) (bind_all (constant_entity w.defined t) (n x))))
+  declared_go p q e (in_constants {i = i} n t es b) = λ x. only_if (all_bodiless_alike b x) (both (written_there (Some i) t x) (parts_there (Some i) es x) (λ t os. given (all_typed os) (bind_all (constant_entity w.defined t) (n x))))
   declared_go p q e (in_variables n t es b) = λ x. given (written_there None t x) (λ t.
       if no_values-in es x
       then given t (λ t. Some (bind_each (variable t) (n x)))
-      else only_if (b x && initial_there es x) (given (parts_there None es x) (λ os. given (all_typed os) (bind_all (variable_entity w.defined t) (n x)))))
+      else only_if (all_bodiless_alike b x && initial_there es x) (given (parts_there None es x) (λ os. given (all_typed os) (bind_all (variable_entity w.defined t) (n x)))))
   declared_go p q e (in_type_spec n a d) = λ x. given (e x) (λ e. Some (binding (n x) e))
   declared_go p q e (in_func {f = f} {g = g} m n s) = func_go f g m n s
 

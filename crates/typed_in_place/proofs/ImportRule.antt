@@ -15,7 +15,7 @@ use Rattle.typed_in_place.proofs.WellTypedAlike.{none_refused, none_one_of, firs
 use Rattle.std.proofs.lemmas.Slice.Eq.{bytes_eq-Decides}
 use Rattle.typed_in_place.proofs.SameUses.{Within, tail_within, both_within}
 use Rattle.typed_in_place.proofs.Rising.{and_first, and_second, both_true}
-use Rattle.typed_in_place.proofs.Collected.{same_types_declared, same_collected}
+use Rattle.typed_in_place.proofs.SamePrograms.{same_types_declared, same_collected}
 
 -- ---- tests in another order
 

@@ -17,10 +17,10 @@ use Rattle.typed_in_place.specs.Replaced.{ExprReplaced, same_operand, in_binary,
 use Rattle.typed_in_place.specs.Leaves.{plain_name, qualified_name}
 use Rattle.typed_in_place.specs.Declared.{a_constant}
 use Rattle.typed_in_place.specs.SameFacts.{SameOperand}
-use Rattle.typed_in_place.specs.HeaderReplaced.{types_of_constants, types_of_func, in_constants, in_func, no_receiver, HeaderReplaced, BodyIn, in_body, no_body_of_constants}
+use Rattle.typed_in_place.specs.HeaderReplaced.{no_more_bodies, bodies_alike, types_of_constants, types_of_func, in_constants, in_func, no_receiver, HeaderReplaced, BodyIn, in_body, no_body_of_constants}
 use Rattle.typed_in_place.specs.ProgramsAlike.{AliasesStand, OneByOne, no_more, and_more, ValuesStand, TypesStand, BodiesAlike}
 use Rattle.typed_in_place.specs.ImportRule.{imports_ok}
-use Rattle.typed_in_place.specs.ProgramReplaced.{InPlace, ValuesEnd, after_values, at_last}
+use Rattle.typed_in_place.specs.ProgramReplaced.{InPlace, ValuesEnd, after_names, after_values, at_last}
 use Rattle.go_tree.proofs.GoTypes.Trees.{ss, ty, par, sig, v, int, sel, bin, def, ret, consts_at, func_at, file, pack}
 use Rattle.typed_in_place.proofs.Leaves.{operand_itself, statement_itself, stmts_themselves, same_constant_name}
 use Rattle.typed_in_place.proofs.ProgramsReplaced.{aliases_stand_itself, replaced_aliases_stand, one_by_one, replaced_bodies_alike, header_itself, types_stand_itself, replaced_types_stand, replaced_values_stand, params_themselves, stays_well_typed}
@@ -79,17 +79,19 @@ file_place w i = file_env w 0 ((codes "lib", package_name 1) ∷ []) i
 replaced : (w : World) → SameOperand [] (file_place w (Some 0)) (v (codes "C")) lib_d → OneByOne (HeaderReplaced w) (headed before) (headed after)
 replaced w l =
     and_more (header_itself w _) (and_more (header_itself w _)
-    (and_more (record { home = refl; in_main = refl; file = refl; imports = refl; sound = refl; tree = in_constants refl no_type (in_exprs (sum_in (file_place w (Some 0)) l) no_more_exprs) refl })
+    (and_more (record { home = refl; in_main = refl; file = refl; imports = refl; sound = refl; tree = in_constants refl no_type (in_exprs (sum_in (file_place w (Some 0)) l) no_more_exprs) (bodies_alike refl no_more_bodies) })
     (and_more (record { home = refl; in_main = refl; file = refl; imports = refl; sound = refl; tree = in_func no_receiver refl (record { params = no_params; results = params_themselves _ _ (par None (ty (codes "int")) ∷ []) }) }) no_more)))
 
 values : (w : World) → SameOperand [] (file_place w (Some 0)) (v (codes "C")) lib_d → headers_in w
 values w l = one_by_one (replaced_values_stand w) (replaced w l)
 
 values_before : (w : World) → ValuesEnd before w → headers_in w
+values_before _ after_names = values _ (leaf [] _ refl refl refl refl refl)
 values_before _ after_values = values _ (leaf [] _ refl refl refl refl refl)
 values_before _ at_last = values _ (leaf [] _ refl refl refl refl refl)
 
 values_after : (w : World) → ValuesEnd after w → headers_in w
+values_after _ after_names = values _ (leaf [] _ refl refl refl refl refl)
 values_after _ after_values = values _ (leaf [] _ refl refl refl refl refl)
 values_after _ at_last = values _ (leaf [] _ refl refl refl refl refl)
 

@@ -7,11 +7,14 @@ pub mod Blocks
 pub mod Phases
 pub mod Headers
 pub mod Collected
+pub mod OneByOne
+pub mod SamePrograms
 pub mod Extremes
 pub mod InitialReplaced
 pub mod HeadersReplaced
 pub mod WellTypedAlike
 pub mod SettledNames
+pub mod RoundsEnded
 pub mod ImportRule
 pub mod UsesKept
 pub mod ImportsMoved
@@ -30,4 +33,5 @@ mod Instance
 mod Counterexamples
 mod LeafInstances
 mod AliasInstance
+pub mod NameRounds
 pub mod SameWorlds

@@ -8,12 +8,13 @@ use Rattle.go_tree.specs.ScopeNames.Means.{means, is_blank}
 use Rattle.go_tree.specs.GoTypes.Answers.{given, both, only_if}
 use Rattle.go_tree.specs.GoTypes.Types.{GoType, basic, named_type, pointer_to, slice_of, map_of, struct_of, tuple_of, untyped, untyped_nil, GoFields, no_go_fields, go_field}
 use Rattle.go_tree.specs.GoTypes.Defined.{Defined, find_defined, under_of, under, comparable_by, comparable_within, comparable, has_keys, fields_have_keys}
-use Rattle.go_tree.specs.GoTypes.Entities.{Env, block_of}
+use Rattle.go_tree.specs.GoTypes.Entities.{type_of_name, World, Env, block_of}
 use Rattle.go_tree.specs.GoTypes.TypeNames.{named_meaning, resolved, resolved_fields, field_before, type_meant}
 use Rattle.go_tree.specs.GoTypes.Programs.{a_type_spec, Headed, Program}
-use Rattle.go_tree.specs.GoTypes.Collect.{env_of, methods_on, methods_from, with_methods, valued_world, world_of}
-use Rattle.typed_in_place.specs.Declared.{FirstWith, HasNumber}
-use Rattle.typed_in_place.proofs.DeclaredAliases.{as_declared, alias_means_valued}
+use Rattle.go_tree.specs.GoTypes.Collect.{env_of, methods_on, methods_from, with_methods, named_world, valued_world, world_of}
+use Rattle.typed_in_place.specs.Declared.{FirstWith, HasNumber, RoundsEnd, after_names, after_values, at_last}
+use Rattle.typed_in_place.specs.Aliases.{DeclaresAlias}
+use Rattle.typed_in_place.proofs.DeclaredAliases.{as_declared, declared_type, alias_means_named, alias_means_valued}
 
 module _ (ms : List DeclaredMethod) where
   find_methods : (ds : List Defined) (p : ℕ) (n : List ℕ) (t : GoType) → under_of t (find_defined (with_methods ms ds) p n) ≡ under_of t (find_defined ds p n)
@@ -93,3 +94,9 @@ pub alias_means_last : {S : Type 0} (ps : Program S) (hs : List (Headed S)) (h :
     → means (block_of (world_of hs (valued_world ps hs)).blocks h.home) t.name.name ≡ Some (as_declared (type_meant (env_of (world_of hs (valued_world ps hs)) h None) t.of))
 alias_means_last ps hs h t q alias sound name e first number =
     alias_means_valued ps hs h t q alias sound name e first number ∙ ap (λ r. Some (as_declared r)) (type_meant_methods (methods_from (valued_world ps hs) [] hs) (env_of (valued_world ps hs) h None) t.of)
+
+-- at the end of the rounds by names, of the rounds of headers, and at last
+pub alias_is_declared : {S : Type 0} (ps : Program S) (hs : List (Headed S)) (h : Headed S) (t : TypeSpec S) (w : World) → RoundsEnd ps hs w → DeclaresAlias ps hs h t → type_of_name (means (block_of w.blocks h.home) t.name.name) ≡ type_meant (env_of w h None) t.of
+alias_is_declared ps hs h t _ after_names d = ap type_of_name (alias_means_named ps hs h t d.header d.alias d.sound d.named d.home d.first d.in_program) ∙ declared_type (type_meant (env_of (named_world ps hs) h None) t.of)
+alias_is_declared ps hs h t _ after_values d = ap type_of_name (alias_means_valued ps hs h t d.header d.alias d.sound d.named d.home d.first d.in_program) ∙ declared_type (type_meant (env_of (valued_world ps hs) h None) t.of)
+alias_is_declared ps hs h t _ at_last d = ap type_of_name (alias_means_last ps hs h t d.header d.alias d.sound d.named d.home d.first d.in_program) ∙ declared_type (type_meant (env_of (world_of hs (valued_world ps hs)) h None) t.of)

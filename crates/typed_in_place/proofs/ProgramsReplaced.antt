@@ -3,39 +3,29 @@ use Rattle.std.specs.Prelude.{◌≡◌, refl, ℕ, suc, Bool, true, false, ◌&
 use Rattle.std.specs.List.{list_all}
 use mathlib.Core.Path.{ap, ap₂, sym, ◌∙◌, subst}
 use Rattle.go_tree.specs.ScopeNames.Means.{Environment, is_blank}
-use Rattle.go_tree.specs.Tree.{NameAt, Param, TypeExpr}
-use Rattle.go_tree.specs.File.{Receiver}
+use Rattle.go_tree.specs.Tree.{NameAt, Param, TypeExpr, Stmts}
+use Rattle.go_tree.specs.File.{Receiver, Func}
 use Rattle.go_tree.specs.GoTypes.Answers.{one_of, is_among}
 use Rattle.go_tree.specs.GoTypes.Entities.{Entity, World, Env}
 use Rattle.go_tree.specs.GoTypes.Programs.{Header, constants, variables, a_type_spec, a_func, Headed, Import, SourceFile, SourcePackage, Program, headed, headed_package, block_names, import_sound}
-use Rattle.go_tree.specs.GoTypes.Collect.{env_of, types_declared, valued_world, collected}
+use Rattle.go_tree.specs.GoTypes.Collect.{env_of, types_declared, collected}
 use Rattle.go_tree.specs.GoTypes.WellTyped.{refused_unless, header_uses, is_used_in, first_import, well_typed, body_ok}
 use Rattle.typed_in_place.specs.Replaced.{same_type, TypeOptionReplaced, no_type, some_type, SameName, no_name, one_name, ParamsReplaced, no_params, in_param}
-use Rattle.typed_in_place.specs.ProgramsAlike.{OneByOne, no_more, and_more, SameHeader, AliasesStand, TypesStand, ValuesStand, BodiesAlike, DeclareAlike}
+use Rattle.go_tree.specs.GoTypes.SingleNames.{singly}
+use Rattle.typed_in_place.specs.ProgramsAlike.{OneByOne, no_more, and_more, SameHeader, AliasesStand, TypesStand, NameStands, ValuesStand, BodiesAlike, DeclareAlike}
 use Rattle.typed_in_place.specs.HeaderReplaced.{SameReceiver, no_receiver, one_receiver, HeaderIn, in_constants, in_variables, in_type_spec, in_func, AliasesReplaced, TypesReplaced, HeaderReplaced, BodyIn, in_body, no_body_of_constants, no_body_of_variables, no_body_of_a_type}
 use Rattle.typed_in_place.specs.ImportsMoved.{under_imports, Moved}
 use Rattle.typed_in_place.specs.ImportRule.{imports_ok, package_imports, files_import, declarations_ok, SamePackage, DeclarationsAlike}
-use Rattle.typed_in_place.specs.ProgramReplaced.{after_values, at_last, InPlace, All, all_of_none, all_and, Apart, InPlaceBeside}
+use Rattle.typed_in_place.specs.ProgramReplaced.{at_last, InPlace, All, all_of_none, all_and, Apart, InPlaceBeside}
+pub use Rattle.typed_in_place.proofs.OneByOne.{one_by_one, each_one, append_one}
+use Rattle.typed_in_place.proofs.OneByOne.{then_each}
 use Rattle.typed_in_place.proofs.Rising.{and_second, both_true}
+use Rattle.typed_in_place.proofs.NameRounds.SinglesStand.{replaced_singly, moved_singly, bodies_themselves}
 use Rattle.typed_in_place.proofs.Leaves.{type_itself, exprs_themselves, stmts_themselves}
 use Rattle.typed_in_place.proofs.HeadersReplaced.{alias-in, good-in, type_declared-in, declared-in, method-in, header-in, body-in}
 use Rattle.typed_in_place.proofs.ImportsMoved.{alias-moved, good-moved, type_declared-moved, declared-moved, method-moved, header-moved}
-use Rattle.typed_in_place.proofs.Collected.{same_collected}
+use Rattle.typed_in_place.proofs.SamePrograms.{same_collected, declare_by}
 use Rattle.typed_in_place.proofs.ImportRule.{well_typed_apart, declarations_the_same, well_typed_with_imports}
-
--- ---- one by one
-
-pub one_by_one : {A B : Type 0} {R Q : A → B → Type 0} {xs : List A} {ys : List B} → ((a : A) (b : B) → R a b → Q a b) → OneByOne R xs ys → OneByOne Q xs ys
-one_by_one f no_more = no_more
-one_by_one f (and_more r rs) = and_more (f _ _ r) (one_by_one f rs)
-
-pub each_one : {A : Type 0} {R : A → A → Type 0} → ((a : A) → R a a) → (xs : List A) → OneByOne R xs xs
-each_one f [] = no_more
-each_one f (x ∷ xs) = and_more (f x) (each_one f xs)
-
-pub append_one : {A B : Type 0} {R : A → B → Type 0} {xs us : List A} {ys vs : List B} → OneByOne R xs ys → OneByOne R us vs → OneByOne R (xs ++ us) (ys ++ vs)
-append_one no_more q = q
-append_one (and_more r rs) q = and_more r (append_one rs q)
 
 -- ---- headers that stand for one another
 
@@ -46,7 +36,7 @@ pub replaced_types_stand : {S T : Type 0} (w : World) (h : Headed S) (k : Headed
 replaced_types_stand w h k r = record { good = good-in w h k r }
 
 pub replaced_values_stand : {S T : Type 0} (w : World) (h : Headed S) (k : Headed T) → HeaderReplaced w h k → ValuesStand w h k
-replaced_values_stand w h k r = record { declared = declared-in w h k r; method = method-in w h k r }
+replaced_values_stand w h k r = record { declared = declared-in w h k r; method = method-in w h k r; singles = replaced_singly w h k r }
 
 pub moved_aliases_stand : {S : Type 0} (w : World) (is : Environment Entity) (h : Headed S) → Moved w is h → AliasesStand w h (under_imports is h)
 moved_aliases_stand w is h r = record { header = header-moved w is h r; alias = alias-moved w is h r; defined = type_declared-moved w is h r }
@@ -55,7 +45,14 @@ pub moved_types_stand : {S : Type 0} (w : World) (is : Environment Entity) (h : 
 moved_types_stand w is h r = record { good = good-moved w is h r }
 
 pub moved_values_stand : {S : Type 0} (w : World) (is : Environment Entity) (h : Headed S) → Moved w is h → ValuesStand w h (under_imports is h)
-moved_values_stand w is h r = record { declared = declared-moved w is h r; method = method-moved w is h r }
+moved_values_stand w is h r = record { declared = declared-moved w is h r; method = method-moved w is h r; singles = moved_singly w is h r }
+
+module _ {A B C : Type 0} {w : World} {h : Headed A} {k : Headed B} {l : Headed C} where
+  name_stands_then : NameStands w h k → NameStands w k l → NameStands w h l
+  name_stands_then a b = record {
+    header = record { home = a.header.home ∙ b.header.home; file = a.header.file ∙ b.header.file; sound = a.header.sound ∙ b.header.sound; names = a.header.names ∙ b.header.names; method = a.header.method ∙ b.header.method };
+    declared = λ ds. a.declared ds ∙ b.declared ds;
+  }
 
 module _ {A B C : Type 0} {w : World} {h : Headed A} {k : Headed B} {l : Headed C} where
   pub aliases_stand_then : AliasesStand w h k → AliasesStand w k l → AliasesStand w h l
@@ -69,7 +66,11 @@ module _ {A B C : Type 0} {w : World} {h : Headed A} {k : Headed B} {l : Headed 
   types_stand_then a b = record { good = λ ds. a.good ds ∙ b.good ds }
 
   pub values_stand_then : ValuesStand w h k → ValuesStand w k l → ValuesStand w h l
-  values_stand_then a b = record { declared = λ ds. a.declared ds ∙ b.declared ds; method = record { method = a.method.method ∙ b.method.method; on = a.method.on ∙ b.method.on } }
+  values_stand_then a b = record {
+    declared = λ ds. a.declared ds ∙ b.declared ds;
+    method = record { method = a.method.method ∙ b.method.method; on = a.method.on ∙ b.method.on };
+    singles = then_each (λ x y z p q. name_stands_then p q) a.singles b.singles;
+  }
 
 pub aliases_stand_itself : {S : Type 0} (w : World) (h : Headed S) → AliasesStand w h h
 aliases_stand_itself w h = record { header = record { home = refl; file = refl; sound = refl; names = refl; method = refl }; alias = refl; defined = refl }
@@ -78,7 +79,19 @@ pub types_stand_itself : {S : Type 0} (w : World) (h : Headed S) → TypesStand 
 types_stand_itself w h = record { good = λ ds. refl }
 
 pub values_stand_itself : {S : Type 0} (w : World) (h : Headed S) → ValuesStand w h h
-values_stand_itself w h = record { declared = λ ds. refl; method = record { method = refl; on = refl } }
+values_stand_itself w h = record {
+  declared = λ ds. refl;
+  method = record { method = refl; on = refl };
+  singles = each_one (λ k. record { header = record { home = refl; file = refl; sound = refl; names = refl; method = refl }; declared = λ ds. refl }) (singly h);
+}
+
+-- a function with another body declares the same
+pub other_body_stands : {S : Type 0} (w : World) (h : Headed S) (f : Func S) (b : Stmts S) → ValuesStand w (record h { header = a_func f }) (record h { header = a_func (record f { body = b }) })
+other_body_stands w h f b = record {
+  declared = λ ds. refl;
+  method = record { method = refl; on = refl };
+  singles = and_more (record { header = record { home = refl; file = refl; sound = refl; names = refl; method = refl }; declared = λ ds. refl }) no_more;
+}
 
 pub replaced_bodies_alike : {S T : Type 0} (w : World) {hs : List (Headed S)} {ks : List (Headed T)} → OneByOne (HeaderReplaced w) hs ks → OneByOne (λ h k. BodyIn w h h.header k.header) hs ks → BodiesAlike w hs ks
 replaced_bodies_alike w no_more no_more = no_more
@@ -88,18 +101,7 @@ replaced_bodies_alike w (and_more {a = h} {b = k} r rs) (and_more b bs) = and_mo
 
 module _ {S T : Type 0} (ps : Program S) (qs : Program T) (d : InPlace ps qs) where
   pub declare_alike : DeclareAlike ps qs
-  declare_alike = record {
-    numbers = one_by_one (λ p q a. a.number) d.packages;
-    headers = one_by_one (λ h k r. r.header) d.aliases_before;
-    aliases_before = one_by_one (λ h k r. r.alias) d.aliases_before;
-    aliases_after = one_by_one (λ h k r. r.alias) d.aliases_after;
-    defined = one_by_one (λ h k r. r.defined) d.aliases_before;
-    good_before = one_by_one (λ h k r. r.good (types_declared ps (headed ps))) d.types_before;
-    good_after = one_by_one (λ h k r. r.good (types_declared qs (headed qs))) d.types_after;
-    declared_before = one_by_one (λ h k r. r.declared (types_declared ps (headed ps))) (d.before (valued_world ps (headed ps)) after_values);
-    declared_after = one_by_one (λ h k r. r.declared (types_declared qs (headed qs))) (d.after (valued_world qs (headed qs)) after_values);
-    methods = one_by_one (λ h k r. r.method) (d.before (valued_world ps (headed ps)) after_values);
-  }
+  declare_alike = declare_by ps qs (one_by_one (λ p q a. a.number) d.packages) d.aliases_before d.aliases_after d.types_before d.types_after d.before d.after
 
   declarations_alike : DeclarationsAlike ps qs
   declarations_alike = record {
@@ -161,8 +163,8 @@ module _ {S : Type 0} where
   header_itself w h = record { home = refl; in_main = refl; file = refl; imports = refl; sound = refl; tree = go h.header }
     where
       go : (x : Header S) → HeaderIn (env_of w h) x x
-      go (constants ns t es i) = in_constants refl (type_option_itself _ _ t) (exprs_themselves _ _ es) refl
-      go (variables ns t es) = in_variables refl (type_option_itself _ _ t) (exprs_themselves _ _ es) refl
+      go (constants ns t es i) = in_constants refl (type_option_itself _ _ t) (exprs_themselves _ _ es) (bodies_themselves es)
+      go (variables ns t es) = in_variables refl (type_option_itself _ _ t) (exprs_themselves _ _ es) (bodies_themselves es)
       go (a_type_spec t) = in_type_spec refl refl (same_type (type_itself _ _ t.of))
       go (a_func f) = in_func (receiver_itself f.receiver) refl (record { params = params_themselves _ _ f.sig.params; results = params_themselves _ _ f.sig.results })
 

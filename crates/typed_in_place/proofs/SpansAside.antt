@@ -5,7 +5,7 @@ use mathlib.Core.Path.{ap, sym, ◌∙◌, subst}
 use Rattle.go_tree.specs.Tree.{NameAt, Param, TypeExpr, Expr, ident, int_lit, rune_lit, str_lit, composite, selector, index, slice, call, func_lit, type_operand, unary, binary, star, Exprs, no_exprs, expr_and, ExprOption, no_expr, some_expr, Elems, no_elems, elem, Value, plain, braced, ValueOption, no_value, some_value, Stmt, Stmts, no_stmts, stmt_and, some_stmt}
 use Rattle.go_tree.specs.File.{Receiver}
 use Rattle.go_tree.specs.Bare.{bare_name, bare_type, bare_param, bare_expr, bare_exprs, bare_expr_option, bare_elems, bare_value, bare_value_option, bare_stmt, bare_stmts}
-use Rattle.go_tree.specs.FileBare.{bare_type_spec, bare_receiver, bare_func}
+use Rattle.go_tree.specs.FileBare.{bare_receiver}
 use Rattle.go_tree.proofs.ScopeNames.FreeNamesBare.{names_of-bare, declared-bare, free_type-bare}
 use Rattle.go_tree.specs.GoTypes.Answers.{given, meets}
 use Rattle.go_tree.specs.GoTypes.Types.{GoType}
@@ -23,10 +23,12 @@ use Rattle.go_tree.specs.GoTypes.WellTyped.{body_ok}
 use Rattle.go_tree.proofs.GoTypes.TypingBare.{resolved-bare, type_meant-bare, parts-bare, place-bare, used-bare, used_left-bare, package_before-bare, is_blank_name-bare, is_call-bare, is_panic-bare, stmt-bare, declares-bare, used_stmt-bare, breaks-bare, labels-bare, is_loop-bare, is_breakable-bare, is_empty_stmt-bare, is_define-bare}
 use Rattle.typed_in_place.specs.SameFacts.{SameType, SameOperand, SameStatement, calls_panic}
 use Rattle.typed_in_place.specs.Replaced.{same_type, TypeOptionReplaced, no_type, some_type, SameName, no_name, one_name, ParamsReplaced, no_params, in_param, ExprsReplaced, same_operand, no_more_exprs, in_exprs, StmtsReplaced, same_statement, no_more_stmts, in_stmts}
-use Rattle.typed_in_place.specs.ProgramsAlike.{AliasesStand, TypesStand, ValuesStand}
-use Rattle.typed_in_place.specs.HeaderReplaced.{SpecsIn, types_of_constants, types_of_variables, types_of_spec, types_of_func, AliasesReplaced, SameReceiver, no_receiver, one_receiver, HeaderIn, in_constants, in_variables, in_type_spec, in_func, HeaderReplaced, BodyIn, in_body, no_body_of_constants, no_body_of_variables, no_body_of_a_type}
+use Rattle.typed_in_place.specs.ProgramsAlike.{AliasesStand, TypesStand, NameStands, ValuesStand}
+use Rattle.typed_in_place.specs.HeaderReplaced.{SpecsIn, types_of_constants, types_of_variables, types_of_spec, types_of_func, AliasesReplaced, SameReceiver, no_receiver, one_receiver, BodilessAlike, no_more_bodies, bodies_alike, HeaderIn, in_constants, in_variables, in_type_spec, in_func, HeaderReplaced, BodyIn, in_body, no_body_of_constants, no_body_of_variables, no_body_of_a_type}
+pub use Rattle.typed_in_place.specs.BareHeaders.{bare_header, bare_headed}
 use Rattle.typed_in_place.proofs.SameUses.{same_uses}
 use Rattle.typed_in_place.proofs.HeadersReplaced.{types_replaced, body-in}
+use Rattle.typed_in_place.proofs.OneByOne.{back_each}
 use Rattle.typed_in_place.proofs.ProgramsReplaced.{replaced_aliases_stand, replaced_types_stand, replaced_values_stand, aliases_stand_then, types_stand_then, values_stand_then}
 
 -- ---- facts there and back
@@ -83,8 +85,20 @@ module _ {S T : Type 0} {w : World} {h : Headed S} {k : Headed T} where
   pub aliases_stand_back : AliasesStand w h k → AliasesStand w k h
   aliases_stand_back a = record { header = record { home = sym a.header.home; file = sym a.header.file; sound = sym a.header.sound; names = sym a.header.names; method = sym a.header.method }; alias = sym a.alias; defined = sym a.defined }
 
+  name_stands_back : NameStands w h k → NameStands w k h
+  name_stands_back a = record {
+    header = record { home = sym a.header.home; file = sym a.header.file; sound = sym a.header.sound; names = sym a.header.names; method = sym a.header.method };
+    declared = λ ds. sym (a.declared ds);
+  }
+
+
+module _ {S T : Type 0} {w : World} {h : Headed S} {k : Headed T} where
   pub values_stand_back : ValuesStand w h k → ValuesStand w k h
-  values_stand_back a = record { declared = λ ds. sym (a.declared ds); method = record { method = sym a.method.method; on = sym a.method.on } }
+  values_stand_back a = record {
+    declared = λ ds. sym (a.declared ds);
+    method = record { method = sym a.method.method; on = sym a.method.on };
+    singles = back_each (λ x y p. name_stands_back p) a.singles;
+  }
 
 -- ---- trees without spans
 
@@ -178,6 +192,10 @@ module _ {S : Type 0} where
     bodiless_key-bare no_value = refl
     bodiless_key-bare (some_value k) = bodiless_value-bare k
 
+  bodies-bare : (es : Exprs S) → BodilessAlike es (bare_exprs es)
+  bodies-bare no_exprs = no_more_bodies
+  bodies-bare (expr_and e es) = bodies_alike (bodiless-bare e) (bodies-bare es)
+
   -- ---- a tree and the tree without its spans
 
   pub operand_bare : (around : List (List ℕ)) (env : Env) (e : Expr S) → SameOperand around env e (bare_expr e)
@@ -240,21 +258,12 @@ module _ {S : Type 0} where
 
   -- ---- headers
 
-  abbrev pub bare_header : Header S → Header (Unit {0})
-  bare_header (constants ns t es i) = constants (map bare_name ns) (option_map bare_type t) (bare_exprs es) i
-  bare_header (variables ns t es) = variables (map bare_name ns) (option_map bare_type t) (bare_exprs es)
-  bare_header (a_type_spec t) = a_type_spec (bare_type_spec t)
-  bare_header (a_func f) = a_func (bare_func f)
-
-  abbrev pub bare_headed : Headed S → Headed (Unit {0})
-  bare_headed h = record { home = h.home; in_main = h.in_main; file = h.file; imports = h.imports; at = tt; sound = h.sound; header = bare_header h.header }
-
   pub header_bare : (w : World) (h : Headed S) → HeaderReplaced w h (bare_headed h)
   header_bare w h = record { home = refl; in_main = refl; file = refl; imports = refl; sound = refl; tree = go h.header }
     where
       go : (x : Header S) → HeaderIn (env_of w h) x (bare_header x)
-      go (constants ns t es i) = in_constants (sym (names_of-bare ns)) (type_option_bare [] _ t) (exprs_bare [] _ es) (all_bodiless-bare es)
-      go (variables ns t es) = in_variables (sym (names_of-bare ns)) (type_option_bare [] _ t) (exprs_bare [] _ es) (all_bodiless-bare es)
+      go (constants ns t es i) = in_constants (sym (names_of-bare ns)) (type_option_bare [] _ t) (exprs_bare [] _ es) (bodies-bare es)
+      go (variables ns t es) = in_variables (sym (names_of-bare ns)) (type_option_bare [] _ t) (exprs_bare [] _ es) (bodies-bare es)
       go (a_type_spec t) = in_type_spec refl refl (same_type (type_bare [] _ t.of))
       go (a_func f) = in_func (receiver_bare f.receiver) refl (record { params = params_bare [] _ f.sig.params; results = params_bare [] _ f.sig.results })
 

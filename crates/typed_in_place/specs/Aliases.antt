@@ -8,7 +8,7 @@ use Rattle.go_tree.specs.ScopeNames.Means.{is_blank}
 use Rattle.go_tree.specs.GoTypes.Entities.{World, Env}
 use Rattle.go_tree.specs.GoTypes.TypeNames.{named_meaning, field_package}
 use Rattle.go_tree.specs.GoTypes.Programs.{a_type_spec, Headed, Program}
-use Rattle.go_tree.specs.GoTypes.Collect.{typed_world, valued_world, world_of}
+use Rattle.go_tree.specs.GoTypes.Collect.{typed_world, named_world, valued_world, world_of}
 use Rattle.typed_in_place.specs.Declared.{FirstWith, HasNumber}
 
 module _ {S T : Type 0} (a b : Env) where
@@ -60,5 +60,6 @@ pub record DeclaresAlias {S : Type 0} (ps : Program S) (hs : List (Headed S)) (h
 -- the worlds in which it is known which types are refused
 pub data TypesEnd {S : Type 0} (ps : Program S) (hs : List (Headed S)) : World → Type 0 where
   after_types : TypesEnd ps hs (typed_world ps hs)
+  after_names : TypesEnd ps hs (named_world ps hs)
   after_values : TypesEnd ps hs (valued_world ps hs)
   at_last : TypesEnd ps hs (world_of hs (valued_world ps hs))

@@ -5,11 +5,11 @@ use Rattle.go_tree.specs.Tree.{NameAt, Expr, no_exprs, expr_and}
 use Rattle.go_tree.specs.ScopeNames.Means.{is_blank}
 use Rattle.go_tree.specs.GoTypes.Answers.{is_among}
 use Rattle.go_tree.specs.GoTypes.Bodiless.{bodiless}
-use Rattle.go_tree.specs.GoTypes.Collect.{env_of, valued_world}
+use Rattle.go_tree.specs.GoTypes.Collect.{env_of, named_world, valued_world, world_of}
 use Rattle.typed_in_place.specs.Leaves.{Names}
 use Rattle.go_tree.specs.GoTypes.Types.{GoType}
 use Rattle.go_tree.specs.declared.const_eval.consts.Const.{Const}
-use Rattle.go_tree.specs.GoTypes.Entities.{Entity, constant, refused}
+use Rattle.go_tree.specs.GoTypes.Entities.{Entity, constant, refused, World}
 use Rattle.go_tree.specs.GoTypes.Programs.{constants, Headed, header_names, SourcePackage, Program}
 
 module _ {S : Type 0} where
@@ -32,9 +32,16 @@ pub data ConstantOrRefused : Option Entity → Type 0 where
   a_constant : {t : GoType} {c : Const} → ConstantOrRefused (Some (constant t c))
   refused_yet : ConstantOrRefused (Some refused)
 
--- `const x = f` in a package block, where `f` is the name of a constant or of what isn't known
-pub record NamesConstant {S : Type 0} (ps : Program S) (hs : List (Headed S)) (h : Headed S) (x : NameAt S) (f : Expr S)
-    (r : Option Entity) : Type 0 where
+-- the worlds in which it is known what constants and variables mean: each by itself, where whole headers are refused,
+-- and with methods
+pub data RoundsEnd {S : Type 0} (ps : Program S) (hs : List (Headed S)) : World → Type 0 where
+  after_names : RoundsEnd ps hs (named_world ps hs)
+  after_values : RoundsEnd ps hs (valued_world ps hs)
+  at_last : RoundsEnd ps hs (world_of hs (valued_world ps hs))
+
+-- `const x = f` in a package block of this world, where `f` is the name of a constant or of what isn't known
+pub record NamesConstant {S : Type 0} (ps : Program S) (hs : List (Headed S)) (w : World) (h : Headed S) (x : NameAt S)
+    (f : Expr S) (r : Option Entity) : Type 0 where
   pub number : ℕ
   pub looked_up : List ℕ
   pub header : h.header ≡ constants (x ∷ []) None (expr_and f no_exprs) number
@@ -42,7 +49,7 @@ pub record NamesConstant {S : Type 0} (ps : Program S) (hs : List (Headed S)) (h
   pub bodiless : bodiless f ≡ true
   pub named : is_blank x.name ≡ false
   pub home : nat_eq h.home h.home ≡ true
-  pub names : Names (env_of (valued_world ps hs) h (Some number)) f r looked_up
+  pub names : Names (env_of w h (Some number)) f r looked_up
   pub known : ConstantOrRefused r
   pub first : FirstWith x.name h hs
   pub in_program : HasNumber h.home ps

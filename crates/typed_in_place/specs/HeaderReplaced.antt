@@ -1,13 +1,13 @@
 -- A header with parts replaced, at the top of a file (Go specification, Declarations and scope; Constant declarations;
 -- Variable declarations; Type declarations; Function declarations; Method declarations).
 use Rattle.std.specs.Prelude.{◌≡◌, ℕ, List, [], ◌++◌, Option, Some, None}
-use Rattle.go_tree.specs.Tree.{NameAt, TypeExpr, Exprs}
+use Rattle.go_tree.specs.Tree.{NameAt, TypeExpr, Expr, Exprs, no_exprs, expr_and}
 use Rattle.go_tree.specs.File.{TypeSpec, Receiver, Func}
 use Rattle.go_tree.specs.ScopeNames.FreeNames.{names_of, sig_names}
 use Rattle.go_tree.specs.GoTypes.Entities.{World, Env}
 use Rattle.go_tree.specs.GoTypes.TypeNames.{resolved}
 use Rattle.go_tree.specs.GoTypes.Programs.{Header, constants, variables, a_type_spec, a_func, Headed}
-use Rattle.go_tree.specs.GoTypes.Bodiless.{all_bodiless}
+use Rattle.go_tree.specs.GoTypes.Bodiless.{bodiless}
 use Rattle.go_tree.specs.GoTypes.Collect.{env_of}
 use Rattle.go_tree.specs.GoTypes.WellTyped.{body_env, receiver_names}
 use Rattle.typed_in_place.specs.Replaced.{TypeReplaced, TypeOptionReplaced, SameName, SigReplaced, ExprsReplaced}
@@ -53,17 +53,24 @@ module _ {S T : Type 0} where
     pub imports : h.imports ≡ k.imports
     pub specs : SpecsIn (TypeReplaced [] (env_of w h None)) h.header k.header
 
+  -- function literals stand in the expressions of two lists at the same places
+  pub data BodilessAlike : Exprs S → Exprs T → Type 0 where
+    no_more_bodies : BodilessAlike no_exprs no_exprs
+    bodies_alike :
+        {e : Expr S} {f : Expr T} {es : Exprs S} {fs : Exprs T} → bodiless e ≡ bodiless f → BodilessAlike es fs →
+        BodilessAlike (expr_and e es) (expr_and f fs)
+
   -- all parts of a declaration; a constant spec has its number
   pub data HeaderIn (at : Option ℕ → Env) : Header S → Header T → Type 0 where
     in_constants :
         {ns : List (NameAt S)} {ms : List (NameAt T)} {t : Option (TypeExpr S)} {u : Option (TypeExpr T)}
         {es : Exprs S} {fs : Exprs T} {i : ℕ} → names_of ns ≡ names_of ms →
         TypeOptionReplaced [] (at (Some i)) t u → ExprsReplaced [] (at (Some i)) es fs →
-        all_bodiless es ≡ all_bodiless fs → HeaderIn at (constants ns t es i) (constants ms u fs i)
+        BodilessAlike es fs → HeaderIn at (constants ns t es i) (constants ms u fs i)
     in_variables :
         {ns : List (NameAt S)} {ms : List (NameAt T)} {t : Option (TypeExpr S)} {u : Option (TypeExpr T)}
         {es : Exprs S} {fs : Exprs T} → names_of ns ≡ names_of ms → TypeOptionReplaced [] (at None) t u →
-        ExprsReplaced [] (at None) es fs → all_bodiless es ≡ all_bodiless fs →
+        ExprsReplaced [] (at None) es fs → BodilessAlike es fs →
         HeaderIn at (variables ns t es) (variables ms u fs)
     in_type_spec :
         {t : TypeSpec S} {u : TypeSpec T} → t.name.name ≡ u.name.name → t.alias ≡ u.alias →

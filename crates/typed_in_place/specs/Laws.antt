@@ -20,14 +20,14 @@ use Rattle.go_tree.specs.GoTypes.Typing.{parts, all_parts, place, declares, stmt
 use Rattle.go_tree.specs.GoTypes.Initial.{all_initial}
 use Rattle.go_tree.specs.GoTypes.Programs.{Import, Headed, Program, headed, is_init, env_of}
 use Rattle.go_tree.specs.GoTypes.Collect.{alias_round, type_round, value_round, refused_world, aliased_world}
-use Rattle.go_tree.specs.GoTypes.Collect.{types_declared, typed_world, valued_world, collected, package_constants}
-use Rattle.go_tree.specs.GoTypes.Collect.{package_variables}
+use Rattle.go_tree.specs.GoTypes.Collect.{types_declared, typed_world, name_round, named_world, valued_world, collected}
+use Rattle.go_tree.specs.GoTypes.Collect.{package_constants, package_variables}
 use Rattle.go_tree.specs.GoTypes.WellTyped.{function_ok, first_import, is_used_in, well_typed, body_ok}
 use Rattle.go_tree.specs.GoTypes.Agreement.{Same, On}
 use Rattle.typed_in_place.specs.SameFacts.{UsedAlike, NoneAround, SameType, SameOperand, SameStatement}
 use Rattle.typed_in_place.specs.Replaced.{ExprReplaced, StmtReplaced, StmtsReplaced}
 use Rattle.typed_in_place.specs.Leaves.{Names}
-use Rattle.typed_in_place.specs.Declared.{NamesConstant}
+use Rattle.typed_in_place.specs.Declared.{RoundsEnd, NamesConstant}
 use Rattle.typed_in_place.specs.Aliases.{SameText, AsExpr, DeclaresAlias, TypesEnd}
 use Rattle.typed_in_place.specs.Known.{BlocksClearer}
 use Rattle.typed_in_place.specs.ProgramsAlike.{OneByOne, AliasesStand, TypesStand, ValuesStand}
@@ -95,7 +95,13 @@ TypesSettle =
     (ps : Program Span) →
     type_round ps (headed ps) (types_declared ps (headed ps)) (typed_world ps (headed ps)) ≡ typed_world ps (headed ps)
 
--- a further round of values finds nothing more
+-- a further round by names finds nothing more
+abbrev pub NamesSettle : Type 0
+NamesSettle =
+    (ps : Program Span) →
+    name_round ps (headed ps) (types_declared ps (headed ps)) (named_world ps (headed ps)) ≡ named_world ps (headed ps)
+
+-- a further round of headers refuses nothing more
 abbrev pub ValuesSettle : Type 0
 ValuesSettle =
     (ps : Program Span) →
@@ -122,13 +128,23 @@ TypesAreGreatest =
     ≡ with_blocks (typed_world ps (headed ps)) bs →
     BlocksClearer bs (aliased_world ps (headed ps)).blocks → BlocksClearer bs (typed_world ps (headed ps)).blocks
 
--- blocks that a round of values leaves as they are, and that know the types, know of each name what the rounds find
-abbrev pub ValuesAreLeast : Type 0
-ValuesAreLeast =
+-- blocks that a round by names leaves as they are, and that know the types, know of each name what the rounds by names
+-- find
+abbrev pub NamesAreLeast : Type 0
+NamesAreLeast =
+    (ps : Program Span) (bs : List (ℕ × Environment Entity)) →
+    name_round ps (headed ps) (types_declared ps (headed ps)) (with_blocks (typed_world ps (headed ps)) bs)
+    ≡ with_blocks (typed_world ps (headed ps)) bs →
+    BlocksClearer (typed_world ps (headed ps)).blocks bs → BlocksClearer (named_world ps (headed ps)).blocks bs
+
+-- blocks that a round of headers leaves as they are, and that know no more than the rounds by names find, refuse what
+-- the rounds of headers refuse
+abbrev pub ValuesAreGreatest : Type 0
+ValuesAreGreatest =
     (ps : Program Span) (bs : List (ℕ × Environment Entity)) →
     value_round ps (headed ps) (types_declared ps (headed ps)) (with_blocks (typed_world ps (headed ps)) bs)
     ≡ with_blocks (typed_world ps (headed ps)) bs →
-    BlocksClearer (typed_world ps (headed ps)).blocks bs → BlocksClearer (valued_world ps (headed ps)).blocks bs
+    BlocksClearer bs (named_world ps (headed ps)).blocks → BlocksClearer bs (valued_world ps (headed ps)).blocks
 
 -- no function literal stands in a constant, so that constants are found without typing a body
 abbrev pub ConstantsWithoutBodies : Type 0
@@ -155,9 +171,9 @@ VariablesWithoutBodies =
 abbrev pub ConstantStands : Type 0
 ConstantStands =
     (ps : Program Span) (hs : List (Headed Span)) (h : Headed Span) (x : NameAt Span) (f : Expr Span)
-    (r : Option Entity) → NamesConstant ps hs h x f r → (around : List (List ℕ)) (a : Env) (e e' : Expr Span)
-    (n m : List ℕ) (p q : Option Entity) → Names a e p n →
-    p ≡ means (block_of (valued_world ps hs).blocks h.home) x.name → is_among n around ≡ false → is_blank n ≡ false →
+    (r : Option Entity) (w : World) → RoundsEnd ps hs w → NamesConstant ps hs w h x f r → (around : List (List ℕ))
+    (a : Env) (e e' : Expr Span) (n m : List ℕ) (p q : Option Entity) → Names a e p n →
+    p ≡ means (block_of w.blocks h.home) x.name → is_among n around ≡ false → is_blank n ≡ false →
     Names a e' q m → q ≡ r → is_among m around ≡ false → is_blank m ≡ false → SameOperand around a e e'
 
 -- an alias: the text of its type, each of whose names means what it means in the file of the alias

@@ -12,5 +12,7 @@ pub mod ImportsMoved
 pub mod Aliases
 pub mod UsesKept
 pub mod Laws
+pub mod BareHeaders
+pub mod NameRounds
 pub mod SameWorlds
 pub mod SpecificationExamples

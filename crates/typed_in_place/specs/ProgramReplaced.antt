@@ -3,12 +3,13 @@
 use Rattle.std.specs.Prelude.{◌≡◌, false, List, [], ◌∷◌, ◌++◌, nat_eq}
 use Rattle.go_tree.specs.GoTypes.Entities.{World}
 use Rattle.go_tree.specs.GoTypes.Programs.{Headed, SourcePackage, Program, headed}
-use Rattle.go_tree.specs.GoTypes.Collect.{aliased_world, typed_world, valued_world, collected}
+use Rattle.go_tree.specs.GoTypes.Collect.{aliased_world, typed_world, named_world, valued_world, collected}
 use Rattle.typed_in_place.specs.ProgramsAlike.{OneByOne, AliasesStand, TypesStand, ValuesStand, BodiesAlike}
 use Rattle.typed_in_place.specs.ImportRule.{SamePackage}
 
--- the worlds in which all rounds have ended
+-- the worlds in which the rounds of values have ended, by names and of headers, and what is declared at last
 pub data ValuesEnd {S : Type 0} (ps : Program S) : World → Type 0 where
+  after_names : ValuesEnd ps (named_world ps (headed ps))
   after_values : ValuesEnd ps (valued_world ps (headed ps))
   at_last : ValuesEnd ps (collected ps)
 

@@ -5,7 +5,8 @@ use Rattle.go_tree.specs.GoTypes.Entities.{World}
 use Rattle.go_tree.specs.GoTypes.Programs.{Headed, header_names, Program, headed}
 use Rattle.go_tree.specs.GoTypes.Collect.{DeclaredTypes, alias_entity, type_declared, good_entity, declared_by}
 use Rattle.go_tree.specs.GoTypes.Collect.{declared_on, method_header, aliased_world, types_declared, typed_world}
-use Rattle.go_tree.specs.GoTypes.Collect.{valued_world}
+use Rattle.go_tree.specs.GoTypes.Collect.{named_world, valued_world}
+use Rattle.go_tree.specs.GoTypes.SingleNames.{singly, by_names}
 use Rattle.go_tree.specs.GoTypes.WellTyped.{is_method, body_ok}
 
 -- one by one
@@ -67,24 +68,38 @@ module _ {S T : Type 0} where
   pub record TypesStand (w : World) (h : Headed S) (k : Headed T) : Type 0 where
     pub good : (ds : DeclaredTypes) → good_entity ds w h ≡ good_entity ds w k
 
-  -- and as far as all that it declares goes
+  -- both headers are the same and declare the same
+  pub record NameStands (w : World) (h : Headed S) (k : Headed T) : Type 0 where
+    pub header : SameHeader h k
+    pub declared : (ds : DeclaredTypes) → declared_by ds w h ≡ declared_by ds w k
+
+  -- and as far as all that it declares goes, as a whole and name by name
   pub record ValuesStand (w : World) (h : Headed S) (k : Headed T) : Type 0 where
     pub declared : (ds : DeclaredTypes) → declared_by ds w h ≡ declared_by ds w k
     pub method : SameMethod w h k
+    pub singles : OneByOne (NameStands w) (singly h) (singly k)
 
   -- the packages of both programs have the same numbers
   abbrev pub SameNumbers : Program S → Program T → Type 0
   SameNumbers ps qs = OneByOne (λ p q. p.number ≡ q.number) ps qs
 
-  -- two programs whose headers declare the same at the end of the rounds of the one and of the other
+  -- two programs whose headers, and whose single names, declare the same at the end of the rounds of the one and of the
+  -- other
   pub record DeclareAlike (ps : Program S) (qs : Program T) : Type 0 where
     pub numbers : SameNumbers ps qs
     pub headers : SameHeaders (headed ps) (headed qs)
+    pub singles : SameHeaders (by_names (headed ps)) (by_names (headed qs))
     pub aliases_before : AliasesAlike (aliased_world ps (headed ps)) (headed ps) (headed qs)
     pub aliases_after : AliasesAlike (aliased_world qs (headed qs)) (headed ps) (headed qs)
     pub defined : DefinedAlike (aliased_world ps (headed ps)) (headed ps) (headed qs)
     pub good_before : GoodAlike (types_declared ps (headed ps)) (typed_world ps (headed ps)) (headed ps) (headed qs)
     pub good_after : GoodAlike (types_declared qs (headed qs)) (typed_world qs (headed qs)) (headed ps) (headed qs)
+    pub named_before :
+        DeclaredAlike (types_declared ps (headed ps)) (named_world ps (headed ps)) (by_names (headed ps))
+        (by_names (headed qs))
+    pub named_after :
+        DeclaredAlike (types_declared qs (headed qs)) (named_world qs (headed qs)) (by_names (headed ps))
+        (by_names (headed qs))
     pub declared_before :
         DeclaredAlike (types_declared ps (headed ps)) (valued_world ps (headed ps)) (headed ps) (headed qs)
     pub declared_after :

@@ -3,8 +3,8 @@
 ghost use Rattle.typed_in_place.specs.Laws.{OperandsStay, PlacesStay, DeclarationsStay};
 ghost use Rattle.typed_in_place.specs.Laws.{StatementsStay, BodiesStay, UsesStay};
 ghost use Rattle.typed_in_place.specs.Laws.{ExpressionsButForSpans, StatementsButForSpans};
-ghost use Rattle.typed_in_place.specs.Laws.{AliasesSettle, TypesSettle, ValuesSettle};
-ghost use Rattle.typed_in_place.specs.Laws.{AliasesAreLeast, TypesAreGreatest, ValuesAreLeast};
+ghost use Rattle.typed_in_place.specs.Laws.{AliasesSettle, TypesSettle, NamesSettle, ValuesSettle};
+ghost use Rattle.typed_in_place.specs.Laws.{AliasesAreLeast, TypesAreGreatest, NamesAreLeast, ValuesAreGreatest};
 ghost use Rattle.typed_in_place.specs.Laws.{ConstantsWithoutBodies, VariablesWithoutBodies};
 ghost use Rattle.typed_in_place.specs.Laws.{ConstantStands, AliasStands, CalledAliasStands};
 ghost use Rattle.typed_in_place.specs.Laws.{LiteralStands, LiteralIsFunction};
@@ -34,14 +34,17 @@ pub fn the_same_but_for_spans()
 pub fn rounds_settle()
     ensures aliases { AliasesSettle }
     ensures types { TypesSettle }
+    ensures names { NamesSettle }
     ensures values { ValuesSettle }
 {}
 
-/// They find the least that holds of the headers, and refuse no type that need not be refused.
+/// They find the least that holds of the headers, name by name, and refuse no type and no whole header
+/// that need not be refused.
 pub fn rounds_find_the_least()
     ensures aliases { AliasesAreLeast }
     ensures types { TypesAreGreatest }
-    ensures values { ValuesAreLeast }
+    ensures names { NamesAreLeast }
+    ensures values { ValuesAreGreatest }
 {}
 
 /// What constants and variables of packages are declared as is found without typing a body.

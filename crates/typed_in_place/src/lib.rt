@@ -3,6 +3,7 @@
 #![tactic(auto)]
 
 mod laws;
+pub mod name_rounds;
 mod same_worlds;
 mod specification_examples;
 

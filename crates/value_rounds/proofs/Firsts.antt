@@ -1,5 +1,5 @@
 -- What a name means in package blocks is what the first header with it declares.
-use Rattle.std.specs.Prelude.{◌≡◌, refl, ℕ, zero, suc, Bool, true, false, not, ◌&&◌, ◌||◌, List, [], ◌∷◌, ◌++◌, Option, Some, None, if◌then◌else◌, is_some, nat_eq, bytes_eq, slice_get, ◌⊎◌}
+use Rattle.std.specs.Prelude.{◌≡◌, refl, ℕ, zero, suc, Bool, true, false, not, ◌&&◌, ◌||◌, List, [], ◌∷◌, ◌++◌, Option, Some, None, if◌then◌else◌, is_some, nat_eq, bytes_eq, slice_get, length, ◌⊎◌}
 use mathlib.Core.Path.{ap, sym, ◌∙◌, subst}
 use Rattle.std.proofs.Common.{arith, inl, inr}
 use Rattle.std.proofs.lemmas.Slice.Eq.{bytes_eq-Decides}
@@ -20,9 +20,13 @@ use Rattle.typed_in_place.proofs.Collected.{typed_settled, valued_settled}
 use Rattle.typed_in_place.proofs.SettledNames.{first_means, block_of_package}
 use Rattle.declared_types.specs.Members.{member}
 use Rattle.declared_types.proofs.NamesClearer.{block_is_some, each_means, means_append}
-use Rattle.package_blocks.proofs.FirstLemmas.{AllNumbers, all_numbers}
+use Rattle.pkg_graph.specs.declared.packages.Package.{Package}
+use Rattle.package_blocks.specs.Imports.{views}
+use Rattle.package_blocks.specs.Programs.{in_dependency_order}
+use Rattle.package_blocks.proofs.CollectedLemmas.{order_follows}
+use Rattle.package_blocks.proofs.FirstLemmas.{AllFirst, AllNumbers, IsFirst, all_numbers, firsts}
 use Rattle.package_blocks.proofs.HeaderLemmas.{append_none}
-use Rattle.package_blocks.specs.FuncHeaders.Functions.{declaring}
+use Rattle.package_blocks.specs.FuncHeaders.Functions.{declaring, program_of}
 use Rattle.package_blocks.proofs.FuncHeaders.FirstFunctions.{NamedFirst, first_named}
 use Rattle.value_rounds.specs.Values.{is_value, names_value}
 
@@ -43,7 +47,7 @@ self p = grind arith
 -- ---- names that a header declares, refused
 
 -- one of them
-refused_among :
+pub refused_among :
     (ns : List (List ℕ)) (ms : Environment Entity) (n : List ℕ) → is_among n ns ≡ true → is_blank n ≡ false →
     means (bind_each refused ns ++ ms) n ≡ Some refused
 refused_among [] ms n a b = absurd (grind (arith, a))
@@ -68,7 +72,7 @@ refused_among (m ∷ ns) ms n a b = go (bytes_eq n m) refl a (λ q. refused_amon
     go false e q r = other (turned m n ∙ e) (r q) (is_blank m)
 
 -- another name
-refused_else : (ns : List (List ℕ)) (n : List ℕ) → is_among n ns ≡ false → means (bind_each refused ns) n ≡ None
+pub refused_else : (ns : List (List ℕ)) (n : List ℕ) → is_among n ns ≡ false → means (bind_each refused ns) n ≡ None
 refused_else ns n a = by (each_means refused ns [] n)
   where
     by :
@@ -79,7 +83,7 @@ refused_else ns n a = by (each_means refused ns [] n)
     by (inr f) = ap (λ l. means l n) (sym (append_none (bind_each refused ns))) ∙ f
 
 -- `_`
-refused_blank : (ns : List (List ℕ)) (n : List ℕ) → is_blank n ≡ true → means (bind_each refused ns) n ≡ None
+pub refused_blank : (ns : List (List ℕ)) (n : List ℕ) → is_blank n ≡ true → means (bind_each refused ns) n ≡ None
 refused_blank [] n b = refl
 refused_blank (m ∷ ns) n b = go (is_blank m) refl (bytes_eq m n) refl (refused_blank ns n b)
   where
@@ -294,3 +298,18 @@ module _ (ps : Program Span) where
       ap (λ w. member w h.home n) (sym (valued_settled ps hs))
       ∙ at_first (declared_by ds v) (λ k. (value_phase ds v).fits v.blocks k) n ps hs h first (first_numbered ps n h first)
       (Some e) (bound_one h (declared_by ds v h) n bs e q f)
+
+-- ---- headers of a program of packages
+
+first_in : (all xs : List (Headed Span)) → AllFirst all xs → (i : ℕ) (h : Headed Span) → slice_get xs i ≡ Some h → IsFirst all h
+first_in all [] a i h e = absurd cc
+first_in all (x ∷ xs) a zero h e = let s : x ≡ h = cc in subst (IsFirst all) s a.0
+first_in all (x ∷ xs) a (suc i) h e = first_in all xs a.1 i h e
+
+pub is_first :
+    (packages : List Package) (i : ℕ) (h : Headed Span) → slice_get (headed (program_of packages)) i ≡ Some h →
+    IsFirst (headed (program_of packages)) h
+is_first packages i h e =
+    let ps = views packages in
+    first_in (headed (program_of packages)) (headed (program_of packages))
+    (firsts ps [] (in_dependency_order ps) (order_follows ps (length ps) []) [] tt) i h e

@@ -1,8 +1,7 @@
 pub mod Firsts
 pub mod Kept
 pub mod Others
-pub mod Rounds
-pub mod SoFar
+pub mod Ends
 pub mod HeadersStay
 pub mod UnderlyingTypes
 pub mod NameRounds

@@ -1,19 +1,9 @@
-pub mod Lists
-pub mod Singles
-pub mod NamesTogether
-pub mod OneName
-pub mod Rounds
-pub mod NamesMeant
-pub mod AliasesMeant
-pub mod Before
-pub mod TypedBefore
-pub mod SamePrograms
-pub mod SpansAside
-pub mod OrdersSame
-pub mod InPlace
 pub mod Known
 pub mod HeadersKept
 pub mod RefusedSteps
 pub mod FoundSteps
 pub mod SinglesFirst
-mod Examples
+pub mod OthersNamed
+pub mod FirstSingles
+pub mod NamePasses
+pub mod HeaderPasses

@@ -1,6 +1,5 @@
 pub mod Values
 pub mod Steps
-pub mod Laws
 pub mod HeadersStay
 pub mod UnderlyingTypes
 pub mod NameRounds

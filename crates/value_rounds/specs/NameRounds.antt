@@ -1,9 +1,4 @@
-pub mod SingleNames
-pub mod Together
-pub mod Collect
-pub mod WellTyped
-pub mod Ends
 pub mod Steps
-pub mod ProgramsAlike
-pub mod InPlace
+pub mod Passes
+pub mod PassLaws
 pub mod Laws

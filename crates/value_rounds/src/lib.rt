@@ -1,13 +1,11 @@
-//! What the names of constants and variables mean in the package blocks of a program is what is found of
-//! them header by header, until no header has more (Go specification, Declarations and scope; Constant
-//! declarations; Variable declarations). Laws alone.
+//! What the names of constants and variables mean in the package blocks of a program, and which of their
+//! headers are refused (Go specification, Declarations and scope; Constant declarations; Variable
+//! declarations). Definitions and laws.
 #![tactic(auto)]
 
 mod headers_stay;
-mod laws;
 pub mod name_rounds;
 mod underlying_types;
 
 pub use headers_stay::headers_are_final;
-pub use laws::values_are_found;
 pub use underlying_types::chains_of_names_end;

@@ -16,7 +16,7 @@ use Rattle.go_tree.specs.GoTypes.Collect.{file_env, aliased_world}
 use Rattle.go_tree.proofs.GoTypes.Agreeing.{some_same}
 use Rattle.typed_in_place.specs.Aliases.{TypesEnd}
 use Rattle.typed_in_place.specs.Aliases as ends
-use Rattle.typed_in_place.specs.ProgramReplaced.{ValuesEnd, after_values, at_last}
+use Rattle.typed_in_place.specs.ProgramReplaced.{ValuesEnd, after_names, after_values, at_last}
 use Rattle.run_rules.specs.FormTrees.{Form, as_type}
 use Rattle.run_rules.specs.Surroundings.{Place, Use, Seen, seen, seen_type, seen_stmt, plain_slot, after_constants, repeated_by, is_local}
 use Rattle.go_tree.specs.GoTypes.Typing.{Repeated, nothing_to_repeat}
@@ -192,6 +192,7 @@ module _ {S : Type 0} (same : S → S → Bool) (commented : ℕ → ℕ → S �
         (one-name x.place v.name.name (sym (ap is_blank f.named) ∙ f.declares.named) (old-free same commented rs marks x u v s)) (one-name x.place u.new.name y.new_spelled (alias-name-free same commented rs marks x u))
 
   values-end : (ps : Program S) (w : World) → ValuesEnd ps w → TypesEnd ps (headed ps) w
+  values-end ps _ after_names = ends.after_names
   values-end ps _ after_values = ends.after_values
   values-end ps _ at_last = ends.at_last
 

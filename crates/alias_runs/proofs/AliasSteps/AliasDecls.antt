@@ -26,7 +26,7 @@ use Rattle.run_rules.specs.Steps as steps
 use Rattle.constant_steps.specs.StepLaws.Stands.{WrittenStands, ExprsStands}
 use Rattle.constant_steps.specs.StepLaws.Answered.{HoldsWithin}
 use Rattle.constant_steps.specs.StepLaws.DeclStands.{Written, nothing_written, own_or_before, body_there, DeclTypesStand, DeclaredTypesStand, GroupStands, VariableGroupStands, TypeSpecsStand, FuncStands, DeclStands, ResolvedAlike, TypesAlike}
-use Rattle.constant_steps.proofs.StepLaws.BodilessStands.{all-bodiless}
+use Rattle.constant_steps.proofs.StepLaws.BodilessStands.{each-bodiless}
 use Rattle.constant_steps.proofs.StepLaws.DeclUses.{body-begins}
 use Rattle.constant_steps.proofs.StepLaws.DeclarationsStand.{decl-types-stand}
 use Rattle.constant_steps.proofs.StepLaws.DeclChanged.{receiver_itself, resolved_itself, types_itself, DeclBy}
@@ -104,7 +104,7 @@ module _ {S : Type 0} (same : S → S → Bool) (rs : List (Package S)) (z : S) 
   a-member s ns n a h =
       let vs : ExprsStands c [] (at (Some n)) (in_constant a.number q) a.uses a.values = values-put (Some n) (in_constant a.number q) a.uses a.values refl refl h.1 in
       of_constants (written-stands c [] (at (Some n)) (in_constant a.number q) a.type (types-put (Some n) (in_constant a.number q) a.type refl refl h.0)) (all-stands c [] (at (Some n)) (in_constant a.number q) a.uses a.values vs)
-      (all-bodiless c [] (at (Some n)) (in_constant a.number q) a.uses a.values vs)
+      (each-bodiless c [] (at (Some n)) (in_constant a.number q) a.uses a.values vs)
 
   group-put : (f : S → S) (a : Written S) (n : ℕ) (ss : ValueSpecs S) → MemberPut a → Put (constants_at_top rs q n ss)
       → OneByOne H (constant_headers f a.type a.values n ss) (constant_headers f (new_written c (in_constant a.number q) a.type) (new_all c (in_constant a.number q) a.uses a.values) n (steps.new_constants same rs c q n ss))
@@ -127,7 +127,7 @@ module _ {S : Type 0} (same : S → S → Bool) (rs : List (Package S)) (z : S) 
       let there : Put (ts ++ vs) = front (ts ++ vs) (variables_at_top rs q ss) x in
       and_more
       (of_variables (written-stands c [] (at None) q t (types-put None q t refl refl (front ts vs there))) (all-retype same z form R k [] (at None) q refl us es (at-top None q refl refl) (behind ts vs there))
-      (all-bodiless c [] (at None) q us es (values-put None q us es refl refl (behind ts vs there))))
+      (each-bodiless c [] (at None) q us es (values-put None q us es refl refl (behind ts vs there))))
       (variables-put f ss (behind (ts ++ vs) (variables_at_top rs q ss) x))
 
   types-retype : (f : S → S) (ts : List (TypeSpec S)) → Put (types_at_top rs q ts) → OneByOne H (map (λ t. (f t.span, a_type_spec t)) ts) (map (λ t. (f t.span, a_type_spec t)) (map (new_type_spec same rs c q) ts))

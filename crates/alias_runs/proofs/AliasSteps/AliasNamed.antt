@@ -14,8 +14,8 @@ use Rattle.go_tree.specs.GoTypes.Programs.{Headed, Program, headed}
 use Rattle.go_tree.specs.GoTypes.Collect.{env_of, aliased_world}
 use Rattle.typed_in_place.specs.SameFacts.{NoneAround, SameType}
 use Rattle.typed_in_place.specs.Leaves.{Names}
-use Rattle.typed_in_place.specs.Aliases.{DeclaresAlias, TypesEnd, after_types, after_values, at_last}
-use Rattle.typed_in_place.proofs.DeclaredAliases.{as_declared, alias_means, alias_means_typed, alias_means_valued}
+use Rattle.typed_in_place.specs.Aliases.{DeclaresAlias, TypesEnd, after_types, after_names, after_values, at_last}
+use Rattle.typed_in_place.proofs.DeclaredAliases.{as_declared, alias_means, alias_means_typed, alias_means_named, alias_means_valued}
 use Rattle.typed_in_place.proofs.DeclaredAliasStands.{text-resolved, text-meant, declared_alias_stands}
 use Rattle.typed_in_place.proofs.MethodsAside.{alias_means_last}
 use Rattle.run_rules.specs.Surroundings.{Place, is_local}
@@ -47,6 +47,7 @@ module _ {S : Type 0} (ps : Program S) (h : Headed S) (a : TypeSpec S) (top : En
   -- the name of the alias at an end of rounds
   pub alias-entity : {w : World} → DeclaresAlias ps (headed ps) h a → TypesEnd ps (headed ps) w → means (block_of w.blocks h.home) a.name.name ≡ Some (as_declared (type_meant (env_of w h None) a.of))
   alias-entity d after_types = alias_means_typed ps (headed ps) h a d.header d.alias d.sound d.named d.home d.first d.in_program
+  alias-entity d after_names = alias_means_named ps (headed ps) h a d.header d.alias d.sound d.named d.home d.first d.in_program
   alias-entity d after_values = alias_means_valued ps (headed ps) h a d.header d.alias d.sound d.named d.home d.first d.in_program
   alias-entity d at_last = alias_means_last ps (headed ps) h a d.header d.alias d.sound d.named d.home d.first d.in_program
 

@@ -17,7 +17,7 @@ use Rattle.go_tree.specs.GoTypes.Programs.{Program}
 use Rattle.go_tree.specs.GoTypes.Collect.{file_env}
 use Rattle.go_tree.specs.GoTypes.WellTyped.{well_typed}
 use Rattle.typed_in_place.specs.Leaves.{plain_name}
-use Rattle.typed_in_place.specs.ProgramReplaced.{ValuesEnd, after_values, at_last, all_of_none}
+use Rattle.typed_in_place.specs.ProgramReplaced.{ValuesEnd, after_names, after_values, at_last, all_of_none}
 use Rattle.typed_in_place.proofs.ProgramsReplaced.{stays_well_typed_beside}
 use Rattle.go_translation.specs.Packages.{Package, codes_of}
 use Rattle.typed_in_place.specs.ProgramsAlike.{no_more, and_more}
@@ -111,10 +111,12 @@ module _ (rs : List (run.Package ℕ)) (pk : run.Package ℕ) (tree : File ℕ) 
   )
 
   called_before : (w : World) → ValuesEnd (before ++ []) w → AtNth (DeclOfPackage (WholeUses nat_eq rs 37 called 0 pk tree w) 0 2) 0 before
+  called_before _ after_names = called_there _ refl refl
   called_before _ after_values = called_there _ refl refl
   called_before _ at_last = called_there _ refl refl
 
   called_after : (w : World) → ValuesEnd (form_put nat_eq rs 37 called 0 pk tree 0 0 2 before ++ []) w → AtNth (DeclOfPackage (WholeUses nat_eq rs 37 called 0 pk tree w) 0 2) 0 before
+  called_after _ after_names = called_there _ refl refl
   called_after _ after_values = called_there _ refl refl
   called_after _ at_last = called_there _ refl refl
 
@@ -151,10 +153,12 @@ module _ (rs : List (run.Package ℕ)) (pk : run.Package ℕ) (tree : File ℕ) 
   )
 
   written_before : (w : World) → ValuesEnd (before ++ []) w → AtNth (DeclOfPackage (WholeUses nat_eq rs 32 written 0 pk tree w) 0 2) 0 before
+  written_before _ after_names = written_there _ refl
   written_before _ after_values = written_there _ refl
   written_before _ at_last = written_there _ refl
 
   written_after : (w : World) → ValuesEnd (form_put nat_eq rs 32 written 0 pk tree 0 0 2 before ++ []) w → AtNth (DeclOfPackage (WholeUses nat_eq rs 32 written 0 pk tree w) 0 2) 0 before
+  written_after _ after_names = written_there _ refl
   written_after _ after_values = written_there _ refl
   written_after _ at_last = written_there _ refl
 

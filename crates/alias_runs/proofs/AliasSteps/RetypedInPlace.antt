@@ -10,6 +10,7 @@ use Rattle.typed_in_place.specs.Replaced.{TypeOptionReplaced, no_type, some_type
 use Rattle.typed_in_place.proofs.Leaves.{type_itself, exprs_themselves}
 use Rattle.typed_in_place.specs.ProgramReplaced.{at_last, InPlaceBeside, All, Apart}
 use Rattle.typed_in_place.proofs.ProgramsReplaced.{one_by_one}
+use Rattle.typed_in_place.proofs.NameRounds.SinglesStand.{bodies_themselves}
 use Rattle.constant_steps.specs.StepLaws.DeclStands.{BodyStands, of_function, of_constants, of_variables, of_type, HeaderStands, FilesBy, no_files, and_file, ProgramBy, ValuesAlike, WholeAlike, body_there}
 use Rattle.constant_steps.proofs.StepLaws.StepInPlace.{step-in-place}
 use Rattle.alias_runs.specs.AliasTexts.Retyped as retyped
@@ -63,8 +64,8 @@ module _ {S : Type 0} where
   params-itself around env (p ∷ ps) = in_param (name-itself p.name) (same_type (type_itself around env p.of)) (params-itself around env ps)
 
   header-itself : (at : Option ℕ → Env) (inside : Func S → Env) (h : Header S) → HeaderRetyped at inside h h
-  header-itself at inside (constants ns t es i) = retyped.of_constants (written-itself [] (at (Some i)) t) (exprs_themselves [] (at (Some i)) es) refl
-  header-itself at inside (variables ns t es) = retyped.of_variables (written-itself [] (at None) t) retyped.same_exprs refl
+  header-itself at inside (constants ns t es i) = retyped.of_constants (written-itself [] (at (Some i)) t) (exprs_themselves [] (at (Some i)) es) (bodies_themselves es)
+  header-itself at inside (variables ns t es) = retyped.of_variables (written-itself [] (at None) t) retyped.same_exprs (bodies_themselves es)
   header-itself at inside (a_type_spec t) = retyped.of_type_spec t (same_type (type_itself [] (at None) t.of))
   header-itself at inside (a_func f) = retyped.of_function f (record { params = params-itself [] (at None) f.sig.params; results = params-itself [] (at None) f.sig.results }) retyped.same_stmts
 

@@ -10,7 +10,7 @@ use Rattle.go_tree.specs.GoTypes.TypeNames.{resolved}
 use Rattle.go_tree.specs.GoTypes.Programs.{SourceFile, SourcePackage, Program, headed, block_names, file_block}
 use Rattle.go_tree.specs.GoTypes.Collect.{file_env, declared_types, types_declared, aliased_world, typed_world}
 use Rattle.typed_in_place.specs.ProgramsAlike.{OneByOne, AliasesStand, TypesStand}
-use Rattle.typed_in_place.proofs.Collected.{declared_types_same, aliases_same, types_same}
+use Rattle.typed_in_place.proofs.SamePrograms.{declared_types_same, aliases_same, types_same}
 use Rattle.typed_in_place.proofs.ProgramsReplaced.{one_by_one, replaced_aliases_stand, replaced_types_stand}
 use Rattle.run_rules.specs.FormTrees.{Form, as_expr}
 use Rattle.run_rules.specs.Programs.{top_place}

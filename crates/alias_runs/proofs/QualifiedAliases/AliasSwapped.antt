@@ -16,7 +16,7 @@ use Rattle.typed_in_place.specs.Aliases.{TypesEnd}
 use Rattle.typed_in_place.specs.ImportRule.{package_imports}
 use Rattle.typed_in_place.specs.Aliases as ends
 use Rattle.typed_in_place.specs.Leaves.{Names, plain_name, qualified_name}
-use Rattle.typed_in_place.specs.ProgramReplaced.{ValuesEnd, after_values, at_last}
+use Rattle.typed_in_place.specs.ProgramReplaced.{ValuesEnd, after_names, after_values, at_last}
 use Rattle.typed_in_place.proofs.Rising.{and_first, and_second}
 use Rattle.go_translation.specs.Packages as translated
 use Rattle.go_translation.specs.Packages.{sources, are_distinct, are_linked, are_well_typed}
@@ -48,6 +48,7 @@ nothing-behind [] = refl
 nothing-behind (x ∷ xs) = ap (λ l. x ∷ l) (nothing-behind xs)
 
 pub values-end : {S : Type 0} (ps : Program S) (w : World) → ValuesEnd ps w → TypesEnd ps (headed ps) w
+values-end ps _ after_names = ends.after_names
 values-end ps _ after_values = ends.after_values
 values-end ps _ at_last = ends.at_last
 

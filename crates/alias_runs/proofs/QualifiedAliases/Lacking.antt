@@ -10,12 +10,14 @@ use Rattle.go_tree.specs.GoTypes.Entities.{Entity, refused, universe, World, Bin
 use Rattle.go_tree.specs.GoTypes.Statements.{bind_each, bound_names}
 use Rattle.go_tree.specs.GoTypes.Programs as source
 use Rattle.go_tree.specs.GoTypes.Programs.{Header, Headed, SourceFile, SourcePackage, Program, all_headers, header_names, names_in, headed_file, headed_files, headed_package, headed, file_block, is_main}
-use Rattle.go_tree.specs.GoTypes.Collect.{alias_entity, good_entity, declared_by, entity_binds, binds_or_refused, block_by, aliased_world, types_declared, typed_world, valued_world}
-use Rattle.typed_in_place.specs.Aliases.{after_types, after_values, at_last}
+use Rattle.go_tree.specs.GoTypes.Collect.{alias_entity, good_entity, declared_by, entity_binds, binds_or_refused, block_by, DeclaredTypes, value_round, aliased_world, types_declared, typed_world, named_world, valued_world}
+use Rattle.go_tree.specs.GoTypes.SingleNames.{by_names}
+use Rattle.typed_in_place.specs.Aliases.{after_types, after_names, after_values, at_last}
 use Rattle.typed_in_place.specs.Declared.{HasNumber}
 use Rattle.typed_in_place.specs.Known.{BlockClearer, end_of_block, was_refused, was_known}
 use Rattle.typed_in_place.proofs.Blocks.{Fits}
-use Rattle.typed_in_place.proofs.Collected.{aliased_settled, typed_settled, valued_settled}
+use Rattle.typed_in_place.proofs.Collected.{aliased_settled, typed_settled, named_settled, valued_settled}
+use Rattle.typed_in_place.proofs.NameRounds.FirstNames.{Lacks, names_lack}
 use Rattle.typed_in_place.proofs.Headers.{alias_phase, type_phase, value_phase}
 use Rattle.typed_in_place.proofs.SameUses.{Within, each_within}
 use Rattle.typed_in_place.proofs.SettledNames.{block_of_package}
@@ -52,8 +54,7 @@ not-within n ns names w e = go (is_among n ns) refl
 module _ {S : Type 0} where
   -- no header in a package with this number has the name
   abbrev pub NoneHas : List ℕ → ℕ → List (Headed S) → Type 0
-  NoneHas n p [] = Unit {0}
-  NoneHas n p (h ∷ hs) = ((nat_eq h.home p && is_among n (header_names h.header)) ≡ false) × NoneHas n p hs
+  NoneHas n p hs = Lacks n p hs
 
   bound-by : (h : Headed S) (r : Option Binds) → Fits h r → bound_names (bind_each refused (header_names h.header)) ≡ bound_names (binds_or_refused h r)
   bound-by h None f = refl
@@ -70,13 +71,20 @@ module _ {S : Type 0} where
           ∙ ap (λ o. or_else o (means (block_by f p hs) n)) (unbound n (binds_or_refused h (f h)) (ap (is_among n) (sym (bound-by h (f h) (fit h))) ∙ not-within n (bound_names (bind_each refused (header_names h.header))) (header_names h.header) (each_within refused (header_names h.header)) e))
           ∙ r
 
+  -- in a world that a further round leaves as it is
+  settled-lacks : (ps : Program S) (hs : List (Headed S)) (ds : DeclaredTypes) (w : World) → value_round ps hs ds w ≡ w → (n : List ℕ) (p : ℕ) → HasNumber p ps → NoneHas n p hs → means (block_of w.blocks p) n ≡ None
+  settled-lacks ps hs ds w settled n p number q =
+      ap (λ bs. means (block_of bs p) n) (sym (ap (λ w. w.blocks) settled))
+      ∙ ap (λ m. means m n) (block_of_package (declared_by ds w) hs p number)
+      ∙ block-lacks (declared_by ds w) (λ k. (value_phase ds w).fits w.blocks k) n p hs q
+
+  names-lack : (ps : Program S) (n : List ℕ) (p : ℕ) → HasNumber p ps → NoneHas n p (headed ps) → means (block_of (named_world ps (headed ps)).blocks p) n ≡ None
+  names-lack ps n p number q =
+      settled-lacks ps (by_names (headed ps)) (types_declared ps (headed ps)) (named_world ps (headed ps)) (named_settled ps (headed ps)) n p number (names_lack n p (headed ps) q)
+
   values-lack : (ps : Program S) (n : List ℕ) (p : ℕ) → HasNumber p ps → NoneHas n p (headed ps) → means (block_of (valued_world ps (headed ps)).blocks p) n ≡ None
   values-lack ps n p number q =
-      let w : World = valued_world ps (headed ps) in
-      let f : (Headed S → Option Binds) = declared_by (types_declared ps (headed ps)) w in
-      ap (λ bs. means (block_of bs p) n) (sym (ap (λ w. w.blocks) (valued_settled ps (headed ps))))
-      ∙ ap (λ m. means m n) (block_of_package f (headed ps) p number)
-      ∙ block-lacks f (λ k. (value_phase (types_declared ps (headed ps)) w).fits w.blocks k) n p (headed ps) q
+      settled-lacks ps (headed ps) (types_declared ps (headed ps)) (valued_world ps (headed ps)) (valued_settled ps (headed ps)) n p number q
 
   -- where the rounds of declarations end
   pub world-lacks : (ps : Program S) (n : List ℕ) (p : ℕ) → HasNumber p ps → NoneHas n p (headed ps) → {w : World} → AliasEnd ps w → means (block_of w.blocks p) n ≡ None
@@ -92,6 +100,7 @@ module _ {S : Type 0} where
       ap (λ bs. means (block_of bs p) n) (sym (ap (λ w. w.blocks) (typed_settled ps (headed ps))))
       ∙ ap (λ m. means m n) (block_of_package f (headed ps) p number)
       ∙ block-lacks f (λ k. (type_phase (types_declared ps (headed ps)) w).fits w.blocks k) n p (headed ps) q
+  world-lacks ps n p number q (with_types after_names) = names-lack ps n p number q
   world-lacks ps n p number q (with_types after_values) = values-lack ps n p number q
   world-lacks ps n p number q (with_types at_last) = values-lack ps n p number q
 

@@ -23,13 +23,13 @@ use Rattle.go_tree.specs.GoTypes.TypeNames.{type_meant}
 use Rattle.go_tree.specs.GoTypes.Literals.{is_struct, key_type, inner_type, literal_type}
 use Rattle.go_tree.specs.GoTypes.Typing.{parts, range_declares, binds_of, literal_env, nothing_to_repeat, used}
 use Rattle.go_tree.specs.GoTypes.Programs.{Header, constants, variables, a_type_spec, a_func}
-use Rattle.go_tree.specs.GoTypes.Bodiless.{all_bodiless}
 use Rattle.go_tree.specs.GoTypes.WellTyped.{receiver_names}
 use Rattle.go_translation.specs.Facts.{binds_after, binds_first, spec_binds}
 use Rattle.typed_in_place.specs.SameFacts.{NoneAround}
 use Rattle.typed_in_place.specs.Leaves.{Names, NamesType}
 use Rattle.typed_in_place.specs.Replaced.{TypeReplaced, TypeOptionReplaced, SigReplaced, ExprsReplaced}
 use Rattle.typed_in_place.specs.Replaced.{ConstantsReplaced}
+use Rattle.typed_in_place.specs.HeaderReplaced.{BodilessAlike}
 
 -- an expression that is a type, by its name or as a type's text
 pub data PlainType {S : Type 0} (env : Env) : Expr S → GoType → Type 0 where
@@ -264,11 +264,11 @@ pub data HeaderRetyped {S : Type 0} (at : Option ℕ → Env) (inside : Func S �
   of_constants :
       {ns : List (NameAt S)} {t u : Option (TypeExpr S)} {es fs : Exprs S} {i : ℕ} →
       TypeOptionReplaced [] (at (Some i)) t u → ExprsReplaced [] (at (Some i)) es fs →
-      all_bodiless es ≡ all_bodiless fs → HeaderRetyped at inside (constants ns t es i) (constants ns u fs i)
+      BodilessAlike es fs → HeaderRetyped at inside (constants ns t es i) (constants ns u fs i)
   of_variables :
       {ns : List (NameAt S)} {t u : Option (TypeExpr S)} {es fs : Exprs S} →
       TypeOptionReplaced [] (at None) t u →
-      ExprsRetyped [] (at None) es fs → all_bodiless es ≡ all_bodiless fs →
+      ExprsRetyped [] (at None) es fs → BodilessAlike es fs →
       HeaderRetyped at inside (variables ns t es) (variables ns u fs)
   of_type_spec :
       (t : TypeSpec S) {u : TypeExpr S} →

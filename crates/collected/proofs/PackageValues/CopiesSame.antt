@@ -142,8 +142,8 @@ module _ (ps : Program Span) where
         at : (i : ℕ) × (slice_get hs i ≡ Some h)
         at = first_at n h hs f.first
 
-        c : CodeAt files headers h at.0
-        c = code_at files headers hs are at.0 h at.1
+        c : CodeAt listed_of files headers h at.0
+        c = code_at listed_of files headers hs are at.0 h at.1
 
     none_read : (o : Option Entity) → entity_option e cs o ≡ None → o ≡ None
     none_read None q = refl

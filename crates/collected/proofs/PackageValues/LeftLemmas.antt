@@ -1,28 +1,17 @@
 -- The headers that are left are those that are refused.
-use Rattle.std.proofs.Common.{◌≡◌, ◌∙◌, ◌&&◌, ◌++◌, ◌+◌, ℕ, suc, Bool, true, false, not, cond, List, [], ◌∷◌, Option, Some, None, refl, sym, ap, ap₂, length, map, drop, arith}
-use Rattle.std.specs.Prelude.{◌⊎◌, if◌then◌else◌, is_none, is_some, replicate, slice_get}
-use Rattle.std.proofs.Common.{inl, inr, append_assoc, add-one}
+use Rattle.std.proofs.Common.{◌≡◌, ◌∙◌, ◌&&◌, ◌++◌, ◌+◌, ℕ, suc, Bool, true, false, not, cond, List, [], ◌∷◌, Option, Some, None, refl, sym, ap, ap₂, length, map, drop, arith, append_assoc, add-one}
+use Rattle.std.specs.Prelude.{if◌then◌else◌, is_none, is_some, slice_get}
 use Rattle.go_tree.specs.declared.spans.Span.{Span}
 use Rattle.go_tree.specs.GoTypes.Entities.{World}
 use Rattle.go_tree.specs.GoTypes.Programs.{Headed, Program, headed}
 use Rattle.go_tree.specs.GoTypes.TypeDeclarations.{DeclaredTypes}
 use Rattle.go_tree.specs.GoTypes.Collect.{declared_by, types_declared, valued_world}
-use Rattle.pkg_graph.specs.declared.packages.Package.{Package}
 use Rattle.typed_names.specs.declared.scopes.Scope.{Scope}
-use Rattle.typed_names.specs.Meanings.{Names, world_at}
-use Rattle.declared_types.specs.Members.{Below, SameMembers}
-use Rattle.declared_types.proofs.NamesClearer.{keeps_none, same_clearer}
 use Rattle.package_blocks.specs.declared.headers.PackageHeader.{PackageHeader}
 use Rattle.package_blocks.specs.Headers.{AreHeaders, Listed, a_header, header_of, listed_of, no_headers}
-use Rattle.package_blocks.specs.FuncHeaders.Functions.{numbers_where, program_of}
-use Rattle.operand_modes.specs.declared.checker_tables.tables.Tables.{Tables}
-use Rattle.value_rounds.specs.Values.{OthersAreDeclared, ValuesAreDeclared, is_refused_value, is_value}
-use Rattle.value_rounds.specs.Steps.{HasNoMore}
-use Rattle.value_rounds.proofs.Kept.{value_keeps}
-use Rattle.value_rounds.proofs.Rounds.{same_types}
-use Rattle.value_rounds.proofs.SoFar.{found_is_all, nothing_is_found}
-use Rattle.collected.specs.PackageValues.Passes.{AreFound, AreLooked, Looked, left_numbers}
-use Rattle.collected.proofs.PackageValues.LookLemmas.{all_looked, unmarked}
+use Rattle.package_blocks.specs.FuncHeaders.Functions.{numbers_where}
+use Rattle.value_rounds.specs.Values.{ValuesAreDeclared, is_refused_value, is_value}
+use Rattle.collected.specs.PackageValues.Passes.{AllKept, left_numbers}
 
 -- ---- headers one by one
 
@@ -58,82 +47,27 @@ module _ (files : List Scope) (ds : DeclaredTypes) (v : World) where
 
 -- ---- the end
 
-no_more : {A : Type 0} (o : Option A) → o ≡ None → is_none o ≡ true
-no_more o e = ap is_none e
+none_where : {A : Type 0} (o : Option A) (b : Bool) → is_some o ≡ b → is_none o ≡ not b
+none_where None true e = absurd (grind (arith, e))
+none_where None false e = refl
+none_where (Some x) true e = refl
+none_where (Some x) false e = absurd (grind (arith, e))
 
-some_more : {A : Type 0} (o : Option A) → is_some o ≡ true → is_none o ≡ false
-some_more None e = absurd (grind (arith, e))
-some_more (Some x) e = refl
-
-module _ (files : List Scope) (headers : List PackageHeader) (m : Tables) (bs : List Names) (marks : List Bool)
-    (packages : List Package) (are : AreHeaders files (map listed_of headers) (headed (program_of packages)))
-    (f : AreFound (program_of packages) (world_at m.env m.consts bs) marks)
-    (looked : AreLooked files headers m bs marks) (count : length marks ≡ length headers) where
-  abbrev ps : Program Span
-  ps = program_of packages
-
-  abbrev w : World
-  w = world_at m.env m.consts bs
-
-  abbrev v : World
-  v = valued_world ps (headed ps)
-
-  members : SameMembers w v
-  members = found_is_all ps w f.so_far (all_looked files headers m bs marks packages are f looked)
-
-  defined : w.defined ≡ v.defined
-  defined = f.so_far.defined ∙ sym (same_types ps)
-
-  back : Below v w
-  back p n = same_clearer (sym (members p n))
-
-  tells :
-      (j : ℕ) (h : Headed Span) (b : Bool) → slice_get (headed ps) j ≡ Some h → slice_get marks j ≡ Some b →
-      is_value h.header ≡ true → is_none (declared_by (types_declared ps (headed ps)) v h) ≡ not b
-  tells j h true at marked value = some_more (declared_by (types_declared ps (headed ps)) v h) (f.known j h marked at).declared
-  tells j h false at marked value = by (looked j packages are h at value)
-    where
-      by :
-          (slice_get marks j ≡ Some true) ⊎ HasNoMore ps w h →
-          is_none (declared_by (types_declared ps (headed ps)) v h) ≡ true
-      by (inl e) =
-          let z : Some false ≡ Some true = sym marked ∙ e in
-          let y : false ≡ true = cc in
-          absurd (grind (arith, y))
-      by (inr e) =
-          no_more (declared_by (types_declared ps (headed ps)) v h)
-          (keeps_none (value_keeps (types_declared ps (headed ps)) h value v w (sym defined) back) e)
-
-  pub values_declared :
-      (left : List ℕ) → left ≡ left_numbers 0 headers marks → ValuesAreDeclared ps w left
-  values_declared left is =
-      record {
-        members = members;
-        defined = defined;
-        refused_are =
-            is
-            ∙ left_in files (types_declared ps (headed ps)) v (map listed_of headers) (headed ps) are headers refl marks
-            count 0 tells;
-      }
-
--- from the start on
-pub values_found :
-    (files : List Scope) (headers : List PackageHeader) (k m : Tables) (start bs : List Names) (marks more : List Bool)
-    (n : ℕ) → marks ≡ replicate n false → Looked files headers k start marks m bs more →
-    AreLooked files headers m bs more → length more ≡ length headers → (left : List ℕ) →
-    left ≡ left_numbers 0 headers more → (packages : List Package) →
-    AreHeaders files (map listed_of headers) (headed (program_of packages)) →
-    OthersAreDeclared (program_of packages) (world_at k.env k.consts start) →
-    ValuesAreDeclared (program_of packages) (world_at m.env m.consts bs) left
-values_found files headers k m start bs marks more n empty r looked count left is packages are d =
-    let ps = program_of packages in
-    values_declared files headers m bs more packages are
-    (r.found packages are
-    (record {
-      so_far = nothing_is_found ps (world_at k.env k.consts start) d;
-      known = λ i h marked at. absurd (unmarked n i (sym (ap (λ l. slice_get l i) empty) ∙ marked));
-    }))
-    looked count left is
+pub values_declared :
+    (files : List Scope) (headers : List PackageHeader) (ps : Program Span) (w : World) (marks : List Bool) →
+    AreHeaders files (map listed_of headers) (headed ps) → AllKept ps w marks → length marks ≡ length headers →
+    (left : List ℕ) → left ≡ left_numbers 0 headers marks → ValuesAreDeclared ps w left
+values_declared files headers ps w marks are a count left is =
+    let ds : DeclaredTypes = types_declared ps (headed ps) in
+    let v : World = valued_world ps (headed ps) in
+    record {
+      members = a.members;
+      defined = a.defined;
+      refused_are =
+          is
+          ∙ left_in files ds v (map listed_of headers) (headed ps) are headers refl marks count 0
+          (λ j h b at marked value. none_where (declared_by ds v h) b (a.tells j h b at marked value));
+    }
 
 -- ---- numbers one by one
 

@@ -1,5 +1,5 @@
 -- The values of one header are declared.
-use Rattle.std.proofs.Common.{◌≡◌, ◌∙◌, ℕ, Bool, true, false, List, Option, Some, None, Result, Ok, Err, refl, sym, ap, ap₂, subst, map, nat_eq}
+use Rattle.std.proofs.Common.{◌≡◌, ◌∙◌, ℕ, Bool, true, false, List, Option, Some, None, Result, Ok, Err, refl, sym, ap, ap₂, subst, map, nat_eq, arith}
 use Rattle.std.specs.Prelude.{if◌then◌else◌, IfOk, is_some, slice_get}
 use Rattle.go_tree.specs.declared.spans.Span.{Span}
 use Rattle.go_tree.specs.declared.const_eval.consts.Const.{Const}
@@ -7,6 +7,7 @@ use Rattle.go_tree.specs.ScopeNames.Means.{means}
 use Rattle.go_tree.specs.GoTypes.Answers.{only_if}
 use Rattle.go_tree.specs.GoTypes.Entities.{Binds, World}
 use Rattle.go_tree.specs.GoTypes.Programs.{Header, Headed, Program, header_names, headed}
+use Rattle.go_tree.specs.GoTypes.TypeDeclarations.{DeclaredTypes}
 use Rattle.go_tree.specs.GoTypes.Collect.{declared_by, good_entity, types_declared}
 use Rattle.typed_in_place.proofs.Headers.{declared_in}
 use Rattle.type_table.specs.TypeRelations.Environment.{Environment}
@@ -17,8 +18,8 @@ use Rattle.typed_names.specs.declared.scopes.Scope.{Scope}
 use Rattle.typed_names.specs.Meanings.{Names, entity_at, world_at}
 use Rattle.declared_types.specs.Headers.{IsFileOf}
 use Rattle.declared_types.specs.Members.{member}
-use Rattle.package_blocks.specs.declared.headers.PackageHeader.{PackageHeader}
-use Rattle.package_blocks.specs.Headers.{header_of}
+use Rattle.package_blocks.specs.declared.headers.HeaderKind.{HeaderKind}
+use Rattle.package_blocks.specs.Headers.{Listed, header_of}
 use Rattle.operand_modes.specs.declared.checker_tables.tables.Tables.{Tables}
 use Rattle.operand_modes.specs.CheckerTables.Ready.{AreReady, Keeps}
 use Rattle.initial_values.specs.ValueEntities.Entities.{GivesBinds, bound}
@@ -122,14 +123,21 @@ pub under_condition :
 under_condition (Ok x) P Q q = λ p. q
 under_condition (Err e) P Q q = tt
 
--- ---- a header of the code
+-- ---- a kind of header that isn't one of values
 
-module _ (files : List Scope) (c : PackageHeader) (k m : Tables) (bs ds : List Names) where
+pub no_value :
+    (x y : HeaderKind) → x ≡ y → is_value (header_of y) ≡ false → is_value (header_of x) ≡ true → ⊥
+no_value x y e none some =
+    let z : true ≡ false = sym some ∙ ap (λ k. is_value (header_of k)) e ∙ none in
+    absurd (grind (arith, z))
+
+-- ---- a header that is listed
+
+module _ (files : List Scope) (l : Listed) (k m : Tables) (bs ds : List Names) where
   -- in its file
   pub header_set :
-      (file : Scope) (well : Bool) → slice_get files c.file ≡ Some file → c.sound ≡ true →
-      (is_value (header_of c.kind) ≡ true → SetsValues k bs m ds file (header_of c.kind) well) →
-      SetsHeader files c k bs m ds well
+      (file : Scope) (well : Bool) → slice_get files l.file ≡ Some file → l.sound ≡ true →
+      (is_value l.header ≡ true → SetsValues k bs m ds file l.header well) → SetsHeader files l k bs m ds well
   header_set file well there sound set ps h is value =
       let same : Some file ≡ Some is.scope = sym there ∙ is.there in
       let scope_is : file ≡ is.scope = cc in
@@ -137,24 +145,29 @@ module _ (files : List Scope) (c : PackageHeader) (k m : Tables) (bs ds : List N
       (sym is.sound ∙ sound)
 
   pub header_answered :
-      {E : Type 0} (file : Scope) (o : Result Bool E) → slice_get files c.file ≡ Some file → c.sound ≡ true →
-      IfOk o (λ well. is_value (header_of c.kind) ≡ true → SetsValues k bs m ds file (header_of c.kind) well) →
-      IfOk o (SetsHeader files c k bs m ds)
+      {E : Type 0} (file : Scope) (o : Result Bool E) → slice_get files l.file ≡ Some file → l.sound ≡ true →
+      IfOk o (λ well. is_value l.header ≡ true → SetsValues k bs m ds file l.header well) →
+      IfOk o (SetsHeader files l k bs m ds)
   header_answered file (Ok well) there sound set = header_set file well there sound set
   header_answered file (Err z) there sound set = tt
 
   -- in none
-  pub header_gone : slice_get files c.file ≡ None → (well : Bool) → SetsHeader files c k bs m ds well
+  pub header_gone : slice_get files l.file ≡ None → (well : Bool) → SetsHeader files l k bs m ds well
   header_gone gone well ps h is value =
       let z : None ≡ Some is.scope = sym gone ∙ is.there in
       absurd cc
 
+-- a header that may not be declared declares nothing
+pub unsound_none :
+    (ds : DeclaredTypes) (x : World) (h : Headed Span) → h.sound ≡ false → declared_by ds x h ≡ None
+unsound_none ds x h e = ap (λ b. only_if b (declared_in x h (good_entity ds x h) h.header)) e
+
 -- one that may not be declared
-module _ (files : List Scope) (c : PackageHeader) (k : Tables) (bs : List Names) (wrong : c.sound ≡ false) where
+module _ (files : List Scope) (l : Listed) (k : Tables) (bs : List Names) (wrong : l.sound ≡ false) where
   abbrev old : World
   old = world_at k.env k.consts bs
 
-  pub header_unsound : SetsHeader files c k bs k bs false
+  pub header_unsound : SetsHeader files l k bs k bs false
   header_unsound ps h is value =
       record {
         answer = sym (ap is_some none);
@@ -165,9 +178,7 @@ module _ (files : List Scope) (c : PackageHeader) (k : Tables) (bs : List Names)
       }
     where
       none : declared_by (types_declared ps (headed ps)) old h ≡ None
-      none =
-          ap (λ b. only_if b (declared_in old h (good_entity (types_declared ps (headed ps)) old h) h.header))
-          (sym is.sound ∙ wrong)
+      none = unsound_none (types_declared ps (headed ps)) old h (sym is.sound ∙ wrong)
 
       alike : {A : Type 0} (b : Bool) (o : A) → o ≡ (if b then o else o)
       alike true o = refl

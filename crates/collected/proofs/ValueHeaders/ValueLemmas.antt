@@ -1,7 +1,13 @@
 -- The values of a header are those that its file's place gives.
-use Rattle.std.proofs.Common.{◌≡◌, ◌∙◌, ℕ, List, [], ◌∷◌, Option, Some, None, Result, Ok, Err, refl, ap, length}
+use Rattle.std.proofs.Common.{◌≡◌, ◌∙◌, ℕ, true, List, [], ◌∷◌, Option, Some, None, Result, Ok, Err, refl, sym, ap, length}
 use Rattle.go_tree.specs.declared.spans.Span.{Span}
-use Rattle.go_tree.specs.Tree.{NameAt, TypeExpr, Exprs, no_exprs}
+use Rattle.std.specs.Borrow.{Bor}
+use Rattle.std.specs.Option.{option_map}
+use Rattle.go_tree.specs.declared.exprs.Expr as expression
+use Rattle.go_tree.specs.declared.texts.NameAt as source
+use Rattle.go_tree.specs.declared.types.TypeExpr as written
+use Rattle.go_tree.specs.View.{expr_of, name_at_of, type_of}
+use Rattle.go_tree.specs.Tree.{NameAt, TypeExpr, Exprs, no_exprs, expr_and}
 use Rattle.go_tree.specs.ScopeNames.FreeNames.{names_of}
 use Rattle.go_tree.specs.GoTypes.Answers.{only_if}
 use Rattle.go_tree.specs.GoTypes.Entities.{Env}
@@ -18,6 +24,12 @@ use Rattle.initial_values.specs.ValueEntities.Entities.{GivesBinds}
 use Rattle.initial_values.specs.ValuePlaces.Names.{value_names}
 use Rattle.initial_values.specs.ValuePlaces.Places.{IsValuePlace}
 use Rattle.initial_values.proofs.ValuePlaces.PlaceLemmas.{constants_nowhere, constants_there, variables_there}
+use Rattle.initial_values.specs.Spelled.{HasGoodLiterals}
+use Rattle.initial_values.specs.ValueEntities.Headers.{HasSpelledValues}
+use Rattle.value_rounds.specs.Values.{is_value}
+use Rattle.collected.specs.declared.single_headers.SingleKind.{SingleKind}
+use Rattle.collected.specs.declared.single_headers.SingleKind.TheVariants as kind
+use Rattle.collected.specs.SingleHeaders.Singles.{named_by, single_of}
 use Rattle.collected.specs.ValueHeaders.Values.{AreAnswered, AreEntitiesIfOk, GivesValues, HasCount}
 
 module _ (k m : Tables) (bs : List Names) (file : Scope) (xs : List (NameAt Span)) where
@@ -101,3 +113,27 @@ module _ (k m : Tables) (bs : List Names) (file : Scope) (x : Header Span) where
   entities_given (Ok xs) g = g.given.there
   entities_given (Err NotTyped) g = tt
   entities_given (Err NoMemory) g = tt
+
+-- ---- a single name
+
+-- it is the name of its header
+pub one_named :
+    (n : NameAt Span) (t : Option (TypeExpr Span)) (es : Exprs Span) (i : Option ℕ) →
+    header_names (named_by (n ∷ []) t es i) ≡ n.name ∷ []
+one_named n t es (Some i) = refl
+one_named n t es None = refl
+
+-- the literals of its value are well spelled where those of the header are
+pub one_spelled :
+    (n : source.NameAt) (t : Option written.TypeExpr) (e : expression.Expr) (i : Option ℕ) →
+    HasSpelledValues (named_by (name_at_of n ∷ []) (option_map type_of t) (expr_and (expr_of e) no_exprs) i) →
+    HasGoodLiterals (expr_of e)
+one_spelled n t e (Some i) a = a.0
+one_spelled n t e None a = a.0
+
+-- it is one of a value
+pub one_valued :
+    (k : SingleKind) (n : Bor source.NameAt) (t : Bor (Option written.TypeExpr)) (e : Bor expression.Expr) (i : Option ℕ) →
+    k ≡ kind.One n t e i → true ≡ is_value (single_of k)
+one_valued k n t e (Some i) h = sym (ap (λ x. is_value (single_of x)) h)
+one_valued k n t e None h = sym (ap (λ x. is_value (single_of x)) h)

@@ -16,6 +16,8 @@ use Rattle.package_blocks.specs.declared.headers.PackageHeader.{PackageHeader}
 use Rattle.package_blocks.specs.Headers.{AreHeaders, header_of, listed_of}
 use Rattle.initial_values.specs.Spelled.{AllHaveGoodLiterals}
 use Rattle.initial_values.specs.ValueEntities.Headers.{HasSpelledValues}
+use Rattle.collected.specs.declared.single_headers.SingleHeader.{SingleHeader}
+use Rattle.collected.specs.SingleHeaders.Singles.{single_of}
 
 -- the literals of the values of specs are well spelled
 abbrev pub SpecsAreSpelled : ValueSpecs Span → Type 0
@@ -66,6 +68,11 @@ PackagesAreSpelled ps = PackagesHave DeclsAreSpelled ps
 abbrev pub AreSpelled : List PackageHeader → Type 0
 AreSpelled [] = Unit {0}
 AreSpelled (c ∷ cs) = HasSpelledValues (header_of c.kind) × AreSpelled cs
+
+-- so of single names
+abbrev pub SinglesAreSpelled : List SingleHeader → Type 0
+SinglesAreSpelled [] = Unit {0}
+SinglesAreSpelled (c ∷ cs) = HasSpelledValues (single_of c.kind) × SinglesAreSpelled cs
 
 -- so are those of each file that reads from a text
 abbrev pub ReadValuesAreSpelled : Type 0

@@ -11,7 +11,7 @@ ghost use Rattle.package_blocks.specs.Headers.{header_of, repeated_type, repeate
 ghost use Rattle.initial_values.specs.ValueBlocks.Values.{AreThere};
 ghost use Rattle.initial_values.specs.ValueEntities.Headers.{HasSpelledValues};
 ghost use Rattle.value_rounds.specs.Values.{is_value};
-ghost use Rattle.collected.specs.ValueHeaders.Steps.{SetsHeader, SetsValues};
+ghost use Rattle.collected.specs.ValueHeaders.Steps.{SetsValues};
 
 use crate::value_headers::names::declare_names;
 use crate::value_headers::values::{constant_values, variable_values};
@@ -21,15 +21,22 @@ use package_blocks::{HeaderKind, PackageHeader};
 use std::alloc::Global;
 use typed_names::{Blocks, Scope};
 
+/// Whether a header of this kind is that of constants or of variables.
+pub(crate) fn is_value_kind(kind: HeaderKind) -> bool
+    ensures { result ≡ is_value (header_of kind.entry) }
+{
+    matches!(
+        kind,
+        HeaderKind::Constants { .. } | HeaderKind::Variables(_)
+    )
+}
+
 /// Whether a header is that of constants or of variables (Go specification, Constant declarations; Variable
 /// declarations).
 pub fn is_value(header: &PackageHeader) -> bool
     ensures { result ≡ is_value (header_of header.now.kind) }
 {
-    matches!(
-        header.kind,
-        HeaderKind::Constants { .. } | HeaderKind::Variables(_)
-    )
+    is_value_kind(header.kind)
 }
 
 /// Declares the constants of a header with this number in its group in the block of a package, unless the header is
@@ -80,7 +87,7 @@ fn declare_variables(
 }
 
 /// The same of a header of values; any other declares nothing here.
-fn declare_kind(
+pub(crate) fn declare_kind(
     alloc: Global,
     tables: &mut Tables,
     file: &Scope,
@@ -106,34 +113,5 @@ fn declare_kind(
         HeaderKind::Variables(spec) => declare_variables(alloc, tables, file, blocks, spec),
         HeaderKind::Type(_) => Ok(false),
         HeaderKind::Function(_) => Ok(false),
-    }
-}
-
-/// Declares the constants or the variables of a header in the block of its package, unless the header is refused;
-/// tells whether it isn't. Any other header declares nothing here. The error is want of memory (Go specification,
-/// Constant declarations; Variable declarations; Package block).
-pub fn declare_header(
-    alloc: Global,
-    tables: &mut Tables,
-    files: &[Scope],
-    blocks: &mut Blocks,
-    header: &PackageHeader,
-) -> Result<bool, NoMemory>
-    requires ready { AreReady tables.old }
-    requires there { AreThere tables.old.env tables.old.consts blocks.old }
-    requires spelled { HasSpelledValues (header_of header.now.kind) }
-    ensures ready { IfOk result (λ well. AreReady tables.new) }
-    ensures keeps { IfOk result (λ well. Keeps tables.old tables.new) }
-    ensures there { IfOk result (λ well. AreThere tables.new.env tables.new.consts blocks.new) }
-    ensures same { IfOk result (λ well. well ≡ false → blocks.new ≡ blocks.old) }
-    ensures set { IfOk result
-        (SetsHeader files.now header.now tables.old blocks.old tables.new blocks.new) }
-{
-    if !header.sound {
-        return Ok(false);
-    }
-    match files.get(header.file) {
-        Some(file) => declare_kind(alloc, tables, file, blocks, header.kind),
-        None => Ok(false),
     }
 }

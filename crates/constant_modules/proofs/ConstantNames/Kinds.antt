@@ -1,15 +1,15 @@
 -- What a name of a package block means, by the kind of the header that declares it.
-use Rattle.std.specs.Prelude.{◌≡◌, refl, ℕ, suc, Bool, true, false, ◌&&◌, ◌||◌, List, [], ◌∷◌, ◌++◌, map, Option, Some, None, if◌then◌else◌, bytes_eq, nat_eq}
+use Rattle.std.specs.Prelude.{◌≡◌, refl, ℕ, suc, Bool, true, false, not, ◌&&◌, ◌||◌, List, [], ◌∷◌, ◌++◌, map, Option, Some, None, if◌then◌else◌, bytes_eq, nat_eq}
 use mathlib.Core.Path.{ap, sym, ◌∙◌, subst}
 use Rattle.std.proofs.Common.{arith, inl, inr}
 use Rattle.std.proofs.lemmas.Bool.{cond_both}
 use Rattle.std.proofs.lemmas.Slice.Eq.{bytes_eq-Decides}
 use Rattle.go_tree.specs.declared.const_eval.consts.Const.{Const}
-use Rattle.go_tree.specs.Tree.{NameAt, TypeExpr, Exprs, ValueSpecs, no_specs, spec}
+use Rattle.go_tree.specs.Tree.{NameAt, TypeExpr, Exprs, no_exprs, expr_and, ValueSpecs, no_specs, spec}
 use Rattle.go_tree.specs.File.{TypeSpec, Receiver, Func}
 use Rattle.go_tree.specs.ScopeNames.FreeNames.{names_of}
 use Rattle.go_tree.specs.ScopeNames.Means.{means, is_blank, binding}
-use Rattle.go_tree.specs.GoTypes.Answers.{given, both, only_if, is_among}
+use Rattle.go_tree.specs.GoTypes.Answers.{given, both, only_if, is_empty, is_among}
 use Rattle.go_tree.specs.GoTypes.Types.{GoType, FuncType}
 use Rattle.go_tree.specs.GoTypes.Defined.{Defined}
 use Rattle.go_tree.specs.GoTypes.Entities.{run, exact, shift, Entity, variable, constant, type_name, function, refused, World, Env, Binds, block_of}
@@ -21,13 +21,17 @@ use Rattle.go_tree.specs.GoTypes.Typing.{all_parts}
 use Rattle.go_tree.specs.GoTypes.Initial.{all_initial}
 use Rattle.go_tree.specs.GoTypes.Bodiless.{all_bodiless}
 use Rattle.go_tree.specs.GoTypes.Programs.{Header, constants, variables, a_type_spec, a_func, spec_of, Headed, Program, headed, constant_headers, variable_headers, header_names}
-use Rattle.go_tree.specs.GoTypes.Collect.{env_of, DeclaredTypes, type_entity, spec_type, is_good_type, good_entity, package_constants, package_variables, may_be_main, function_declared, func_declared, declared_by, binds_or_refused, types_declared, valued_world}
+use Rattle.go_tree.specs.GoTypes.Collect.{env_of, DeclaredTypes, type_entity, spec_type, is_good_type, good_entity, package_constants, package_variables, may_be_main, function_declared, func_declared, declared_by, binds_or_refused, blocks_by, types_declared, named_world, valued_world}
+use Rattle.go_tree.specs.GoTypes.SingleNames.{has_value_each, each_alone, single_names, with_header, singly}
 use Rattle.go_tree.proofs.GoTypes.Agreeing.{from_given, from_both, from_only, some_same}
 use Rattle.typed_in_place.specs.Declared.{FirstWith, HasNumber}
 use Rattle.typed_in_place.proofs.Headers.{declared_in, value_phase}
 use Rattle.typed_in_place.proofs.Blocks.{Fits}
-use Rattle.typed_in_place.proofs.Collected.{valued_settled}
-use Rattle.typed_in_place.proofs.SettledNames.{first_means, block_of_package}
+use Rattle.typed_in_place.proofs.Collected.{named_settled, valued_settled}
+use Rattle.typed_in_place.specs.NameRounds.Together.{binds_of_all}
+use Rattle.typed_in_place.proofs.NameRounds.Singles.{wholes, blocks_of_wholes, wholes_fit}
+use Rattle.typed_in_place.specs.ProgramReplaced.{ValuesEnd, after_names, after_values, at_last}
+use Rattle.typed_in_place.proofs.SettledNames.{same_bound, first_means, block_of_package}
 use Rattle.constant_modules.proofs.ConstantNames.Headers.{HasHeader}
 
 same_number : (a : ℕ) → nat_eq a a ≡ true
@@ -288,27 +292,94 @@ module _ {S : Type 0} (ds : DeclaredTypes) (v : World) (h : Headed S) (n : List 
   binds_kind None q = record { kinds = each_is (λ e. IsKind e h.header) refused tt (header_names h.header); bound = each_bound n spelled refused (header_names h.header) }
   binds_kind (Some bs) q = header_binds h.header bs (from_only h.sound (declared_in v h (good_entity ds v h) h.header) bs q)
 
+-- ---- what a header's single names declare
+
+-- what is so of all that is bound
+all_as : {P Q : Entity → Type 0} → ((e : Entity) → P e → Q e) → (bs : Binds) → AllAre P bs → AllAre Q bs
+all_as f [] a = tt
+all_as f (b ∷ bs) a = (f b.1 a.0, all_as f bs a.1)
+
+module _ {S : Type 0} (ds : DeclaredTypes) (v : World) (h : Headed S) (n : List ℕ) (spelled : is_blank n ≡ false) where
+  abbrev g : Headed S → Option Binds
+  g k = declared_by ds v k
+
+  constants_kind : (ns ms : List (NameAt S)) (t u : Option (TypeExpr S)) (es fs : Exprs S) (i j : ℕ) (e : Entity) → IsKind e (constants ns t es i) → IsKind e (constants ms u fs j)
+  constants_kind ns ms t u es fs i j refused k = tt
+  constants_kind ns ms t u es fs i j (constant y c) k = tt
+  constants_kind ns ms t u es fs i j e k = absurd k
+
+  variables_kind : (ns ms : List (NameAt S)) (t u : Option (TypeExpr S)) (es fs : Exprs S) (e : Entity) → IsKind e (variables ns t es) → IsKind e (variables ms u fs)
+  variables_kind ns ms t u es fs refused k = tt
+  variables_kind ns ms t u es fs (variable y) k = tt
+  variables_kind ns ms t u es fs e k = absurd k
+
+  -- one of them
+  one_kind : (x : Header S) → AllAre (λ e. IsKind e x) (binds_or_refused (with_header h x) (g (with_header h x)))
+  one_kind x = (binds_kind ds v (with_header h x) n spelled (g (with_header h x)) refl).kinds
+
+  each_kind : (one : NameAt S → Exprs S → Header S) (P : Entity → Type 0) → ((m : NameAt S) (x : Exprs S) (e : Entity) → IsKind e (one m x) → P e) → (ns : List (NameAt S)) (es : Exprs S) → AllAre P (binds_of_all g (map (with_header h) (each_alone one ns es)))
+  each_kind one P f [] es = tt
+  each_kind one P f (m ∷ ns) no_exprs = tt
+  each_kind one P f (m ∷ ns) (expr_and x es) =
+      let y : Header S = one m (expr_and x no_exprs) in
+      both_are P (binds_or_refused (with_header h y) (g (with_header h y))) (binds_of_all g (map (with_header h) (each_alone one ns es)))
+      (all_as (f m (expr_and x no_exprs)) (binds_or_refused (with_header h y) (g (with_header h y))) (one_kind y)) (each_kind one P f ns es)
+
+  itself_kind : (x : Header S) → AllAre (λ e. IsKind e x) (binds_of_all g (with_header h x ∷ []))
+  itself_kind x = both_are (λ e. IsKind e x) (binds_or_refused (with_header h x) (g (with_header h x))) [] (one_kind x) tt
+
+  names_kind : (x : Header S) → AllAre (λ e. IsKind e x) (binds_of_all g (map (with_header h) (single_names x)))
+  names_kind (a_type_spec t) = itself_kind (a_type_spec t)
+  names_kind (a_func f) = itself_kind (a_func f)
+  names_kind (constants ns t es i) = go (not (is_empty ns) && has_value_each ns es)
+    where
+      go : (b : Bool) → AllAre (λ e. IsKind e (constants ns t es i)) (binds_of_all g (map (with_header h) (if b then each_alone (λ n e. constants (n ∷ []) t e i) ns es else constants ns t es i ∷ [])))
+      go true = each_kind (λ n e. constants (n ∷ []) t e i) (λ e. IsKind e (constants ns t es i)) (λ m x e k. constants_kind (m ∷ []) ns t t x es i i e k) ns es
+      go false = itself_kind (constants ns t es i)
+  names_kind (variables ns t es) = go (not (is_empty ns) && has_value_each ns es)
+    where
+      go : (b : Bool) → AllAre (λ e. IsKind e (variables ns t es)) (binds_of_all g (map (with_header h) (if b then each_alone (λ n e. variables (n ∷ []) t e) ns es else variables ns t es ∷ [])))
+      go true = each_kind (λ n e. variables (n ∷ []) t e) (λ e. IsKind e (variables ns t es)) (λ m x e k. variables_kind (m ∷ []) ns t t x es e k) ns es
+      go false = itself_kind (variables ns t es)
+
 -- ---- what a name of a package block means
 
 module _ {S : Type 0} (ps : Program S) where
   abbrev hs : List (Headed S)
   hs = headed ps
 
-  abbrev v : World
-  v = valued_world ps hs
-
   abbrev ds : DeclaredTypes
   ds = types_declared ps hs
 
-  fits_all : (k : Headed S) → Fits k (declared_by ds v k)
-  fits_all k = (value_phase ds v).fits v.blocks k
+  -- what headers bind that are the blocks of a world
+  module _ (w : World) (f : Headed S → Option Binds) (fits : (k : Headed S) → Fits k (f k)) (is : w.blocks ≡ blocks_by f ps hs) where
+    bound_first : (h : Headed S) (n : List ℕ) → is_blank n ≡ false → FirstWith n h hs → HasNumber h.home ps → is_among n (header_names h.header) ≡ true → AllAre (λ e. IsKind e h.header) (binds_or_refused h (f h)) → is_among n (bound_names (binds_or_refused h (f h))) ≡ true
+        → MeansOne (λ e. IsKind e h.header) (means (block_of w.blocks h.home) n)
+    bound_first h n spelled first number named kinds bound =
+        let bs : Binds = binds_or_refused h (f h) in
+        let m = first_means f fits n h hs first (λ ms. means (bs ++ ms) n) (λ ms. refl) (same_number h.home) in
+        let at : means (block_of w.blocks h.home) n ≡ means (bs ++ m.0) n =
+        ap (λ bs. means (block_of bs h.home) n) is ∙ ap (λ m. means m n) (block_of_package f hs h.home number) ∙ m.1 in
+        subst (MeansOne (λ e. IsKind e h.header)) (sym at) (front_means (λ e. IsKind e h.header) n bs m.0 kinds bound)
 
-  -- it means what its first header can declare
-  pub kind_meant : (h : Headed S) (n : List ℕ) → is_blank n ≡ false → FirstWith n h hs → HasNumber h.home ps → is_among n (header_names h.header) ≡ true → MeansOne (λ e. IsKind e h.header) (means (block_of v.blocks h.home) n)
-  kind_meant h n spelled first number named =
-      let bs : Binds = binds_or_refused h (declared_by ds v h) in
-      let b : Declares ds v h n spelled h.header bs = binds_kind ds v h n spelled (declared_by ds v h) refl in
-      let m = first_means (declared_by ds v) fits_all n h hs first (λ ms. means (bs ++ ms) n) (λ ms. refl) (same_number h.home) in
-      let is : means (block_of v.blocks h.home) n ≡ means (bs ++ m.0) n =
-      ap (λ bs. means (block_of bs h.home) n) (sym (ap (λ w. w.blocks) (valued_settled ps hs))) ∙ ap (λ m. means m n) (block_of_package (declared_by ds v) hs h.home number) ∙ m.1 in
-      subst (MeansOne (λ e. IsKind e h.header)) (sym is) (front_means (λ e. IsKind e h.header) n bs m.0 b.kinds (b.bound named))
+  -- by itself it means what its first header can declare
+  named_kind : (h : Headed S) (n : List ℕ) → is_blank n ≡ false → FirstWith n h hs → HasNumber h.home ps → is_among n (header_names h.header) ≡ true → MeansOne (λ e. IsKind e h.header) (means (block_of (named_world ps hs).blocks h.home) n)
+  named_kind h n spelled first number named =
+      let v : World = named_world ps hs in
+      let g : (Headed S → Option Binds) = declared_by ds v in
+      let fits : ((k : Headed S) → Fits k (g k)) = (λ k. (value_phase ds v).fits v.blocks k) in
+      bound_first v (wholes g) (wholes_fit g fits) (sym (ap (λ w. w.blocks) (named_settled ps hs)) ∙ sym (blocks_of_wholes g ps hs)) h n spelled first number named (names_kind ds v h n spelled h.header)
+      (subst (λ ns. is_among n ns ≡ true) (same_bound (wholes_fit g fits h (binds_of_all g (singly h)) refl)) (each_bound n spelled refused (header_names h.header) named))
+
+  -- so does it where whole headers are refused
+  valued_kind : (h : Headed S) (n : List ℕ) → is_blank n ≡ false → FirstWith n h hs → HasNumber h.home ps → is_among n (header_names h.header) ≡ true → MeansOne (λ e. IsKind e h.header) (means (block_of (valued_world ps hs).blocks h.home) n)
+  valued_kind h n spelled first number named =
+      let v : World = valued_world ps hs in
+      let b : Declares ds v h n spelled h.header (binds_or_refused h (declared_by ds v h)) = binds_kind ds v h n spelled (declared_by ds v h) refl in
+      bound_first v (declared_by ds v) (λ k. (value_phase ds v).fits v.blocks k) (sym (ap (λ w. w.blocks) (valued_settled ps hs))) h n spelled first number named b.kinds (b.bound named)
+
+  -- it means what its first header can declare, where the rounds have ended
+  pub kind_meant : (w : World) → ValuesEnd ps w → (h : Headed S) (n : List ℕ) → is_blank n ≡ false → FirstWith n h hs → HasNumber h.home ps → is_among n (header_names h.header) ≡ true → MeansOne (λ e. IsKind e h.header) (means (block_of w.blocks h.home) n)
+  kind_meant _ after_names h n spelled first number named = named_kind h n spelled first number named
+  kind_meant _ after_values h n spelled first number named = valued_kind h n spelled first number named
+  kind_meant _ at_last h n spelled first number named = valued_kind h n spelled first number named

@@ -7,16 +7,16 @@ use Rattle.go_tree.specs.ScopeNames.Means.{means, is_blank}
 use Rattle.pkg_graph.specs.Package.{Package}
 use Rattle.go_tree.specs.GoTypes.Entities.{World, Env, block_of}
 use Rattle.go_tree.specs.GoTypes.Programs.{Program, headed, file_block}
-use Rattle.go_tree.specs.GoTypes.Collect.{file_env, env_of, valued_world}
+use Rattle.go_tree.specs.GoTypes.Collect.{file_env, env_of}
 use Rattle.typed_in_place.specs.Declared.{FirstWith, HasNumber, ConstantOrRefused, NamesConstant}
 use Rattle.typed_in_place.specs.Leaves.{Names}
 use Rattle.typed_in_place.specs.ProgramReplaced.{ValuesEnd}
 use Rattle.typed_in_place.proofs.SettledNames.{constant_means}
+use Rattle.typed_in_place.proofs.RoundsEnded.{rounds_end}
 use Rattle.constant_steps.specs.QualifiedSteps.MemberNames.{member_name, MemberMeant}
 use Rattle.constant_steps.specs.StepLaws.ConstantUses.{UseOfConstant}
 use Rattle.constant_steps.proofs.AfterStep.{same_number}
 use Rattle.constant_steps.proofs.StepLaws.ConstantLeaves.{names-bodiless}
-use Rattle.constant_steps.proofs.StepLaws.StepUses.{same-blocks}
 use Rattle.constant_steps.proofs.QualifiedSteps.MembersNamed.{member_meant}
 use Rattle.run_rules.specs.Programs.{linked_imports}
 use Rattle.run_rules.specs.Sites.{Where}
@@ -26,29 +26,26 @@ use Rattle.constant_modules.specs.ConstantNames.MemberUses.{DeclaredFirst, Membe
 use Rattle.constant_modules.proofs.ConstantNames.Members.{program_constant}
 
 module _ {S : Type 0} (rs : List (Package S)) (ps : Program S) (w : World) (ended : ValuesEnd ps w) (at : Where S) (q : Place S) (use_ new : Expr S) (u : MemberUse rs ps at q use_ new) where
-  abbrev last : World
-  last = valued_world ps (headed ps)
-
   abbrev d : DeclaredFirst rs ps u.home (member_name use_) u.constant u.text
   d = u.declared
 
   -- ---- what the constant's text means where it is declared
 
-  text_meant : MemberMeant (file_env last u.home.number (file_block d.members [] (linked_imports rs u.home.source.tree)) (Some d.constant.number)) u.there u.text u.new_mark
+  text_meant : MemberMeant (file_env w u.home.number (file_block d.members [] (linked_imports rs u.home.source.tree)) (Some d.constant.number)) u.there u.text u.new_mark
   text_meant =
-      member_meant rs u.home d.members d.may_be_declared last (Some d.constant.number) u.there u.text u.new_mark u.text_names (ap is_blank u.same_name ∙ u.new_spelled)
-      (subst ConstantOrRefused (λ j. means (block_of last.blocks u.new_mark.«package») (sym u.same_name j)) u.known)
+      member_meant rs u.home d.members d.may_be_declared w (Some d.constant.number) u.there u.text u.new_mark u.text_names (ap is_blank u.same_name ∙ u.new_spelled)
+      (subst ConstantOrRefused (λ j. means (block_of w.blocks u.new_mark.«package») (sym u.same_name j)) (u.known w ended))
 
-  text_is : text_meant.meant ≡ means (block_of last.blocks u.new_mark.«package») (member_name new)
-  text_is = text_meant.is ∙ ap (means (block_of last.blocks u.new_mark.«package»)) u.same_name
+  text_is : text_meant.meant ≡ means (block_of w.blocks u.new_mark.«package») (member_name new)
+  text_is = text_meant.is ∙ ap (means (block_of w.blocks u.new_mark.«package»)) u.same_name
 
   known : ConstantOrRefused text_meant.meant
-  known = subst ConstantOrRefused (sym text_is) u.known
+  known = subst ConstantOrRefused (sym text_is) (u.known w ended)
 
-  same_env : ◌≡◌ {A = Env} (file_env last u.home.number (file_block d.members [] (linked_imports rs u.home.source.tree)) (Some d.constant.number)) (env_of last d.header (Some d.constant.number))
-  same_env = λ j. file_env last (sym d.home_is j) (sym d.imports j) (Some d.constant.number)
+  same_env : ◌≡◌ {A = Env} (file_env w u.home.number (file_block d.members [] (linked_imports rs u.home.source.tree)) (Some d.constant.number)) (env_of w d.header (Some d.constant.number))
+  same_env = λ j. file_env w (sym d.home_is j) (sym d.imports j) (Some d.constant.number)
 
-  names_text : Names (env_of last d.header (Some d.constant.number)) u.text text_meant.meant text_meant.name
+  names_text : Names (env_of w d.header (Some d.constant.number)) u.text text_meant.meant text_meant.name
   names_text = subst (λ a. Names a u.text text_meant.meant text_meant.name) same_env text_meant.names
 
   first : FirstWith u.constant.name d.header (headed ps)
@@ -65,7 +62,7 @@ module _ {S : Type 0} (rs : List (Package S)) (ps : Program S) (w : World) (ende
 
   -- ---- the constant means that too
 
-  declares : NamesConstant ps (headed ps) d.header u.constant u.text text_meant.meant
+  declares : NamesConstant ps (headed ps) w d.header u.constant u.text text_meant.meant
   declares = record {
     number = d.constant.number;
     looked_up = text_meant.name;
@@ -81,9 +78,7 @@ module _ {S : Type 0} (rs : List (Package S)) (ps : Program S) (w : World) (ende
   }
 
   constant_meant : means (block_of w.blocks d.header.home) u.constant.name ≡ text_meant.meant
-  constant_meant =
-      same-blocks ps w d.header.home u.constant.name ended
-      ∙ constant_means ps (headed ps) d.header u.constant u.text d.constant.number d.constant.is sound (names-bodiless names_text) spelled (same_number d.header.home d.header.home refl) names_text known first in_program
+  constant_meant = constant_means ps (headed ps) d.header u.constant u.text text_meant.meant w (rounds_end ps ended) declares
 
   -- ---- at the use
 
@@ -91,7 +86,7 @@ module _ {S : Type 0} (rs : List (Package S)) (ps : Program S) (w : World) (ende
   old_block = λ j. means (block_of w.blocks ((u.number ∙ sym d.home_is) j)) (sym d.constant.named j)
 
   new_block : means (block_of w.blocks u.new_mark.«package») (member_name new) ≡ text_meant.meant
-  new_block = same-blocks ps w u.new_mark.«package» (member_name new) ended ∙ sym text_is
+  new_block = sym text_is
 
   abbrev top : Env
   top = file_env w at.number (file_block u.members [] (linked_imports rs at.source.tree)) None
@@ -125,4 +120,4 @@ pub uses_known : MemberUsesAreKnown
 uses_known rs ps w ended at q use_ new u = member_use rs ps w ended at q use_ new u
 
 pub declared_constants : DeclaredConstantsAreConstants
-declared_constants n p k ps f d i file s g ss at e nf nd = program_constant n p k ps f d i file s g ss at e nf nd
+declared_constants n p k ps w ended f d i file s g ss at e nf nd = program_constant n p k ps w ended f d i file s g ss at e nf nd

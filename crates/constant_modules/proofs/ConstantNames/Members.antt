@@ -8,10 +8,10 @@ use Rattle.go_tree.specs.ScopeNames.Means.{Environment, means, is_blank}
 use Rattle.pkg_graph.specs.Package.{Package}
 use Rattle.pkg_graph.specs.Members.{Target, member, package_block}
 use Rattle.go_tree.specs.GoTypes.Types.{GoType}
-use Rattle.go_tree.specs.GoTypes.Entities.{Entity, variable, constant, stand_in, type_name, function, package_name, builtin, nil_name, iota_name, refused, block_of}
+use Rattle.go_tree.specs.GoTypes.Entities.{Entity, variable, constant, stand_in, type_name, function, package_name, builtin, nil_name, iota_name, refused, World, block_of}
 use Rattle.go_tree.specs.GoTypes.Programs as source
 use Rattle.go_tree.specs.GoTypes.Programs.{Header, constants, variables, a_type_spec, a_func, Headed, SourceFile, SourcePackage, Program, headed, headers, at_member, file_block}
-use Rattle.go_tree.specs.GoTypes.Collect.{valued_world}
+use Rattle.typed_in_place.specs.ProgramReplaced.{ValuesEnd, at_last}
 use Rattle.go_translation.specs.Packages.{are_well_typed}
 use Rattle.typed_in_place.specs.Declared.{HasNumber, ConstantOrRefused, a_constant, refused_yet}
 use Rattle.constant_steps.specs.Alone.{block_from, PackageAt}
@@ -108,14 +108,14 @@ module _ {S : Type 0} where
 -- ---- programs
 
 -- the name of a constant means one, or is refused, in any program
-pub program_constant : {S : Type 0} (n : List ℕ) (p : SourcePackage S) (k : ℕ) (ps : Program S) (f d i : ℕ) (file : SourceFile S) (s : S) (g : Bool) (ss : ValueSpecs S) → PackageAt p k ps → means (block_from p.number 0 p.files) n ≡ Some (member p.number f d i) → slice_get p.files f ≡ Some file
-    → slice_get file.decls d ≡ Some (values (const_decl s g ss)) → ConstantOrRefused (means (block_of (valued_world ps (headed ps)).blocks p.number) n)
-program_constant n p k ps f d i file s g ss at e nf nd =
+pub program_constant : {S : Type 0} (n : List ℕ) (p : SourcePackage S) (k : ℕ) (ps : Program S) (w : World) → ValuesEnd ps w → (f d i : ℕ) (file : SourceFile S) (s : S) (g : Bool) (ss : ValueSpecs S) → PackageAt p k ps → means (block_from p.number 0 p.files) n ≡ Some (member p.number f d i) → slice_get p.files f ≡ Some file
+    → slice_get file.decls d ≡ Some (values (const_decl s g ss)) → ConstantOrRefused (means (block_of w.blocks p.number) n)
+program_constant n p k ps w ended f d i file s g ss at e nf nd =
     let spelled : is_blank n ≡ false = spelled_found p.number 0 p.files n (member p.number f d i) e in
     let first : FirstOf n p.number (file_block (source.block_names p.files) [] file.imports) (values (const_decl s g ss)) (headed ps) = first_header n spelled p k ps p.number f d i file (values (const_decl s g ss)) at e nf nd in
     let number : HasNumber first.header.home ps = subst (λ (j : ℕ). HasNumber j ps) (sym first.home_is) (has_number p k at) in
-    let m : MeansOne (λ (e : Entity). IsKind e first.header.header) (means (block_of (valued_world ps (headed ps)).blocks first.header.home) n) = kind_meant ps first.header n spelled first.first number first.named in
-    subst (λ (j : ℕ). ConstantOrRefused (means (block_of (valued_world ps (headed ps)).blocks j) n)) first.home_is
+    let m : MeansOne (λ (e : Entity). IsKind e first.header.header) (means (block_of w.blocks first.header.home) n) = kind_meant ps w ended first.header n spelled first.first number first.named in
+    subst (λ (j : ℕ). ConstantOrRefused (means (block_of w.blocks j) n)) first.home_is
     (subst ConstantOrRefused (sym m.is) (constant_kind m.entity first.header.header m.kind (are_constants (at_member g s) None no_exprs 0 ss first.header.header first.one)))
 
 -- ---- packages
@@ -140,7 +140,7 @@ module _ (ps : List (Package At)) (ordered : AllOrdered ps) (own_typed : are_wel
       let first : FirstOf n w.number (file_block (source.block_names its.files) [] (linked_file ps w.source).imports) d (headed (linked ps)) =
       first_header n spelled its s.nth (linked ps) w.number w.file_number j i (linked_file ps w.source) d s.there in_block (nth_mapped (linked_file ps) w.of.files w.file_number w.source fe) de in
       let number : HasNumber first.header.home (linked ps) = subst (λ (k : ℕ). HasNumber k (linked ps)) (sym first.home_is) (has_number its s.nth s.there) in
-      let m : MeansOne (λ (e : Entity). IsKind e first.header.header) (means (block_of (world ps).blocks first.header.home) n) = kind_meant (linked ps) first.header n spelled first.first number first.named in
+      let m : MeansOne (λ (e : Entity). IsKind e first.header.header) (means (block_of (world ps).blocks first.header.home) n) = kind_meant (linked ps) (world ps) at_last first.header n spelled first.first number first.named in
       record {
         header = first.header;
         one = first.one;

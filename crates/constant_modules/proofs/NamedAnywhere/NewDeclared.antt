@@ -7,10 +7,10 @@ use Rattle.go_tree.specs.File.{Decl, values, File}
 use Rattle.go_tree.specs.ScopeNames.Means.{means}
 use Rattle.pkg_graph.specs.Package.{Package}
 use Rattle.pkg_graph.specs.Members.{member}
-use Rattle.go_tree.specs.GoTypes.Entities.{block_of}
-use Rattle.go_tree.specs.GoTypes.Programs.{SourceFile, SourcePackage, Program, headed}
-use Rattle.go_tree.specs.GoTypes.Collect.{valued_world}
+use Rattle.go_tree.specs.GoTypes.Entities.{World, block_of}
+use Rattle.go_tree.specs.GoTypes.Programs.{SourceFile, SourcePackage, Program}
 use Rattle.typed_in_place.specs.Declared.{ConstantOrRefused}
+use Rattle.typed_in_place.specs.ProgramReplaced.{ValuesEnd}
 use Rattle.run_rules.specs.Programs.{top_place, linked_file}
 use Rattle.run_rules.specs.Rewriting.{Changes}
 use Rattle.run_rules.specs.Sites.{MarkRef, Where}
@@ -36,10 +36,10 @@ module _ {S : Type 0} (rs : List (Package S)) (w : Where S) (s : S) (m : MarkRef
   there = nth_mapped (linked_file rs) w.of.files m.file w.source file_there
 
   abbrev Meant : Program S → Type 0
-  Meant ps = ConstantOrRefused (means (block_of (valued_world ps (headed ps)).blocks w.number) n)
+  Meant ps = (v : World) → ValuesEnd ps v → ConstantOrRefused (means (block_of v.blocks w.number) n)
 
   pub meant_before : (k : ℕ) (ps : Program S) → PackageAt p k ps → Meant ps
-  meant_before k ps at = program_constant n p k ps m.file m.decl m.item source z g ss at block there declared
+  meant_before k ps at v ended = program_constant n p k ps v ended m.file m.decl m.item source z g ss at block there declared
 
   module _ (same : S → S → Bool) (changes : Changes S) (number : ℕ) (pk : Package S) (tree : File S) (M N : ℕ) where
     abbrev change : Decl S → Decl S
@@ -74,7 +74,7 @@ module _ {S : Type 0} (rs : List (Package S)) (w : Where S) (s : S) (m : MarkRef
     in_package false t = record { file = source; file_is = nth_stays (decl_changed change N) m.file M p.files t ∙ there; specs = ss; decl_is = declared }
 
     pub meant_after : (b : Bool) → (b ≡ true → PlainFiles p.files) → (k : ℕ) (ps : Program S) → PackageAt (after same rs changes number pk tree b M N p) k ps → Meant ps
-    meant_after true plain k ps at =
+    meant_after true plain k ps at v ended =
         let t : There = in_package (nat_eq m.file M) refl in
-        program_constant n (after same rs changes number pk tree true M N p) k ps m.file m.decl m.item t.file z g t.specs at (ap (λ l. means l n) (files_named same rs changes number pk tree w.number 0 M N (plain refl)) ∙ block) t.file_is t.decl_is
+        program_constant n (after same rs changes number pk tree true M N p) k ps v ended m.file m.decl m.item t.file z g t.specs at (ap (λ l. means l n) (files_named same rs changes number pk tree w.number 0 M N (plain refl)) ∙ block) t.file_is t.decl_is
     meant_after false plain k ps at = meant_before k ps at

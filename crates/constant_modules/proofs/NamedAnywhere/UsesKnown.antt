@@ -9,8 +9,8 @@ use Rattle.pkg_graph.specs.Package.{Package, import_specs}
 use Rattle.pkg_graph.specs.Members.{Target, imported, member, import_name}
 use Rattle.go_tree.specs.GoTypes.Answers.{given, otherwise}
 use Rattle.go_tree.specs.GoTypes.Entities.{World, block_of}
-use Rattle.go_tree.specs.GoTypes.Programs.{SourcePackage, Program, headed, file_block, block_names, is_init}
-use Rattle.go_tree.specs.GoTypes.Collect.{file_env, valued_world}
+use Rattle.go_tree.specs.GoTypes.Programs.{SourcePackage, Program, file_block, block_names, is_init}
+use Rattle.go_tree.specs.GoTypes.Collect.{file_env}
 use Rattle.go_tree.specs.GoTypes.WellTyped.{well_typed}
 use Rattle.go_tree.proofs.GoTypes.Agreeing.{from_given, some_same}
 use Rattle.typed_in_place.specs.Declared.{ConstantOrRefused}
@@ -124,7 +124,7 @@ module _ {S : Type 0} (same : S → S → Bool) (commented : ℕ → ℕ → S �
   module _ (ps : Program S) where
     -- what the constant is declared as means a constant, or is refused
     abbrev NewMeant : Type 0
-    NewMeant = ConstantOrRefused (means (block_of (valued_world ps (headed ps)).blocks u.new_home.number) new_name)
+    NewMeant = (v : World) → ValuesEnd ps v → ConstantOrRefused (means (block_of v.blocks u.new_home.number) new_name)
 
     -- a use of the constant where its text names what it is declared as
     known_use : (text : Expr S) (d : DeclaredIn rs ps u.home old_name u.constant None text) → d.members ≡ home_imports → TextNamed rs u.home u.new_mark new_name text → NewMeant → ImportsSound → is_init old_name ≡ false → (w : World) → ValuesEnd ps w
@@ -160,7 +160,7 @@ module _ {S : Type 0} (same : S → S → Bool) (commented : ℕ → ℕ → S �
           there = t.place;
           text_names = t.names;
           same_name = t.same_name;
-          known = subst (λ k. ConstantOrRefused (means (block_of (valued_world ps (headed ps)).blocks k) new_name)) new_home_stands.number known;
+          known = λ v e. subst (λ k. ConstantOrRefused (means (block_of v.blocks k) new_name)) new_home_stands.number (known v e);
         })
 
   -- ---- before the step

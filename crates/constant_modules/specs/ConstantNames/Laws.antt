@@ -14,8 +14,8 @@ use Rattle.pkg_graph.specs.Reads.{Source}
 use Rattle.pkg_graph.specs.Members.{member}
 use Rattle.go_tree.specs.GoTypes.Types.{GoType}
 use Rattle.go_tree.specs.GoTypes.Entities.{World, constant, block_of}
-use Rattle.go_tree.specs.GoTypes.Programs.{SourceFile, SourcePackage, Program, headed, file_block}
-use Rattle.go_tree.specs.GoTypes.Collect.{file_env, valued_world}
+use Rattle.go_tree.specs.GoTypes.Programs.{SourceFile, SourcePackage, Program, file_block}
+use Rattle.go_tree.specs.GoTypes.Collect.{file_env}
 use Rattle.go_translation.specs.SameMeaning.{WellTyped}
 use Rattle.splice_laws.specs.ImportSplices.AddedFile.{is_byte}
 use Rattle.typed_in_place.specs.Declared.{ConstantOrRefused}
@@ -80,11 +80,11 @@ ReadConstantsNameConstants =
 -- have ended, or is refused: also of one that repeats an expression, or shares its spec.
 abbrev pub DeclaredConstantsAreConstants : Type 0
 DeclaredConstantsAreConstants =
-    (n : List ℕ) (p : SourcePackage Span) (k : ℕ) (ps : Program Span) (f d i : ℕ) (file : SourceFile Span) (s : Span)
-    (g : Bool) (ss : ValueSpecs Span) → PackageAt p k ps
+    (n : List ℕ) (p : SourcePackage Span) (k : ℕ) (ps : Program Span) (w : World) → ValuesEnd ps w
+    → (f d i : ℕ) (file : SourceFile Span) (s : Span) (g : Bool) (ss : ValueSpecs Span) → PackageAt p k ps
     → means (block_from p.number 0 p.files) n ≡ Some (member p.number f d i) → slice_get p.files f ≡ Some file
     → slice_get file.decls d ≡ Some (values (const_decl s g ss))
-    → ConstantOrRefused (means (block_of (valued_world ps (headed ps)).blocks p.number) n)
+    → ConstantOrRefused (means (block_of w.blocks p.number) n)
 
 -- So where a constant is declared as a name of such a one, both names mean one constant that is known, as step_laws has
 -- it of uses: of what the constant is declared as nothing else is asked.

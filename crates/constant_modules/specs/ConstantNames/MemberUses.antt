@@ -4,11 +4,11 @@ use Rattle.std.specs.Prelude.{◌≡◌, ℕ, true, false, not, List, [], None}
 use Rattle.go_tree.specs.Tree.{NameAt, Expr}
 use Rattle.go_tree.specs.ScopeNames.Means.{means, is_blank}
 use Rattle.pkg_graph.specs.Package.{Package}
-use Rattle.go_tree.specs.GoTypes.Entities.{block_of}
+use Rattle.go_tree.specs.GoTypes.Entities.{World, block_of}
 use Rattle.go_tree.specs.GoTypes.Programs.{Headed, Program, headed, file_block, is_init}
-use Rattle.go_tree.specs.GoTypes.Collect.{valued_world}
 use Rattle.typed_in_place.specs.Declared.{FirstWith, HasNumber, ConstantOrRefused}
 use Rattle.typed_in_place.specs.ImportRule.{imports_sound}
+use Rattle.typed_in_place.specs.ProgramReplaced.{ValuesEnd}
 use Rattle.constant_steps.specs.Alone.{ConstantHeader}
 use Rattle.constant_steps.specs.QualifiedSteps.MemberNames.{member_name, NamesMember}
 use Rattle.run_rules.specs.Programs.{linked_imports}
@@ -49,4 +49,6 @@ module _ {S : Type 0} (rs : List (Package S)) (ps : Program S) where
     pub there : Place S
     pub text_names : NamesMember rs home there text new_mark
     pub same_name : member_name text ≡ member_name new
-    pub known : ConstantOrRefused (means (block_of (valued_world ps (headed ps)).blocks new_mark.«package») (member_name new))
+    pub known :
+        (w : World) → ValuesEnd ps w →
+        ConstantOrRefused (means (block_of w.blocks new_mark.«package») (member_name new))

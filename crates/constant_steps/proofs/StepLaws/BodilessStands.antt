@@ -14,6 +14,7 @@ use Rattle.run_rules.specs.Respanned.{value_with}
 use Rattle.run_rules.specs.Rewriting.{Changes, new_name, new_type, new_sig, new_expr, new_all, new_option, new_elems, new_key, new_value, new_stmts}
 use Rattle.run_rules.specs.Respanned.{expr_with, exprs_with, expr_option_with, elems_with, value_option_with}
 use Rattle.go_tree.specs.GoTypes.Bodiless.{bodiless, all_bodiless, bodiless_option, bodiless_elems, bodiless_value, bodiless_key}
+use Rattle.typed_in_place.specs.HeaderReplaced.{BodilessAlike, no_more_bodies, bodies_alike}
 use Rattle.constant_steps.specs.StepLaws.Stands.{Asked, stays, is_put, SameExpr, AsOperand, names_a_field, is_operand, ExprStands, ExprsStands, ExprOptionStands, ElemsStands, KeyStands, ValueStands}
 
 at_bodiless : {S : Type 0} {around : List (List ℕ)} {env : Env} {x : Expr S} {Parts : Type 0} (o : Option (Expr S)) (d : Expr S) → Asked (SameExpr around env x) Parts o → (Parts → bodiless x ≡ bodiless d) → bodiless x ≡ bodiless (otherwise o d)
@@ -99,3 +100,8 @@ module _ {S : Type 0} (c : Changes S) where
     pub value-bodiless : (around : List (List ℕ)) (env : Env) (t : Option GoType) (p : Place S) (u : Use) (x : Value S) → ValueStands c around env t p u x → bodiless_value x ≡ bodiless_value (new_value c p u x)
     value-bodiless around env t p u (plain e) h = λ w. expr-bodiless around env p u e h w
     value-bodiless around env t p u (braced s es) h = λ w. elems-bodiless around env (given t (λ t. Some (under (defined_in env) (literal_type (defined_in env) t)))) p (given (into_type u) (λ t. Some (under (defined_in p.env) (literal_type (defined_in p.env) t)))) 0 es h w
+
+  -- so in lists of expressions, one by one
+  pub each-bodiless : (around : List (List ℕ)) (env : Env) (p : Place S) (us : List Use) (x : Exprs S) → ExprsStands c around env p us x → BodilessAlike x (new_all c p us x)
+  each-bodiless around env p us no_exprs h = no_more_bodies
+  each-bodiless around env p us (expr_and e es) h = bodies_alike (expr-bodiless around env (record p { slot = comma_slot p.slot es }) (head_use us) e h.0) (each-bodiless around env p (later_uses us) es h.1)

@@ -7,10 +7,10 @@ use Rattle.go_tree.specs.ScopeNames.Means.{means, is_blank}
 use Rattle.pkg_graph.specs.Package.{Package}
 use Rattle.go_tree.specs.GoTypes.Answers.{given, otherwise, is_among}
 use Rattle.go_tree.specs.GoTypes.Types.{GoType}
-use Rattle.go_tree.specs.GoTypes.Entities.{Entity, constant, package_name, Env, block_of, package_of}
+use Rattle.go_tree.specs.GoTypes.Entities.{Entity, constant, package_name, World, Env, block_of, package_of}
 use Rattle.go_tree.specs.GoTypes.Bodiless.{bodiless}
 use Rattle.go_tree.specs.GoTypes.Programs.{Headed, Program}
-use Rattle.go_tree.specs.GoTypes.Collect.{valued_world}
+use Rattle.typed_in_place.specs.Declared.{RoundsEnd}
 use Rattle.typed_in_place.specs.Leaves.{Names, plain_name, qualified_name}
 use Rattle.typed_in_place.proofs.DeclaredConstants.{NamesConstant, declared_constant_stands}
 use Rattle.go_translation.specs.Here.{Here}
@@ -34,12 +34,12 @@ names-bodiless plain_name = refl
 names-bodiless (qualified_name q) = refl
 
 -- at the end of the rounds of every program that holds the declaration `const x = f`, a use of x and a name of what f means are the same there
-pub constant-use-stands : {S A : Type 0} (ps : Program S) (hs : List (Headed S)) (h : Headed S) (x : NameAt S) (f : Expr S) (r : Option Entity) → NamesConstant ps hs h x f r
+pub constant-use-stands : {S A : Type 0} (ps : Program S) (hs : List (Headed S)) (h : Headed S) (x : NameAt S) (f : Expr S) (r : Option Entity) (w : World) → RoundsEnd ps hs w → NamesConstant ps hs w h x f r
     → (around : List (List ℕ)) (env : Env) (e e' : Expr A) (n m : List ℕ) (p q : Option Entity)
-    → Names env e p n → p ≡ means (block_of (valued_world ps hs).blocks h.home) x.name → is_among n around ≡ false → is_blank n ≡ false
+    → Names env e p n → p ≡ means (block_of w.blocks h.home) x.name → is_among n around ≡ false → is_blank n ≡ false
     → Names env e' q m → q ≡ r → is_among m around ≡ false → is_blank m ≡ false → SameExpr around env e e'
-constant-use-stands ps hs h x f r d around env e e' n m p q a i j k b u v w =
-    record { facts = declared_constant_stands ps hs h x f r d around env e e' n m p q a i j k b u v w; bodies = names-bodiless a ∙ sym (names-bodiless b) }
+constant-use-stands ps hs h x f r w end d around env e e' n m p q a i j k b u v y =
+    record { facts = declared_constant_stands ps hs h x f r w end d around env e e' n m p q a i j k b u v y; bodies = names-bodiless a ∙ sym (names-bodiless b) }
 
 -- ---- for the translation
 

@@ -14,7 +14,7 @@ use Rattle.run_rules.specs.Steps.{new_receiver_option, new_type_spec}
 use Rattle.run_rules.specs.Steps as steps
 use Rattle.constant_steps.specs.StepLaws.DeclStands.{Written, nothing_written, own_or_before, MemberOfGroupStands, GroupStands, VariableGroupStands, TypeSpecsStand, FuncStands, DeclStands, DeclaredTypesStand, DeclTypesStand, of_function, of_constants, of_variables, of_type, HeaderStands}
 use Rattle.constant_steps.proofs.StepLaws.Standing.{written-stands, sig-stands, all-stands, stmts-stands}
-use Rattle.constant_steps.proofs.StepLaws.BodilessStands.{all-bodiless}
+use Rattle.constant_steps.proofs.StepLaws.BodilessStands.{each-bodiless}
 
 module _ {S : Type 0} (same : S → S → Bool) (ps : List (Package S)) (k : ℕ) (pk : Package S) (file : File S) (c : Changes S) (P : TypeExpr S → TypeExpr S → Type 0) (at : Option ℕ → Env) (inside : Func S → Env) where
   abbrev q : Place S
@@ -34,7 +34,7 @@ module _ {S : Type 0} (same : S → S → Bool) (ps : List (Package S)) (k : ℕ
 
   a-member : (s z : S) (ns : List (NameAt S)) (i : ℕ) (a : Written S) → MemberOfGroupStands same ps c P at inside q inner_ i a → R (s, constants ns a.type a.values i) (z, constants ns (put_type a) (put_values a) i)
   a-member s z ns i a h = record {
-    tree = in_constants refl (written-stands c [] (at (Some i)) (in_constant a.number q) a.type h.0) (all-stands c [] (at (Some i)) (in_constant a.number q) a.uses a.values h.1) (all-bodiless c [] (at (Some i)) (in_constant a.number q) a.uses a.values h.1);
+    tree = in_constants refl (written-stands c [] (at (Some i)) (in_constant a.number q) a.type h.0) (all-stands c [] (at (Some i)) (in_constant a.number q) a.uses a.values h.1) (each-bodiless c [] (at (Some i)) (in_constant a.number q) a.uses a.values h.1);
     body = of_constants;
   }
 
@@ -48,7 +48,7 @@ module _ {S : Type 0} (same : S → S → Bool) (ps : List (Package S)) (k : ℕ
   variables-stand f no_specs h = no_more
   variables-stand f (spec s ns t es ss) h =
       and_more (record {
-        tree = in_variables refl (written-stands c [] (at None) q t h.0.0) (all-stands c [] (at None) q (alike (value_use q.env t) ns) es h.0.1) (all-bodiless c [] (at None) q (alike (value_use q.env t) ns) es h.0.1);
+        tree = in_variables refl (written-stands c [] (at None) q t h.0.0) (all-stands c [] (at None) q (alike (value_use q.env t) ns) es h.0.1) (each-bodiless c [] (at None) q (alike (value_use q.env t) ns) es h.0.1);
         body = of_variables;
       })
       (variables-stand f ss h.1)

@@ -18,7 +18,7 @@ use Rattle.go_tree.specs.GoTypes.WellTyped.{well_typed}
 use Rattle.typed_in_place.specs.Declared.{a_constant}
 use Rattle.typed_in_place.specs.Leaves.{Names, plain_name}
 use Rattle.run_rules.specs.Surroundings.{Place}
-use Rattle.typed_in_place.specs.ProgramReplaced.{ValuesEnd, after_values, at_last, all_of_none, InPlaceBeside}
+use Rattle.typed_in_place.specs.ProgramReplaced.{ValuesEnd, after_names, after_values, at_last, all_of_none, InPlaceBeside}
 use Rattle.typed_in_place.proofs.Leaves.{same_constant}
 use Rattle.typed_in_place.proofs.ProgramsReplaced.{stays_well_typed_beside}
 use Rattle.constant_steps.specs.StepLaws.Stands.{SameExpr, is_put}
@@ -57,10 +57,12 @@ module _ (rs : List (run.Package ℕ)) (pk : run.Package ℕ) (tree : File ℕ) 
   there w l = ((tt, (is_put l, tt)), tt)
 
   at_ends_before : (w : World) → ValuesEnd (before ++ []) w → AtNth (PackageThereStands nat_eq rs 31 new_use 0 pk tree w 0 2) 0 before
+  at_ends_before _ after_names = there _ (use_stands _ refl refl)
   at_ends_before _ after_values = there _ (use_stands _ refl refl)
   at_ends_before _ at_last = there _ (use_stands _ refl refl)
 
   at_ends_after : (w : World) → ValuesEnd (constant_put nat_eq rs 31 new_use 0 pk tree 0 0 2 before ++ []) w → AtNth (PackageThereStands nat_eq rs 31 new_use 0 pk tree w 0 2) 0 before
+  at_ends_after _ after_names = there _ (use_stands _ refl refl)
   at_ends_after _ after_values = there _ (use_stands _ refl refl)
   at_ends_after _ at_last = there _ (use_stands _ refl refl)
 
@@ -106,10 +108,12 @@ module _ (rs : List (run.Package ℕ)) (pk : run.Package ℕ) (tree : File ℕ) 
   )
 
   uses_before : (w : World) → ValuesEnd (before ++ []) w → AtNth (PackageUses nat_eq rs 31 new_use 0 pk tree w 0 2) 0 before
+  uses_before _ after_names = use_there _ refl refl
   uses_before _ after_values = use_there _ refl refl
   uses_before _ at_last = use_there _ refl refl
 
   uses_after : (w : World) → ValuesEnd (constant_put nat_eq rs 31 new_use 0 pk tree 0 0 2 before ++ []) w → AtNth (PackageUses nat_eq rs 31 new_use 0 pk tree w 0 2) 0 before
+  uses_after _ after_names = use_there _ refl refl
   uses_after _ after_values = use_there _ refl refl
   uses_after _ at_last = use_there _ refl refl
 

@@ -10,13 +10,15 @@ use Rattle.go_tree.specs.GoTypes.Entities.{Entity, constant, refused, World, Env
 use Rattle.go_tree.specs.GoTypes.Operands.{Operand, all_typed, named_operand}
 use Rattle.go_tree.specs.GoTypes.Statements.{bind_all, constant_entity}
 use Rattle.go_tree.specs.GoTypes.Programs.{constants, Header, Program, Headed, headed}
-use Rattle.go_tree.specs.GoTypes.Collect.{env_of, good_entity, declared_by, DeclaredTypes, types_declared, valued_world, collected}
+use Rattle.go_tree.specs.GoTypes.Collect.{env_of, good_entity, declared_by, DeclaredTypes, types_declared, collected}
 use Rattle.go_tree.specs.GoTypes.MethodDeclarations.{MethodName}
 use Rattle.go_tree.specs.GoTypes.WellTyped.{header_ok, is_method, method_ok, well_typed}
 use Rattle.typed_in_place.specs.Declared.{FirstWith, this_one, a_later_one, NamesConstant, ConstantOrRefused, a_constant, refused_yet}
 use Rattle.typed_in_place.specs.Leaves.{Names, plain_name, qualified_name}
-use Rattle.typed_in_place.specs.ProgramReplaced.{All, all_and}
-use Rattle.typed_in_place.proofs.Headers.{declared_in}
+use Rattle.typed_in_place.specs.Known.{Keeps, no_answer, kept}
+use Rattle.typed_in_place.specs.ProgramReplaced.{ValuesEnd, All, all_and}
+use Rattle.typed_in_place.proofs.Headers.{declared_in, value_phase}
+use Rattle.typed_in_place.proofs.RoundsEnded.{last_below}
 use Rattle.typed_in_place.proofs.Leaves.{name_parts}
 use Rattle.run_rules.specs.Surroundings.{Place}
 use Rattle.constant_steps.specs.StepLaws.ConstantUses.{UseOfConstant}
@@ -35,36 +37,42 @@ of-first n h (k ∷ hs) (a_later_one e d) (all_and r rs) = of-first n h hs d rs
 abbrev one-constant : List ℕ → World → Option Operand → Option Binds
 one-constant n w o = only_if true (both (Some None) (both o (Some []) (λ o os. Some (o ∷ os))) (λ t os. given (all_typed os) (bind_all (constant_entity w.defined t) (n ∷ []))))
 
+-- an answer that is kept is there
+pub still-there : {A : Type 0} {p q : Option A} → Keeps p q → is_some p ≡ true → is_some q ≡ true
+still-there no_answer e = absurd (grind (arith, e))
+still-there kept e = e
+
 module _ {S : Type 0} (ps : Program S) (h : Headed S) where
-  abbrev ended : World
-  ended = valued_world ps (headed ps)
-
-  -- a name means at last what it means where the rounds end
-  at-last : (i : Option ℕ) {e : Expr S} {r : Option Entity} {n : List ℕ} → Names (env_of ended h i) e r n → Names (env_of (collected ps) h i) e r n
-  at-last i plain_name = plain_name
-  at-last i (qualified_name q) = qualified_name q
-
   -- the header of a constant declares something
   pub declares-it : (ds : DeclaredTypes) (w : World) (b : List MethodName) (x : Header S) → h.header ≡ x → is_method x ≡ false → header_ok ds w b h ≡ true → is_some (declared_by ds w h) ≡ true
   declares-it ds w b x q m e = sym (ap (λ z. if z then method_ok w b h else is_some (declared_by ds w h)) (ap is_method q ∙ m)) ∙ e
 
-  module _ (c : NameAt S) (f : Expr S) (r : Option Entity) (d : NamesConstant ps (headed ps) h c f r) (well : well_typed ps ≡ true) where
-    abbrev w : World
-    w = collected ps
+module _ {S : Type 0} (ps : Program S) (h : Headed S) (v : World) (ended : ValuesEnd ps v) where
+  -- the types and methods that are found at last, with the names of an end of the rounds
+  abbrev w : World
+  w = record (collected ps) { blocks = v.blocks }
 
+  -- a name means there what it means where the rounds end
+  pub there : (i : Option ℕ) {e : Expr S} {r : Option Entity} {n : List ℕ} → Names (env_of v h i) e r n → Names (env_of w h i) e r n
+  there i plain_name = plain_name
+  there i (qualified_name q) = qualified_name q
+
+  module _ (c : NameAt S) (f : Expr S) (r : Option Entity) (d : NamesConstant ps (headed ps) v h c f r) (well : well_typed ps ≡ true) where
     abbrev ds : DeclaredTypes
     ds = types_declared ps (headed ps)
 
-    header-typed : HeaderTyped ds w h
+    header-typed : HeaderTyped ds (collected ps) h
     header-typed = of-first c.name h (headed ps) d.first (headers-typed ps well)
 
     declares : is_some (declared_by ds w h) ≡ true
-    declares = declares-it ds w header-typed.before (constants (c ∷ []) None (expr_and f no_exprs) d.number) d.header refl header-typed.declares
+    declares =
+        still-there ((value_phase ds (collected ps)).clearer (collected ps).blocks v.blocks (last_below ps v ended) h)
+        (declares-it ps h ds (collected ps) header-typed.before (constants (c ∷ []) None (expr_and f no_exprs) d.number) d.header refl header-typed.declares)
 
     declared-as : declared_by ds w h ≡ one-constant c.name w (named_operand (env_of w h (Some d.number)) r)
     declared-as =
         ap₂ (λ b y. only_if b (declared_in w h (good_entity ds w h) y)) d.sound d.header
-        ∙ ap₂ (λ b o. only_if (b && true) (both (Some None) (both o (Some []) (λ o os. Some (o ∷ os))) (λ t os. given (all_typed os) (bind_all (constant_entity w.defined t) (c.name ∷ []))))) d.bodiless (name_parts (at-last (Some d.number) d.names))
+        ∙ ap₂ (λ b o. only_if (b && true) (both (Some None) (both o (Some []) (λ o os. Some (o ∷ os))) (λ t os. given (all_typed os) (bind_all (constant_entity w.defined t) (c.name ∷ []))))) d.bodiless (name_parts (there (Some d.number) d.names))
 
     not-refused : r ≡ Some refused → ⊥
     not-refused q = absurd (grind (arith, sym declares ∙ ap is_some (declared-as ∙ ap (λ o. one-constant c.name w (named_operand (env_of w h (Some d.number)) o)) q)))
@@ -79,11 +87,11 @@ known-if : (r : Option Entity) → ConstantOrRefused r → (r ≡ Some refused �
 known-if _ (a_constant {t = t} {c = c}) f = record { type = t; value = c; is = refl }
 known-if _ refused_yet f = absurd (f refl)
 
-pub declared-constant-known : {S : Type 0} (ps : Program S) (h : Headed S) (c : NameAt S) (f : Expr S) (r : Option Entity) → NamesConstant ps (headed ps) h c f r → well_typed ps ≡ true → Known r
-declared-constant-known ps h c f r d well = known-if r d.known (not-refused ps h c f r d well)
+pub declared-constant-known : {S : Type 0} (ps : Program S) (h : Headed S) (v : World) → ValuesEnd ps v → (c : NameAt S) (f : Expr S) (r : Option Entity) → NamesConstant ps (headed ps) v h c f r → well_typed ps ≡ true → Known r
+declared-constant-known ps h v ended c f r d well = known-if r d.known (not-refused ps h v ended c f r d well)
 
 -- a use of a constant of a well-typed program is one of a constant that is known
 pub known-use : {S : Type 0} (ps : Program S) (h : Headed S) (c : NameAt S) (f : Expr S) (w : World) (top : Env) (p : Place S) (x e : Expr S) → well_typed ps ≡ true → UseOfConstant ps h c f w top p x e → SwapThere top p x e
 known-use ps h c f v top p x e well u =
-    let k : Known u.meant = declared-constant-known ps h c f u.meant u.declares well in
+    let k : Known u.meant = declared-constant-known ps h v u.ended c f u.meant u.declares well in
     record { use_ = use-of-constant ps h c f v top p x e u; type = k.type; value = k.value; is = constant-of-use ps h c f v top p x e u ∙ k.is }

@@ -3,16 +3,15 @@ use Rattle.std.specs.Prelude.{◌≡◌, refl, ℕ, zero, suc, Bool, List, [], �
 use mathlib.Core.Path.{◌∙◌}
 use Rattle.go_tree.specs.Tree.{NameAt, Expr}
 use Rattle.go_tree.specs.File.{File}
-use Rattle.go_tree.specs.ScopeNames.Means.{means}
 use Rattle.pkg_graph.specs.Package.{Package}
-use Rattle.go_tree.specs.GoTypes.Entities.{World, Env, block_of}
+use Rattle.go_tree.specs.GoTypes.Entities.{World, Env}
 use Rattle.go_tree.specs.GoTypes.Programs.{SourceFile, Program, Headed, headed, block_names, file_block, is_main}
-use Rattle.go_tree.specs.GoTypes.Collect.{file_env, valued_world}
+use Rattle.go_tree.specs.GoTypes.Collect.{file_env}
 use Rattle.run_rules.specs.Surroundings.{Place}
 use Rattle.run_rules.specs.Programs.{decl_seen}
 use Rattle.typed_in_place.specs.Declared.{NamesConstant}
-use Rattle.typed_in_place.specs.ProgramReplaced.{ValuesEnd, after_values, at_last}
 use Rattle.typed_in_place.proofs.SettledNames.{constant_means}
+use Rattle.typed_in_place.proofs.RoundsEnded.{rounds_end}
 use Rattle.constant_steps.specs.StepLaws.DeclStands.{AtNth}
 use Rattle.constant_steps.specs.StepLaws.NamesOutside.{UseThere, AllUsesThere}
 use Rattle.constant_steps.specs.StepLaws.ConstantSteps.{DeclThereStands, FilesThereStand, PackageThereStands, ConstantStep}
@@ -20,15 +19,10 @@ use Rattle.constant_steps.specs.StepLaws.ConstantUses.{UseOfConstant, FilesUse, 
 use Rattle.constant_steps.proofs.StepLaws.ConstantStepLaw.{then-nth}
 use Rattle.constant_steps.proofs.StepLaws.DeclUses.{decl-with-use}
 
--- the rounds' last worlds know the same names
-pub same-blocks : {S : Type 0} (ps : Program S) (w : World) (p : ℕ) (n : List ℕ) → ValuesEnd ps w → means (block_of w.blocks p) n ≡ means (block_of (valued_world ps (headed ps)).blocks p) n
-same-blocks ps _ p n after_values = refl
-same-blocks ps _ p n at_last = refl
-
 -- a use of a constant and a name of what it is declared as mean one constant
 pub use-of-constant : {S : Type 0} (ps : Program S) (h : Headed S) (c : NameAt S) (f : Expr S) (w : World) (top : Env) (p : Place S) (x e : Expr S) → UseOfConstant ps h c f w top p x e → UseThere top p x e
 use-of-constant ps h c f w top p x e u =
-    let d : NamesConstant ps (headed ps) h c f u.meant = u.declares in
+    let d : NamesConstant ps (headed ps) w h c f u.meant = u.declares in
     record {
       old = u.old;
       new = u.new;
@@ -38,7 +32,7 @@ use-of-constant ps h c f w top p x e u =
       new_means = u.new_means;
       old_names = u.old_names;
       new_names = u.new_names;
-      old_is = u.old_is ∙ same-blocks ps w h.home c.name u.ended ∙ constant_means ps (headed ps) h c f d.number d.header d.sound d.bodiless d.named d.home d.names d.known d.first d.in_program;
+      old_is = u.old_is ∙ constant_means ps (headed ps) h c f u.meant w (rounds_end ps u.ended) d;
       new_is = u.new_is;
       old_spelled = u.old_spelled;
       new_spelled = u.new_spelled;

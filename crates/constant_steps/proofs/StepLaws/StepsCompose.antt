@@ -3,12 +3,12 @@ use Rattle.std.specs.Prelude.{◌≡◌, refl, List, [], ◌∷◌, ◌++◌}
 use mathlib.Core.Path.{ap, sym, ◌∙◌, subst}
 use Rattle.go_tree.specs.GoTypes.Entities.{World}
 use Rattle.go_tree.specs.GoTypes.Programs.{Headed, Program, headed, headed_package}
-use Rattle.go_tree.specs.GoTypes.Collect.{aliased_world, typed_world, valued_world, collected}
+use Rattle.go_tree.specs.GoTypes.Collect.{aliased_world, typed_world, named_world, valued_world, collected}
 use Rattle.go_tree.specs.GoTypes.WellTyped.{body_ok}
 use Rattle.typed_in_place.specs.ProgramsAlike.{OneByOne, no_more, and_more, AliasesStand, TypesStand, ValuesStand, BodiesAlike, DeclareAlike}
 use Rattle.typed_in_place.specs.ImportRule.{SamePackage}
-use Rattle.typed_in_place.specs.ProgramReplaced.{InPlace, InPlaceBeside, ValuesEnd, after_values, at_last}
-use Rattle.typed_in_place.proofs.Collected.{same_aliases, same_typed, same_valued, same_collected}
+use Rattle.typed_in_place.specs.ProgramReplaced.{InPlace, InPlaceBeside, ValuesEnd, after_names, after_values, at_last}
+use Rattle.typed_in_place.proofs.SamePrograms.{same_aliases, same_typed, same_named, same_valued, same_collected}
 use Rattle.typed_in_place.proofs.ProgramsReplaced.{append_one, each_one, declare_alike, aliases_stand_itself, types_stand_itself, values_stand_itself, aliases_stand_then, types_stand_then, values_stand_then}
 
 append_turns : {A : Type 0} (xs ys zs : List A) → (xs ++ ys) ++ zs ≡ xs ++ (ys ++ zs)
@@ -49,6 +49,9 @@ module _ {S : Type 0} (more ps qs : Program S) (d : InPlaceBeside more ps qs) wh
   pub types-end : typed_world (ps ++ more) (headed (ps ++ more)) ≡ typed_world (qs ++ more) (headed (qs ++ more))
   types-end = same_typed (ps ++ more) (qs ++ more) alike
 
+  pub names-end : named_world (ps ++ more) (headed (ps ++ more)) ≡ named_world (qs ++ more) (headed (qs ++ more))
+  names-end = same_named (ps ++ more) (qs ++ more) alike
+
   pub values-end : valued_world (ps ++ more) (headed (ps ++ more)) ≡ valued_world (qs ++ more) (headed (qs ++ more))
   values-end = same_valued (ps ++ more) (qs ++ more) alike
 
@@ -67,10 +70,12 @@ same-package-then p q r a b = record { number = a.number ∙ b.number; name = a.
 
 module _ {S : Type 0} (more ps qs rs : Program S) (d : InPlaceBeside more ps qs) (e : InPlaceBeside more qs rs) where
   values-later : (w : World) → ValuesEnd (ps ++ more) w → OneByOne (ValuesStand w) (headed qs) (headed rs)
+  values-later _ after_names = subst (λ w. OneByOne (ValuesStand w) (headed qs) (headed rs)) (sym (names-end more ps qs d)) (e.before _ after_names)
   values-later _ after_values = subst (λ w. OneByOne (ValuesStand w) (headed qs) (headed rs)) (sym (values-end more ps qs d)) (e.before _ after_values)
   values-later _ at_last = subst (λ w. OneByOne (ValuesStand w) (headed qs) (headed rs)) (sym (collected-end more ps qs d)) (e.before _ at_last)
 
   values-earlier : (w : World) → ValuesEnd (rs ++ more) w → OneByOne (ValuesStand w) (headed ps) (headed qs)
+  values-earlier _ after_names = subst (λ w. OneByOne (ValuesStand w) (headed ps) (headed qs)) (names-end more qs rs e) (d.after _ after_names)
   values-earlier _ after_values = subst (λ w. OneByOne (ValuesStand w) (headed ps) (headed qs)) (values-end more qs rs e) (d.after _ after_values)
   values-earlier _ at_last = subst (λ w. OneByOne (ValuesStand w) (headed ps) (headed qs)) (collected-end more qs rs e) (d.after _ at_last)
 

@@ -23,8 +23,8 @@ use Rattle.constant_steps.specs.StepLaws.ConstantSteps.{constant_put}
 pub record UseOfConstant {S : Type 0} (ps : Program S) (h : Headed S) (c : NameAt S) (f : Expr S) (w : World)
     (top : Env) (p : Place S) (x e : Expr S) : Type 0 where
   pub meant : Option Entity
-  pub declares : NamesConstant ps (headed ps) h c f meant
   pub ended : ValuesEnd ps w
+  pub declares : NamesConstant ps (headed ps) w h c f meant
   pub old : List ℕ
   pub new : List ℕ
   pub old_means : Option Entity

@@ -9,9 +9,9 @@ use Rattle.pkg_graph.specs.Package as run
 use Rattle.go_tree.specs.GoTypes.Answers.{is_among}
 use Rattle.go_tree.specs.GoTypes.Entities.{Entity, World, Env, block_of}
 use Rattle.go_tree.specs.GoTypes.Programs.{Program, Headed, headed}
-use Rattle.go_tree.specs.GoTypes.Collect.{file_env, types_declared, collected, valued_world}
+use Rattle.go_tree.specs.GoTypes.Collect.{file_env, types_declared, collected, named_world, valued_world}
 use Rattle.go_tree.specs.GoTypes.WellTyped.{well_typed}
-use Rattle.typed_in_place.specs.Declared.{NamesConstant}
+use Rattle.typed_in_place.specs.Declared.{RoundsEnd, NamesConstant}
 use Rattle.typed_in_place.specs.Leaves.{Names}
 use Rattle.typed_in_place.specs.ProgramReplaced.{InPlaceBeside, All, Apart}
 use Rattle.typed_in_place.specs.Replaced.{ExprReplaced, StmtsReplaced}
@@ -99,9 +99,9 @@ UsesAreNotLocal =
 abbrev pub UsesOfConstantsStand : Type 0
 UsesOfConstantsStand =
     (ps : Program Span) (hs : List (Headed Span)) (h : Headed Span) (x : NameAt Span) (f : Expr Span)
-    (r : Option Entity) → NamesConstant ps hs h x f r → (around : List (List ℕ)) (env : Env) (e e' : Expr Span)
-    (n m : List ℕ) (p q : Option Entity) → Names env e p n →
-    p ≡ means (block_of (valued_world ps hs).blocks h.home) x.name → is_among n around ≡ false → is_blank n ≡ false →
+    (r : Option Entity) (w : World) → RoundsEnd ps hs w → NamesConstant ps hs w h x f r → (around : List (List ℕ))
+    (env : Env) (e e' : Expr Span) (n m : List ℕ) (p q : Option Entity) → Names env e p n →
+    p ≡ means (block_of w.blocks h.home) x.name → is_among n around ≡ false → is_blank n ≡ false →
     Names env e' q m → q ≡ r → is_among m around ≡ false → is_blank m ≡ false → SameExpr around env e e'
 
 -- a declaration in which all that stands at the span are uses of a constant, and another name of it is put, stands
@@ -205,6 +205,12 @@ RunsMeanTheSame =
 abbrev pub StepsCompose : Type 0
 StepsCompose =
     (more ps qs rs : Program Span) → InPlaceBeside more ps qs → InPlaceBeside more qs rs → InPlaceBeside more ps rs
+
+-- and what their names mean by themselves ends alike
+abbrev pub NamesEndAlike : Type 0
+NamesEndAlike =
+    (more ps qs : Program Span) → InPlaceBeside more ps qs →
+    named_world (ps ++ more) (headed (ps ++ more)) ≡ named_world (qs ++ more) (headed (qs ++ more))
 
 -- and the values of their declarations end alike
 abbrev pub ValuesEndAlike : Type 0

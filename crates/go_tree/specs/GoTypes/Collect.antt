@@ -2,6 +2,9 @@
 -- declarations; Variable declarations; Function declarations; Method declarations).
 -- It is found in rounds, as many as there are headers and one: aliases, then which types are refused, then constants,
 -- variables and functions. A name that isn't known yet is refused, so what leads back to itself stays refused.
+-- Constants and variables are found name by name, each by its own value, so that a spec of several names may lead
+-- through another spec back to a name beside its own. Then whole specs are refused: where one of the names is, and
+-- where a name in the spec means what is refused.
 use Rattle.std.specs.Prelude.{ℕ, zero, suc, Bool, not, ◌&&◌, ◌||◌, List, [], ◌∷◌, ◌++◌, length, map}
 use Rattle.std.specs.Prelude.{Option, Some, None, if◌then◌else◌, bytes_eq, nat_eq, codes}
 use Rattle.go_tree.specs.Tree.{NameAt, TypeExpr, Exprs}
@@ -21,6 +24,7 @@ use Rattle.go_tree.specs.GoTypes.Initial.{all_initial}
 use Rattle.go_tree.specs.GoTypes.Bodiless.{all_bodiless}
 use Rattle.go_tree.specs.GoTypes.Programs.{constants, variables, a_type_spec, a_func, spec_of, Headed, header_names}
 use Rattle.go_tree.specs.GoTypes.Programs.{Program, headed}
+use Rattle.go_tree.specs.GoTypes.SingleNames.{by_names}
 pub use Rattle.go_tree.specs.GoTypes.Answers.{and_also}
 pub use Rattle.go_tree.specs.GoTypes.Programs.{file_env, env_of}
 pub use Rattle.go_tree.specs.GoTypes.TypeDeclarations.{DeclaredType, DeclaredTypes, declared_as, under_within}
@@ -172,9 +176,18 @@ module _ {S : Type 0} where
         times rounds (type_round types_declared)
         (record aliased_world { defined = underlying types_declared types_declared })
 
-    -- what all names mean
+  module _ (ps : Program S) (hs : List (Headed S)) where
+    -- a round by names: each means what its own value declares, or is refused
+    abbrev pub name_round : DeclaredTypes → World → World
+    name_round ds w = value_round ps (by_names hs) ds w
+
+    -- what names mean, each by itself
+    abbrev pub named_world : World
+    named_world = times (rounds ps (by_names hs)) (name_round (types_declared ps hs)) (typed_world ps hs)
+
+    -- what all names mean, where whole headers are refused
     abbrev pub valued_world : World
-    valued_world = times rounds (value_round types_declared) typed_world
+    valued_world = times (rounds ps hs) (value_round ps hs (types_declared ps hs)) named_world
 
   -- ---- all that the packages declare
 

@@ -78,6 +78,11 @@ module _ (e : types.Environment) (cs : List Const) where
   GivesBinds ns o (Err NotTyped) = o ≡ None
   GivesBinds ns o (Err NoMemory) = Unit {0}
 
+-- what is answered for one name, as for a list of names
+abbrev pub one_found : Result Entity Refusal → Result (List Entity) Refusal
+one_found (Ok x) = Ok (x ∷ [])
+one_found (Err r) = Err r
+
 -- so many variables of the type
 abbrev pub GivesVariables : ℕ → TypeId → Result (List Entity) Refusal → Type 0
 GivesVariables n t (Ok xs) = xs ≡ replicate n (a_variable t)

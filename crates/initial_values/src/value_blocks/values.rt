@@ -29,7 +29,7 @@ fn copy_of(alloc: Global, name: &Name) -> Result<Vec<u8>, NoMemory>
 }
 
 /// A name other than `_` that the block of a package has means this from now on.
-fn set_value(
+pub fn set_value(
     alloc: Global,
     blocks: &mut Blocks,
     home: u32,

@@ -37,7 +37,7 @@ impl Model for EntityList {
 }
 
 /// What the name of an operand is declared as.
-fn operand_entity(
+pub(crate) fn operand_entity(
     tables: &Tables,
     kind: ValueKind,
     of: Option<TypeId>,

@@ -37,7 +37,7 @@ use type_table::operand_rules::Refusal;
 use typed_names::{Blocks, Scope};
 
 /// The type that is written, where one is.
-fn written_type(
+pub(crate) fn written_type(
     alloc: Global,
     tables: &mut Tables,
     scope: &Scope,

@@ -3,6 +3,7 @@
 
 ghost use Rattle.std.specs.Prelude.{◌≡◌, [], ◌∷◌, ◌++◌, IfOk, OnOk};
 ghost use Rattle.std.specs.Option.{option_map};
+ghost use Rattle.go_tree.specs.Tree.{no_exprs, expr_and};
 ghost use Rattle.go_tree.specs.View.{expr_of, exprs_of, fields_of, name_at_of, type_of};
 ghost use Rattle.name_walks.specs.EachOnce.{each_once};
 ghost use Rattle.go_tree.specs.ScopeNames.FreeNames.{free_expr, free_fields, free_type, free_type_option, named_use};
@@ -107,5 +108,20 @@ pub fn value_names(
     for e in values.items() {
         add_expr(alloc, &mut names, e)?;
     }
+    Ok(names)
+}
+
+/// The same of one name that has a value of its own: the names of the type, if one is written, and the free names of
+/// the value once.
+pub fn names_of_one(
+    alloc: Global,
+    of: &Option<TypeExpr>,
+    value: &Expr,
+) -> Result<Vec<Name>, NoMemory>
+    ensures { IfOk result (λ names. names.items
+        ≡ value_names (option_map type_of of.now) (expr_and (expr_of value.now) no_exprs)) }
+{
+    let mut names = type_names(alloc, of)?;
+    add_expr(alloc, &mut names, value)?;
     Ok(names)
 }

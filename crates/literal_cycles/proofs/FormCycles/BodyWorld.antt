@@ -9,11 +9,11 @@ use Rattle.pkg_graph.specs.Package.{SourceTree, Package}
 use Rattle.go_tree.specs.GoTypes.Entities.{Entity, World, Env}
 use Rattle.go_tree.specs.GoTypes.TypeNames.{resolved}
 use Rattle.go_tree.specs.GoTypes.Programs.{Header, a_func, Program, headed, headers}
-use Rattle.go_tree.specs.GoTypes.Collect.{file_env, aliased_world, types_declared, typed_world, valued_world}
+use Rattle.go_tree.specs.GoTypes.Collect.{file_env, aliased_world, typed_world, valued_world}
 use Rattle.typed_in_place.specs.Replaced.{TypeReplaced}
 use Rattle.typed_in_place.specs.ProgramsAlike.{OneByOne, no_more, and_more, AliasesStand, TypesStand, ValuesStand, DeclareAlike}
 use Rattle.typed_in_place.specs.HeaderReplaced.{SpecsIn, types_of_func, SameReceiver, HeaderIn, in_func}
-use Rattle.typed_in_place.proofs.Collected.{same_collected}
+use Rattle.typed_in_place.proofs.SamePrograms.{same_collected, declare_by}
 use Rattle.typed_in_place.proofs.ProgramsReplaced.{one_by_one, replaced_aliases_stand, replaced_types_stand, replaced_values_stand}
 use Rattle.constant_steps.specs.StepLaws.DeclStands.{ProgramBy, ResolvedAlike, TypesAlike, ValuesAlike}
 use Rattle.constant_steps.proofs.StepLaws.DeclChanged.{DeclBy, receiver_itself, resolved_itself, types_itself, values_itself}
@@ -52,18 +52,10 @@ module _ {S : Type 0} (ps qs : Program S) (aliases : (w : World) → ProgramBy (
   values-stand w = one_by_one (λ h k x. replaced_values_stand w h k (record { home = x.home; in_main = x.in_main; file = x.file; imports = x.imports; sound = x.sound; tree = x.headers })) (program-by (ValuesAlike w) (λ a b d e h k x. names-stand h k x) (values w))
 
   pub declare-alike : DeclareAlike ps qs
-  declare-alike = record {
-    numbers = one_by_one (λ p q a. a.number) (same-packages (ValuesAlike (valued_world ps (headed ps))) (λ a b d e h k x. names-stand h k x) (values (valued_world ps (headed ps))));
-    headers = one_by_one (λ h k r. r.header) (aliases-stand (aliased_world ps (headed ps)));
-    aliases_before = one_by_one (λ h k r. r.alias) (aliases-stand (aliased_world ps (headed ps)));
-    aliases_after = one_by_one (λ h k r. r.alias) (aliases-stand (aliased_world qs (headed qs)));
-    defined = one_by_one (λ h k r. r.defined) (aliases-stand (aliased_world ps (headed ps)));
-    good_before = one_by_one (λ h k r. r.good (types_declared ps (headed ps))) (types-stand (typed_world ps (headed ps)));
-    good_after = one_by_one (λ h k r. r.good (types_declared qs (headed qs))) (types-stand (typed_world qs (headed qs)));
-    declared_before = one_by_one (λ h k r. r.declared (types_declared ps (headed ps))) (values-stand (valued_world ps (headed ps)));
-    declared_after = one_by_one (λ h k r. r.declared (types_declared qs (headed qs))) (values-stand (valued_world qs (headed qs)));
-    methods = one_by_one (λ h k r. r.method) (values-stand (valued_world ps (headed ps)));
-  }
+  declare-alike =
+      declare_by ps qs (one_by_one (λ p q a. a.number) (same-packages (ValuesAlike (valued_world ps (headed ps))) (λ a b d e h k x. names-stand h k x) (values (valued_world ps (headed ps)))))
+      (aliases-stand (aliased_world ps (headed ps))) (aliases-stand (aliased_world qs (headed qs))) (types-stand (typed_world ps (headed ps))) (types-stand (typed_world qs (headed qs)))
+      (λ w e. values-stand w) (λ w e. values-stand w)
 
 -- ---- a form in a body
 

@@ -3,6 +3,7 @@ pub mod Operators
 pub mod Calls
 pub mod Expressions
 pub mod Declarations
+pub mod Headers
 pub mod World
 pub mod FieldsSeen
 pub mod LiteralsSeen

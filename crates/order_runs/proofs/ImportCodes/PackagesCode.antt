@@ -5,12 +5,12 @@ use mathlib.Core.Path.{ap, ap₂, sym, ◌∙◌, subst}
 use Rattle.go_tree.specs.File.{Decl}
 use Rattle.go_tree.specs.GoTypes.Entities.{World, block_of, universe}
 use Rattle.go_tree.specs.GoTypes.Programs.{SourceFile, Program, all_headers, names_in, block_names, file_block, Headed, headed_file, headed_files, headed_package, headed}
-use Rattle.go_tree.specs.GoTypes.Collect.{DeclaredTypes, types_declared, aliased_world, typed_world, valued_world, collected}
+use Rattle.go_tree.specs.GoTypes.Collect.{DeclaredTypes, types_declared, aliased_world, typed_world, collected}
 use Rattle.go_tree.specs.GoTypes.WellTyped.{body_ok}
 use Rattle.typed_in_place.specs.ProgramsAlike.{OneByOne, no_more, and_more, AliasesStand, TypesStand, ValuesStand, DeclareAlike}
 use Rattle.typed_in_place.specs.ImportRule.{SamePackage, declarations_ok}
 use Rattle.typed_in_place.specs.ProgramReplaced.{All, all_of_none, all_and, InPlace}
-use Rattle.typed_in_place.proofs.Collected.{same_collected}
+use Rattle.typed_in_place.proofs.SamePrograms.{same_collected, declare_by}
 use Rattle.typed_in_place.proofs.ImportsMoved.{body-moved}
 use Rattle.typed_in_place.proofs.ProgramsReplaced.{one_by_one, each_one, append_one, moved_aliases_stand, moved_types_stand, moved_values_stand, declarations_as_before}
 use Rattle.go_kernel.specs.Kernel.{ImportPath, Let, same_text}
@@ -97,18 +97,9 @@ module _ {S : Type 0} where
     new = sources qs
 
     pub alike : DeclareAlike old new
-    alike = record {
-      numbers = one_by_one (λ p q a. a.number) (all-same r);
-      headers = one_by_one (λ h k a. a.header) (aliases (aliased_world old (headed old)) (all-moved r));
-      aliases_before = one_by_one (λ h k a. a.alias) (aliases (aliased_world old (headed old)) (all-moved r));
-      aliases_after = one_by_one (λ h k a. a.alias) (aliases (aliased_world new (headed new)) (all-moved r));
-      defined = one_by_one (λ h k a. a.defined) (aliases (aliased_world old (headed old)) (all-moved r));
-      good_before = one_by_one (λ h k a. a.good (types_declared old (headed old))) (types (typed_world old (headed old)) (all-moved r));
-      good_after = one_by_one (λ h k a. a.good (types_declared new (headed new))) (types (typed_world new (headed new)) (all-moved r));
-      declared_before = one_by_one (λ h k a. a.declared (types_declared old (headed old))) (values (valued_world old (headed old)) (all-moved r));
-      declared_after = one_by_one (λ h k a. a.declared (types_declared new (headed new))) (values (valued_world new (headed new)) (all-moved r));
-      methods = one_by_one (λ h k a. a.method) (values (valued_world old (headed old)) (all-moved r));
-    }
+    alike =
+        declare_by old new (one_by_one (λ p q a. a.number) (all-same r)) (aliases (aliased_world old (headed old)) (all-moved r)) (aliases (aliased_world new (headed new)) (all-moved r))
+        (types (typed_world old (headed old)) (all-moved r)) (types (typed_world new (headed new)) (all-moved r)) (λ w y. values w (all-moved r)) (λ w y. values w (all-moved r))
 
     pub declared-moved : collected (sources ps) ≡ collected (sources qs)
     declared-moved = same_collected old new alike

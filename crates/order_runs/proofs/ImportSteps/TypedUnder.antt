@@ -11,7 +11,7 @@ use Rattle.go_tree.specs.GoTypes.WellTyped.{is_method, header_ok, well_typed}
 use Rattle.typed_in_place.specs.ImportsMoved.{under_imports, Moved}
 use Rattle.typed_in_place.specs.ProgramsAlike.{OneByOne, no_more, and_more}
 use Rattle.typed_in_place.specs.ProgramReplaced.{All, all_of_none, all_and}
-use Rattle.typed_in_place.proofs.Collected.{same_types_declared}
+use Rattle.typed_in_place.proofs.SamePrograms.{same_types_declared}
 use Rattle.typed_in_place.proofs.ImportsMoved.{declared-moved, method-moved, body-moved}
 use Rattle.go_translation.specs.Packages.{Package, sources}
 use Rattle.constant_steps.specs.StepLaws.PartsTyped.{HeaderTyped}

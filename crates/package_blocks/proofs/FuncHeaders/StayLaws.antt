@@ -17,10 +17,12 @@ use Rattle.go_tree.specs.GoTypes.Typing.{all_parts}
 use Rattle.go_tree.specs.GoTypes.Initial.{all_initial}
 use Rattle.go_tree.specs.GoTypes.Bodiless.{all_bodiless}
 use Rattle.go_tree.specs.GoTypes.Programs.{Header, constants, variables, a_type_spec, a_func, Headed, header_names, Program, headed, env_of}
-use Rattle.go_tree.specs.GoTypes.Collect.{DeclaredTypes, is_finite, type_entity, good_entity, package_constants, package_variables, may_be_main, function_declared, declared_by, entity_binds, binds_or_refused, block_by, blocks_by, times, value_round, rounds, types_declared, typed_world, valued_world}
+use Rattle.go_tree.specs.GoTypes.Collect.{DeclaredTypes, is_finite, type_entity, good_entity, package_constants, package_variables, may_be_main, function_declared, declared_by, entity_binds, binds_or_refused, block_by, blocks_by, times, type_round, value_round, rounds, types_declared, typed_world, named_world, valued_world}
+use Rattle.go_tree.specs.GoTypes.SingleNames.{by_names}
 use Rattle.typed_in_place.proofs.SameUses.{from_given, from_both, from_only}
 use Rattle.typed_in_place.proofs.Headers.{declared_in, good_in}
 use Rattle.typed_in_place.proofs.Collected.{typed_settled}
+use Rattle.typed_in_place.proofs.NameRounds.TypeBlocks.{typed_by_names}
 use Rattle.declared_types.specs.Members.{member}
 use Rattle.package_blocks.proofs.HeaderLemmas.{append_none, map_append}
 use Rattle.package_blocks.specs.FuncHeaders.NameRoles.{NameRole, another, role, role_of, SameTypes}
@@ -174,7 +176,7 @@ module _ {S : Type 0} (ds : DeclaredTypes) (w v : World) (s : SameTypes w v) whe
       (plain_some (n ∷ []) (binding n (function g))
       (one_plain n (function g) refl ∙ ap roles (sym (append_none (binding n refused)))))))
 
-  good_same : (h : Headed S) (t : TypeSpec S) → good_in ds w h (a_type_spec t) ≡ good_in ds v h (a_type_spec t)
+  pub good_same : (h : Headed S) (t : TypeSpec S) → good_in ds w h (a_type_spec t) ≡ good_in ds v h (a_type_spec t)
   good_same h t =
       λ i.
       only_if (meets (at i) (λ u. s.keys u i && (t.alias || is_finite ds u)))
@@ -260,24 +262,39 @@ module _ {S : Type 0} (ps : Program S) (hs : List (Headed S)) where
   abbrev ds : DeclaredTypes
   ds = types_declared ps hs
 
-  one_round : (w : World) → SameTypes w (typed_world ps hs) → SameTypes (value_round ps hs ds w) (typed_world ps hs)
-  one_round w s =
-      record {
-        names = λ p n.
-            blocks_roles ds w (typed_world ps hs) s ps hs p n
-            ∙ ap (λ x. role_of (member x p n)) (typed_settled ps hs);
-        under = s.under;
-        keys = s.keys;
-      }
+  -- rounds of headers by which a further round of types changes nothing
+  module _ (xs : List (Headed S)) (same : type_round ps xs ds (typed_world ps hs) ≡ typed_world ps hs) where
+    one_round :
+        (w : World) → SameTypes w (typed_world ps hs) → SameTypes (value_round ps xs ds w) (typed_world ps hs)
+    one_round w s =
+        record {
+          names = λ p n.
+              blocks_roles ds w (typed_world ps hs) s ps xs p n
+              ∙ ap (λ x. role_of (member x p n)) same;
+          under = s.under;
+          keys = s.keys;
+        }
 
-  all_rounds : (k : ℕ) (w : World) → SameTypes w (typed_world ps hs) → SameTypes (times k (value_round ps hs ds) w) (typed_world ps hs)
-  all_rounds zero w s = s
-  all_rounds (suc k) w s = all_rounds k (value_round ps hs ds w) (one_round w s)
+    all_rounds :
+        (k : ℕ) (w : World) → SameTypes w (typed_world ps hs) →
+        SameTypes (times k (value_round ps xs ds) w) (typed_world ps hs)
+    all_rounds zero w s = s
+    all_rounds (suc k) w s = all_rounds k (value_round ps xs ds w) (one_round w s)
 
+  names_keep : SameTypes (named_world ps hs) (typed_world ps hs)
+  names_keep =
+      all_rounds (by_names hs) (typed_by_names ps hs) (rounds ps (by_names hs)) (typed_world ps hs)
+      (types_self (typed_world ps hs))
+
+  -- single names, each by itself
+  pub names_stay : SameTypes (typed_world ps hs) (named_world ps hs)
+  names_stay = types_back (named_world ps hs) (typed_world ps hs) names_keep
+
+  -- and whole headers
   pub values_stay : SameTypes (typed_world ps hs) (valued_world ps hs)
   values_stay =
       types_back (valued_world ps hs) (typed_world ps hs)
-      (all_rounds (rounds ps hs) (typed_world ps hs) (types_self (typed_world ps hs)))
+      (all_rounds hs (typed_settled ps hs) (rounds ps hs) (named_world ps hs) names_keep)
 
 pub types_stay : TypesStay
 types_stay ps = values_stay ps (headed ps)

@@ -18,7 +18,8 @@ use Rattle.go_tree.specs.GoTypes.Bodiless.{all_bodiless}
 use Rattle.go_tree.specs.GoTypes.TypeNames.{func_type}
 use Rattle.go_tree.specs.GoTypes.Typing.{parts}
 use Rattle.go_tree.specs.GoTypes.Programs.{Header, constants, a_func, Headed, header_names, SourcePackage, Program, Import, import_entity, import_sound, file_block, block_names, names_in, headers, constant_headers, at_member, all_headers, headed, headed_package, headed_files, headed_file, is_main, env_of}
-use Rattle.go_tree.specs.GoTypes.Collect.{DeclaredTypes, times, alias_entity, good_entity, package_constants, function_declared, func_declared, may_be_main, declared_by, binds_or_refused, entity_binds, block_by, blocks_by, alias_round, type_round, value_round, refused_world, rounds, aliased_world, types_declared, underlying, typed_world, valued_world}
+use Rattle.go_tree.specs.GoTypes.Collect.{DeclaredTypes, times, alias_entity, good_entity, package_constants, function_declared, func_declared, may_be_main, declared_by, binds_or_refused, entity_binds, block_by, blocks_by, alias_round, type_round, value_round, refused_world, rounds, aliased_world, types_declared, underlying, typed_world, named_world, valued_world}
+use Rattle.go_tree.specs.GoTypes.SingleNames.{single_names, with_header, singly, by_names}
 use Rattle.run_rules.specs.Programs.{numbered_from, numbered, is_ready, lesser, least_ready, ordered_after, in_dependency_order, linked_imports, linked_file, linked_package, linked_packages, linked, world}
 use Rattle.pkg_graph.specs.ModuleFiles.Pieces.{comes_before}
 use Rattle.run_rules.specs.Printed.{IsFlat, FlatConstants, no_constants, and_constant, IsPrinted, some_constants, a_function, ArePrinted}
@@ -143,6 +144,15 @@ module _ {S : Type 0} where
   blocks_untyped f [] hs g a = tt
   blocks_untyped f (p ∷ ps) hs g a = (block_by_untyped f p.number hs g a, blocks_untyped f ps hs g a)
 
+  -- each of them has one name
+  flat_singly : (h : Headed S) (x : Header S) → AllMean IsUntypedName h.imports → FlatHeader x → AllHeaded (map (with_header h) (single_names x))
+  flat_singly h _ k (a_constant n v i f) = (record { imports = k; is_flat = a_constant n v i f }, tt)
+  flat_singly h _ k (a_function_header f r) = (record { imports = k; is_flat = a_function_header f r }, tt)
+
+  all_singly : (hs : List (Headed S)) → AllHeaded hs → AllHeaded (by_names hs)
+  all_singly [] a = tt
+  all_singly (h ∷ hs) a = both_headed (singly h) (by_names hs) (flat_singly h h.header a.0.imports a.0.is_flat) (all_singly hs a.1)
+
   module _ (ps : Program S) (hs : List (Headed S)) (a : AllHeaded hs) where
     aliased_untyped : BlocksUntyped (aliased_world ps hs).blocks
     aliased_untyped =
@@ -154,10 +164,15 @@ module _ {S : Type 0} where
         times_untyped (rounds ps hs) (type_round ps hs (types_declared ps hs)) (record (aliased_world ps hs) { defined = underlying (types_declared ps hs) (types_declared ps hs) })
         (λ w u. blocks_untyped (λ h. entity_binds h (good_entity (types_declared ps hs) w h)) ps hs (good_untyped (types_declared ps hs) w u) a) aliased_untyped
 
+    named_untyped : BlocksUntyped (named_world ps hs).blocks
+    named_untyped =
+        times_untyped (rounds ps (by_names hs)) (value_round ps (by_names hs) (types_declared ps hs)) (typed_world ps hs)
+        (λ w u. blocks_untyped (λ h. declared_by (types_declared ps hs) w h) ps (by_names hs) (declared_untyped (types_declared ps hs) w u) (all_singly hs a)) typed_untyped
+
     valued_untyped : BlocksUntyped (valued_world ps hs).blocks
     valued_untyped =
-        times_untyped (rounds ps hs) (value_round ps hs (types_declared ps hs)) (typed_world ps hs)
-        (λ w u. blocks_untyped (λ h. declared_by (types_declared ps hs) w h) ps hs (declared_untyped (types_declared ps hs) w u) a) typed_untyped
+        times_untyped (rounds ps hs) (value_round ps hs (types_declared ps hs)) (named_world ps hs)
+        (λ w u. blocks_untyped (λ h. declared_by (types_declared ps hs) w h) ps hs (declared_untyped (types_declared ps hs) w u) a) named_untyped
 
   -- ---- the headers of printed packages
 

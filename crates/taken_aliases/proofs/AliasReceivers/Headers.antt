@@ -1,6 +1,6 @@
 -- A method whose receiver's type has another name that means the same type: it declares the same, is typed alike, uses
 -- the same names and has the same code.
-use Rattle.std.specs.Prelude.{◌≡◌, refl, ℕ, false, List, [], ◌++◌, Option, Some, None}
+use Rattle.std.specs.Prelude.{◌≡◌, refl, ℕ, false, List, [], ◌∷◌, ◌++◌, map, Option, Some, None}
 use Rattle.go_tree.specs.Tree.{NameAt}
 use Rattle.go_tree.specs.File.{Receiver, Func}
 use Rattle.go_tree.specs.ScopeNames.FreeNames.{sig_names, free_params}
@@ -15,6 +15,8 @@ use Rattle.go_tree.specs.GoTypes.Entities.{Entity}
 use Rattle.go_tree.specs.GoTypes.Programs.{Header, a_func, Headed, header_names}
 use Rattle.go_tree.specs.GoTypes.Collect.{env_of, DeclaredTypes, MethodName, alias_entity, type_declared, good_entity, declared_by, method_header, declared_on, receiver_binds}
 use Rattle.go_tree.specs.GoTypes.WellTyped.{is_method, receiver_of, receiver_names, header_uses, body_ok}
+use Rattle.go_tree.specs.GoTypes.SingleNames.{single_names, with_header}
+use Rattle.typed_in_place.specs.ProgramsAlike.{OneByOne, no_more, and_more, NameStands}
 use Rattle.go_kernel.specs.Kernel as kernel
 use Rattle.go_kernel.specs.Kernel.{ImportPath}
 use Rattle.go_translation.specs.Calls.{method_named}
@@ -52,6 +54,19 @@ module _ {S : Type 0} {w : World} where
   pub declared-same : (ds : DeclaredTypes) (v : World) (h : Headed S) {x y : Header S} → ReceiverNamed w h.home h.imports x y → declared_by ds v (record h { header = x }) ≡ declared_by ds v (record h { header = y })
   declared-same ds v h same_header = refl
   declared-same ds v h (other_receiver f r n q) = refl
+
+  -- so name by name
+  pub singles-same :
+      (v : World) (h k : Headed S) {x y : Header S} →
+      ((a b : Header S) → ReceiverNamed w h.home h.imports a b → NameStands v (with_header h a) (with_header k b)) →
+      ReceiverNamed w h.home h.imports x y →
+      OneByOne (NameStands v) (map (with_header h) (single_names x)) (map (with_header k) (single_names y))
+  singles-same v h k {x = x} p same_header = each (single_names x)
+    where
+      each : (xs : List (Header S)) → OneByOne (NameStands v) (map (with_header h) xs) (map (with_header k) xs)
+      each [] = no_more
+      each (a ∷ xs) = and_more (p a a same_header) (each xs)
+  singles-same v h k p (other_receiver f r n q) = and_more (p _ _ (other_receiver f r n q)) no_more
 
   pub initial-same : (paths : List (ℕ × ImportPath)) (h : Headed S) {x y : Header S} → ReceiverNamed w h.home h.imports x y → header_initial paths w (record h { header = x }) ≡ header_initial paths w (record h { header = y })
   initial-same paths h same_header = refl

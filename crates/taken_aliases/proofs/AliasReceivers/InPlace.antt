@@ -2,16 +2,17 @@
 use Rattle.std.specs.Prelude.{◌≡◌, ◌++◌}
 use mathlib.Core.Path.{◌∙◌}
 use Rattle.go_tree.specs.GoTypes.Entities.{World}
-use Rattle.go_tree.specs.GoTypes.Programs.{Headed, Program, headed}
+use Rattle.go_tree.specs.GoTypes.Programs.{Header, Headed, Program, headed}
+use Rattle.go_tree.specs.GoTypes.SingleNames.{with_header}
 use Rattle.go_tree.specs.GoTypes.Collect.{alias_entity, type_declared, good_entity, declared_by, method_header, declared_on, collected}
 use Rattle.go_tree.specs.GoTypes.WellTyped.{body_ok}
-use Rattle.typed_in_place.specs.ProgramsAlike.{OneByOne, AliasesStand, TypesStand, ValuesStand, BodiesAlike}
+use Rattle.typed_in_place.specs.ProgramsAlike.{OneByOne, AliasesStand, TypesStand, NameStands, ValuesStand, BodiesAlike}
 use Rattle.typed_in_place.specs.ProgramReplaced.{at_last, InPlaceBeside, All, Apart}
 use Rattle.typed_in_place.proofs.ProgramsReplaced.{one_by_one}
 use Rattle.constant_steps.specs.StepLaws.DeclStands.{ProgramBy, HeadedBy}
 use Rattle.constant_steps.proofs.StepLaws.StepInPlace.{program-by, same-packages}
-use Rattle.taken_aliases.specs.AliasReceivers.Receivers.{NamedThere, RenamedProgram}
-use Rattle.taken_aliases.proofs.AliasReceivers.Headers.{names-same, method-same, alias-same, type-same, good-same, declared-same, header-same, on-same, body-same}
+use Rattle.taken_aliases.specs.AliasReceivers.Receivers.{ReceiverNamed, NamedThere, RenamedProgram}
+use Rattle.taken_aliases.proofs.AliasReceivers.Headers.{names-same, method-same, alias-same, type-same, good-same, declared-same, singles-same, header-same, on-same, body-same}
 
 module _ {S : Type 0} (w : World) where
   -- ---- two headers where they stand
@@ -29,6 +30,12 @@ module _ {S : Type 0} (w : World) where
       good = λ ds. good-same ds v h x.headers ∙ (λ z. good_entity ds v (record k { home = x.home z; in_main = x.in_main z; file = x.file z; imports = x.imports z; sound = x.sound z }));
     }
 
+    name-stands : (a b : Header S) → ReceiverNamed w h.home h.imports a b → NameStands w (with_header h a) (with_header k b)
+    name-stands a b y = record {
+      header = record { home = x.home; file = x.file; sound = x.sound; names = names-same y; method = method-same y };
+      declared = λ ds. declared-same ds w h y ∙ (λ z. declared_by ds w (record k { home = x.home z; in_main = x.in_main z; file = x.file z; imports = x.imports z; sound = x.sound z; header = b }));
+    }
+
     values-stand : ValuesStand w h k
     values-stand = record {
       declared = λ ds. declared-same ds w h x.headers ∙ (λ z. declared_by ds w (record k { home = x.home z; in_main = x.in_main z; file = x.file z; imports = x.imports z; sound = x.sound z }));
@@ -36,6 +43,7 @@ module _ {S : Type 0} (w : World) where
         method = header-same h x.headers ∙ (λ z. method_header w (record k { home = x.home z; in_main = x.in_main z; file = x.file z; imports = x.imports z; sound = x.sound z }));
         on = on-same h x.headers ∙ (λ z. declared_on w (record k { home = x.home z; in_main = x.in_main z; file = x.file z; imports = x.imports z; sound = x.sound z }));
       };
+      singles = singles-same w h k name-stands x.headers;
     }
 
     body-stands : body_ok w h ≡ body_ok w k

@@ -1,18 +1,19 @@
 -- What the packages of a program declare is found the same, whatever their order.
 use Rattle.std.proofs.Common.{refl, sym, ◌∙◌, subst}
 use Rattle.std.proofs.lemmas.Slice.Eq.{bytes_eq-Decides}
-use Rattle.std.specs.Prelude.{◌≡◌, ℕ, zero, suc, Bool, true, false, ◌&&◌, ◌||◌, List, [], ◌∷◌, length, Option, Some, None, if◌then◌else◌, bytes_eq, nat_eq}
+use Rattle.std.specs.Prelude.{◌≡◌, ℕ, zero, suc, Bool, true, false, ◌&&◌, ◌||◌, List, [], ◌∷◌, ◌++◌, map, length, Option, Some, None, if◌then◌else◌, bytes_eq, nat_eq}
 use Rattle.go_tree.specs.GoTypes.Answers.{given}
 use Rattle.go_tree.specs.GoTypes.Defined.{Defined, find_defined}
 use Rattle.go_tree.specs.GoTypes.Entities.{Entity, World, Binds, block_of}
-use Rattle.go_tree.specs.GoTypes.Programs.{Program, Headed, headed}
+use Rattle.go_tree.specs.GoTypes.Programs.{Header, Program, Headed, headed}
 use Rattle.go_tree.specs.GoTypes.TypeDeclarations.{DeclaredTypes, declared_as, under_within, underlying}
 use Rattle.go_tree.specs.GoTypes.MethodDeclarations.{DeclaredMethod, methods_on, with_methods, methods_from}
-use Rattle.go_tree.specs.GoTypes.Collect.{times, declared_types, alias_entity, good_entity, declared_by, entity_binds, block_by, blocks_by, alias_round, type_round, value_round, refused_world, rounds, aliased_world, types_declared, typed_world, valued_world, world_of, collected}
+use Rattle.go_tree.specs.GoTypes.Collect.{times, declared_types, alias_entity, good_entity, declared_by, entity_binds, block_by, blocks_by, alias_round, type_round, value_round, refused_world, rounds, aliased_world, types_declared, typed_world, named_world, valued_world, world_of, collected}
+use Rattle.go_tree.specs.GoTypes.SingleNames.{single_names, with_header, singly, by_names}
 use Rattle.typed_in_place.specs.SameWorlds.SameWorlds.{SameWorld, Reordered}
 use Rattle.typed_in_place.proofs.SameWorlds.HeadersSame.{SameDeclared, under_all-same, alias_entity-same, declared_types-same, good_entity-same, declared_by-same, methods_from-same}
 use Rattle.typed_in_place.proofs.SameWorlds.AtHome.{nat_same, block_at_home, types_at_home, methods_at_home}
-use Rattle.typed_in_place.proofs.SameWorlds.HeadersMoved.{HeadersMoved, home-stays, count-stays, types-count-stays, program-moved, has_number, number-stays}
+use Rattle.typed_in_place.proofs.SameWorlds.HeadersMoved.{HeadersMoved, nothing_moved, after_first, places_changed, moved_again, home-stays, count-stays, types-count-stays, program-moved, has_number, number-stays}
 
 -- ---- defined types
 
@@ -59,6 +60,37 @@ module _ {S : Type 0} (f : Headed S → Option Binds) (hs : List (Headed S)) whe
       by i true e = λ z. block_by f (nat_same p.number k e z) hs
       by i false e = i
 
+-- ---- single names of different packages change places
+
+module _ {S : Type 0} where
+  after-all : (xs : List (Headed S)) {hs ks : List (Headed S)} → HeadersMoved hs ks → HeadersMoved (xs ++ hs) (xs ++ ks)
+  after-all [] m = m
+  after-all (x ∷ xs) m = after_first x (after-all xs m)
+
+  past-singles :
+      (h k : Headed S) → nat_eq h.home k.home ≡ false → (ys : List (Header S)) (rest : List (Headed S)) →
+      HeadersMoved (h ∷ (map (with_header k) ys ++ rest)) (map (with_header k) ys ++ (h ∷ rest))
+  past-singles h k e [] rest = nothing_moved (h ∷ rest)
+  past-singles h k e (y ∷ ys) rest =
+      moved_again (places_changed h (with_header k y) (map (with_header k) ys ++ rest) e)
+      (after_first (with_header k y) (past-singles h k e ys rest))
+
+  singles-changed :
+      (h k : Headed S) → nat_eq h.home k.home ≡ false → (xs ys : List (Header S)) (rest : List (Headed S)) →
+      HeadersMoved (map (with_header h) xs ++ (map (with_header k) ys ++ rest))
+      (map (with_header k) ys ++ (map (with_header h) xs ++ rest))
+  singles-changed h k e [] ys rest = nothing_moved (map (with_header k) ys ++ rest)
+  singles-changed h k e (x ∷ xs) ys rest =
+      moved_again (after_first (with_header h x) (singles-changed h k e xs ys rest))
+      (past-singles (with_header h x) k e ys (map (with_header h) xs ++ rest))
+
+  singles-moved : {hs ks : List (Headed S)} → HeadersMoved hs ks → HeadersMoved (by_names hs) (by_names ks)
+  singles-moved (nothing_moved hs) = nothing_moved (by_names hs)
+  singles-moved (after_first h m) = after-all (singly h) (singles-moved m)
+  singles-moved (places_changed h k hs e) =
+      singles-changed h k e (single_names h.header) (single_names k.header) (by_names hs)
+  singles-moved (moved_again m n) = moved_again (singles-moved m) (singles-moved n)
+
 -- ---- two orders of the same packages
 
 module _ {S : Type 0} (ps qs : Program S) (r : Reordered ps qs) where
@@ -71,11 +103,14 @@ module _ {S : Type 0} (ps qs : Program S) (r : Reordered ps qs) where
   moved : HeadersMoved hs ks
   moved = program-moved r
 
-  blocks-same : (f g : Headed S → Option Binds) → ((h : Headed S) → f h ≡ g h) → (k : ℕ) → block_of (blocks_by f ps hs) k ≡ block_of (blocks_by g qs ks) k
-  blocks-same f g e k = block-is f hs k ps ∙ (λ z. if number-stays k r z then block z else []) ∙ sym (block-is g ks k qs)
+  blocks-of : {xs ys : List (Headed S)} → HeadersMoved xs ys → (f g : Headed S → Option Binds) → ((h : Headed S) → f h ≡ g h) → (k : ℕ) → block_of (blocks_by f ps xs) k ≡ block_of (blocks_by g qs ys) k
+  blocks-of {xs = xs} {ys = ys} m f g e k = block-is f xs k ps ∙ (λ z. if number-stays k r z then block z else []) ∙ sym (block-is g ys k qs)
     where
-      block : block_by f k hs ≡ block_by g k ks
-      block = block_at_home f k hs ∙ (λ z. block_by (λ h. e h z) k (home-stays k moved z)) ∙ sym (block_at_home g k ks)
+      block : block_by f k xs ≡ block_by g k ys
+      block = block_at_home f k xs ∙ (λ z. block_by (λ h. e h z) k (home-stays k m z)) ∙ sym (block_at_home g k ys)
+
+  blocks-same : (f g : Headed S → Option Binds) → ((h : Headed S) → f h ≡ g h) → (k : ℕ) → block_of (blocks_by f ps hs) k ≡ block_of (blocks_by g qs ks) k
+  blocks-same f g e k = blocks-of moved f g e k
 
   -- ---- rounds
 
@@ -137,15 +172,23 @@ module _ {S : Type 0} (ps qs : Program S) (r : Reordered ps qs) where
   typed-same : SameWorld (typed_world ps hs) (typed_world qs ks)
   typed-same = rounds-same (type_round ps hs ds) (type_round qs ks es) type-after (record (aliased_world ps hs) { defined = underlying ds ds }) (record (aliased_world qs ks) { defined = underlying es es }) under-same
 
-  value-after : SameAfter (value_round ps hs ds) (value_round qs ks es)
-  value-after w v s = record {
+  value-after : {xs ys : List (Headed S)} → HeadersMoved xs ys → SameAfter (value_round ps xs ds) (value_round qs ys es)
+  value-after m w v s = record {
     found = s.found;
     as_many = s.as_many;
-    blocks = blocks-same (λ h. declared_by ds w h) (λ h. declared_by es v h) (declared_by-same w v s ds es types-same);
+    blocks = blocks-of m (λ h. declared_by ds w h) (λ h. declared_by es v h) (declared_by-same w v s ds es types-same);
   }
 
+  names-moved : HeadersMoved (by_names hs) (by_names ks)
+  names-moved = singles-moved moved
+
+  named-same : SameWorld (named_world ps hs) (named_world qs ks)
+  named-same =
+      subst (λ n. SameWorld (named_world ps hs) (times (suc n) (value_round qs (by_names ks) es) (typed_world qs ks))) (count-stays names-moved)
+      (times-same (value_round ps (by_names hs) ds) (value_round qs (by_names ks) es) (value-after names-moved) (suc (length (by_names hs))) (typed_world ps hs) (typed_world qs ks) typed-same)
+
   pub valued-same : SameWorld (valued_world ps hs) (valued_world qs ks)
-  valued-same = rounds-same (value_round ps hs ds) (value_round qs ks es) value-after (typed_world ps hs) (typed_world qs ks) typed-same
+  valued-same = rounds-same (value_round ps hs ds) (value_round qs ks es) (value-after moved) (named_world ps hs) (named_world qs ks) named-same
 
   -- ---- methods
 

@@ -19,7 +19,7 @@ use Rattle.go_tree.specs.GoTypes.Bodiless.{all_bodiless}
 use Rattle.go_tree.specs.GoTypes.Programs.{constants, variables, a_type_spec, a_func, Header, Headed, Program, headed, env_of}
 use Rattle.go_tree.specs.GoTypes.TypeDeclarations.{DeclaredTypes, under_within, underlying, is_finite}
 use Rattle.go_tree.specs.GoTypes.MethodDeclarations.{with_methods, methods_from}
-use Rattle.go_tree.specs.GoTypes.Collect.{type_entity, package_constants, package_variables, may_be_main, declared_by, types_declared, valued_world, world_of}
+use Rattle.go_tree.specs.GoTypes.Collect.{type_entity, package_constants, package_variables, may_be_main, declared_by, types_declared, world_of, valued_world}
 use Rattle.typed_in_place.proofs.MethodsAside.{under_methods}
 use Rattle.typed_in_place.proofs.Headers.{declared_in, good_in}
 use Rattle.typed_in_place.proofs.Collected.{typed_is, valued_is}

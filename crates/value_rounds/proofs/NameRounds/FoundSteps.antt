@@ -17,12 +17,12 @@ use Rattle.typed_in_place.proofs.Blocks.{Blocks, name_clearer, block_of_clearer}
 use Rattle.typed_in_place.proofs.Phases.{step_clearer}
 use Rattle.typed_in_place.proofs.Headers.{in_world, value_answers, value_phase}
 use Rattle.typed_in_place.proofs.SettledNames.{first_means, block_of_package}
-use Rattle.value_rounds.specs.NameRounds.SingleNames.{by_names}
-use Rattle.value_rounds.specs.NameRounds.Collect.{named_world}
+use Rattle.go_tree.specs.GoTypes.SingleNames.{by_names}
+use Rattle.go_tree.specs.GoTypes.Collect.{named_world}
 use Rattle.value_rounds.specs.NameRounds.Steps.{meant, Below, DeclaresFirst, FoundSoFar, BindsNames, RefusedThere, AllFound}
-use Rattle.value_rounds.proofs.NameRounds.Lists.{append_none, there_some}
+use Rattle.typed_in_place.proofs.NameRounds.Lists.{append_none, there_some}
 use Rattle.value_rounds.proofs.NameRounds.HeadersKept.{header_keeps, means_append}
-use Rattle.value_rounds.proofs.NameRounds.Rounds.{name_step, named_end, named_is, named_end_settled, types_below}
+use Rattle.typed_in_place.proofs.Collected.{name_step, named_end, named_is, named_end_settled, types_below}
 use Rattle.value_rounds.proofs.NameRounds.RefusedSteps.{clearer_then, same_clearer, both_clearer, none_kept, block_is_some, refused_among}
 
 module _ {S : Type 0} (ps : Program S) (hs : List (Headed S)) where
@@ -79,7 +79,7 @@ module _ {S : Type 0} (ps : Program S) (hs : List (Headed S)) where
         declared_by ds (in_world t (named_end ps hs)) h ≡ Some bs
     in_end h bs e = keeps_some bs (header_keeps ds h w (in_world t (named_end ps hs)) r.defined below_end) e
 
-    named_there :
+    pub named_there :
         (h : Headed S) (bs : Binds) → DeclaresFirst ps (by_names hs) h → declared_by ds w h ≡ Some bs → (n : List ℕ) →
         is_among n (header_names h.header) ≡ true → is_blank n ≡ false → meant m h.home n ≡ means bs n
     named_there h bs f e n a b =

@@ -25,7 +25,7 @@ use Rattle.typed_in_place.proofs.SameUses.{from_given, from_both, from_only}
 use Rattle.typed_in_place.proofs.Rising.{and_first, and_second, both_true}
 use Rattle.typed_in_place.proofs.Headers.{declared_in, good_in}
 use Rattle.value_rounds.specs.NameRounds.Steps.{is_known}
-use Rattle.value_rounds.proofs.NameRounds.Lists.{all_append, same_some}
+use Rattle.typed_in_place.proofs.NameRounds.Lists.{all_append, same_some}
 
 -- all names mean what is known
 abbrev pub AllKnown : Binds → Type 0

@@ -17,12 +17,12 @@ use Rattle.typed_in_place.proofs.Blocks.{Blocks, name_clearer, block_of_clearer}
 use Rattle.typed_in_place.proofs.Phases.{step_clearer}
 use Rattle.typed_in_place.proofs.Headers.{in_world, value_answers, value_phase}
 use Rattle.typed_in_place.proofs.SettledNames.{first_means, block_of_package}
-use Rattle.value_rounds.specs.NameRounds.Collect.{named_world, valued_world}
+use Rattle.go_tree.specs.GoTypes.Collect.{named_world, valued_world}
 use Rattle.value_rounds.specs.NameRounds.Steps.{is_known, meant, Below, DeclaresFirst, RefusedSoFar, RefusesNames, DeclaredThere, AllLooked}
-use Rattle.value_rounds.proofs.NameRounds.Lists.{append_none, there_some}
+use Rattle.typed_in_place.proofs.NameRounds.Lists.{append_none, there_some}
 use Rattle.value_rounds.proofs.NameRounds.Known.{declared_known, known_means}
 use Rattle.value_rounds.proofs.NameRounds.HeadersKept.{header_keeps, means_append}
-use Rattle.value_rounds.proofs.NameRounds.Rounds.{header_step, named_end, named_is, headers_begin, header_end, valued_is, header_end_settled, headers_below}
+use Rattle.typed_in_place.proofs.Collected.{header_step, named_end, named_is, headers_begin, header_end, valued_is, header_end_settled, headers_below}
 
 -- ---- names
 
@@ -118,7 +118,7 @@ module _ {S : Type 0} (ps : Program S) (hs : List (Headed S)) where
       ap (λ m. means m n) (block_of_package (value_answers ds t x) hs h.home number)
       ∙ (first_means (value_answers ds t x) (λ k. (value_phase ds t).fits x k) n h hs first (λ ms. r) g e).1
 
-  ends_below : Below v m
+  pub ends_below : Below v m
   ends_below =
       subst (λ u. Below u m) (sym (valued_is ps hs))
       (subst (Below (in_world t (header_end ps hs))) (sym (named_is ps hs))
@@ -139,7 +139,7 @@ module _ {S : Type 0} (ps : Program S) (hs : List (Headed S)) where
 
   module _ (w : World) (r : RefusedSoFar ps hs w) where
     -- a header that is refused now is refused in the end
-    refused_in_end : (h : Headed S) → declared_by ds w h ≡ None → declared_by ds v h ≡ None
+    pub refused_in_end : (h : Headed S) → declared_by ds w h ≡ None → declared_by ds v h ≡ None
     refused_in_end h e = none_kept (header_keeps ds h v w (same_defined ∙ sym r.defined) r.above) e
 
     refused_name :

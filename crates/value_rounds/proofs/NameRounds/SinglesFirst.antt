@@ -11,9 +11,9 @@ use Rattle.go_tree.specs.GoTypes.Programs.{Header, constants, variables, a_type_
 use Rattle.typed_in_place.specs.Declared.{FirstWith, this_one, a_later_one}
 use Rattle.typed_in_place.specs.ProgramReplaced.{All, all_of_none, all_and}
 use Rattle.typed_in_place.proofs.Rising.{and_first, and_second}
-use Rattle.value_rounds.specs.NameRounds.SingleNames.{has_value_each, each_alone, single_names, with_header, singly, by_names}
+use Rattle.go_tree.specs.GoTypes.SingleNames.{has_value_each, each_alone, single_names, with_header, singly, by_names}
 use Rattle.value_rounds.specs.NameRounds.Steps.{DeclaresFirst}
-use Rattle.value_rounds.proofs.NameRounds.NamesMeant.{lacks_then, singly_lacks}
+use Rattle.typed_in_place.proofs.NameRounds.FirstNames.{lacks_then, singly_lacks}
 use Rattle.value_rounds.proofs.NameRounds.RefusedSteps.{apart}
 
 -- ---- names that stand once
@@ -142,14 +142,14 @@ module _ {S : Type 0} (h : Headed S) where
       go true = each_first (λ n e. variables (n ∷ []) t e) (λ n e. refl) ns es once
       go false = alone_first (variables ns t es)
 
-  placed :
+  pub placed :
       (n : List ℕ) (y : Header S) (hs : List (Headed S)) →
       ((rest : List (Headed S)) → FirstWith n (with_header h y) (singly h ++ rest)) → FirstWith n h hs →
       FirstWith n (with_header h y) (by_names hs)
   placed n y [] p f = elim f [ ]
   placed n y (_ ∷ hs) p this_one = p (by_names hs)
   placed n y (k ∷ hs) p (a_later_one e f) =
-      lacks_then n (with_header h y) (singly k) (by_names hs) (singly_lacks n (with_header h y) k k.header e)
+      lacks_then n (with_header h y) (singly k) (by_names hs) (singly_lacks n h.home k k.header e)
       (placed n y hs p f)
 
   pub all_first :

@@ -5,7 +5,7 @@ use Rattle.go_tree.specs.declared.spans.Span.{Span}
 use Rattle.go_tree.specs.GoTypes.Entities.{World}
 use Rattle.go_tree.specs.GoTypes.Programs.{Headed, Program, headed}
 use Rattle.go_tree.specs.GoTypes.TypeDeclarations.{DeclaredTypes}
-use Rattle.go_tree.specs.GoTypes.Collect.{declared_by, types_declared, valued_world, world_of}
+use Rattle.go_tree.specs.GoTypes.Collect.{declared_by, types_declared, world_of, valued_world}
 use Rattle.value_rounds.specs.HeadersStay.SameRules.{NoMethods}
 
 -- a header declares the same once methods are known

@@ -10,8 +10,8 @@ use Rattle.go_tree.specs.GoTypes.Programs.{Headed, header_names, Program}
 use Rattle.go_tree.specs.GoTypes.Collect.{declared_by, types_declared, typed_world}
 use Rattle.typed_in_place.specs.Known.{Clearer}
 use Rattle.typed_in_place.specs.Declared.{FirstWith, HasNumber}
-use Rattle.value_rounds.specs.NameRounds.SingleNames.{by_names}
-use Rattle.value_rounds.specs.NameRounds.Collect.{named_world, valued_world}
+use Rattle.go_tree.specs.GoTypes.SingleNames.{by_names}
+use Rattle.go_tree.specs.GoTypes.Collect.{named_world, valued_world}
 
 -- an entity that isn't refused
 abbrev pub is_known : Entity → Bool

@@ -1,5 +1,5 @@
 use Rattle.constant_steps.proofs.StepLaws.ConstantLeaves.{constant-use-stands}
-use Rattle.constant_steps.proofs.StepLaws.StepsCompose.{values-end}
+use Rattle.constant_steps.proofs.StepLaws.StepsCompose.{names-end, values-end}
 use Rattle.constant_steps.proofs.StepLaws.DeclUses.{decl-with-use}
 use Rattle.constant_steps.proofs.StepLaws.StepUses.{use-of-constant}
 use Rattle.constant_steps.proofs.StepLaws.DeclSwapUses.{decl-swaps}
@@ -8,7 +8,10 @@ use Rattle.constant_steps.proofs.StepLaws.PartsTyped.{headers-typed}
 use Rattle.constant_steps.proofs.step_laws.uses_of_constants_stand.Goals as goal
 
 pub returns-clause-facts : goal.returns-clause-facts
-returns-clause-facts c = λ ps hs h x f r d around env e e' n m p q a i j k b u v w. constant-use-stands ps hs h x f r d around env e e' n m p q a i j k b u v w
+returns-clause-facts c = λ ps hs h x f r w end d around env e e' n m p q a i j k b u v y. constant-use-stands ps hs h x f r w end d around env e e' n m p q a i j k b u v y
+
+pub returns-clause-names : goal.returns-clause-names
+returns-clause-names c = λ more ps qs d. names-end more ps qs d
 
 pub returns-clause-ends : goal.returns-clause-ends
 returns-clause-ends c = λ more ps qs d. values-end more ps qs d

@@ -6,7 +6,8 @@ use Rattle.go_tree.specs.ScopeNames.FreeNames.{names_of}
 use Rattle.go_tree.specs.ScopeNames.Means.{Environment, binding}
 use Rattle.go_tree.specs.GoTypes.Answers.{given, only_if, otherwise, and_also}
 use Rattle.go_tree.specs.GoTypes.Bodies.{body_binds}
-use Rattle.go_tree.specs.GoTypes.Collect.{times, type_entity, spec_type, alias_entity, type_declared, declared_types, good_entity, package_constants, package_variables, function_declared, func_declared, declared_by, binds_or_refused, entity_binds, block_by, blocks_by, alias_round, type_round, value_round, refused_world, rounds, aliased_world, types_declared, typed_world, valued_world, collected}
+use Rattle.go_tree.specs.GoTypes.Collect.{times, type_entity, spec_type, alias_entity, type_declared, declared_types, good_entity, package_constants, package_variables, function_declared, func_declared, declared_by, binds_or_refused, entity_binds, block_by, blocks_by, alias_round, type_round, value_round, refused_world, rounds, aliased_world, types_declared, typed_world, named_world, valued_world, collected}
+use Rattle.go_tree.specs.GoTypes.SingleNames.{by_names}
 use Rattle.go_tree.specs.GoTypes.Declarations.{bind_each, constant_entity, variable_entity}
 use Rattle.go_tree.specs.GoTypes.Defined.{Defined, Method}
 use Rattle.go_tree.specs.GoTypes.Entities.{Entity, variable, function, refused, World, Env, Binds, universe, block_of, defined_in}
@@ -14,6 +15,7 @@ use Rattle.go_tree.specs.GoTypes.MethodDeclarations.{MethodName, DeclaredMethod,
 use Rattle.go_tree.specs.GoTypes.Programs.{Import, SourceFile, Program, Header, constants, variables, a_type_spec, a_func, spec_of, func_of, Headed, header_names, import_entity, import_sound, file_env, file_block, block_names, headed_file, headed_files, headed_package, headed, all_headers, names_in, is_main, env_of}
 use Rattle.go_tree.specs.GoTypes.TypeDeclarations.{DeclaredType, DeclaredTypes, declared_as, under_within, underlying}
 use Rattle.go_tree.specs.GoTypes.Types.{GoType, basic, named_type, pointer_to, slice_of, map_of, struct_of, tuple_of, untyped, untyped_nil}
+use Rattle.literal_steps.proofs.ServedPackages.OpenTypes.Headers.{OpenHeaders, headers_joined, names_open}
 use Rattle.literal_steps.specs.ServedPackages.OpenTypes.{OpenType, OpenFunction, OpenMethods, OpenDefined, OpenEntity, OpenNames, OpenBlocks, OpenWorld, OpenPlace}
 use Rattle.literal_steps.proofs.ServedPackages.OpenTypes.Calls.{all_typed_open}
 use Rattle.literal_steps.proofs.ServedPackages.OpenTypes.Declarations.{names_joined, binding_open, each_open, bind_all_open, constant_entity_open, variable_entity_open}
@@ -175,11 +177,6 @@ times_holds P f g zero a h = h
 times_holds P f g (suc k) a h = times_holds P f g k (f a) (g a h)
 
 module _ {S : Type 0} where
-  -- the imports of each header mean what has open types
-  abbrev pub OpenHeaders : List (Headed S) → Type 0
-  OpenHeaders [] = Unit {0}
-  OpenHeaders (h ∷ hs) = OpenNames h.imports × OpenHeaders hs
-
   header_place : (w : World) (h : Headed S) (i : Option ℕ) → OpenWorld w → OpenNames h.imports →
       OpenPlace (env_of w h i)
   header_place w h i x k = file_open w h.home h.imports i x k
@@ -328,9 +325,15 @@ module _ {S : Type 0} where
         })
         (underlying_open (types_declared ps hs) types_open (types_declared ps hs) types_open, aliased_open.1)
 
-    valued_open : OpenWorld (valued_world ps hs)
-    valued_open = times_holds OpenWorld (value_round ps hs (types_declared ps hs))
-        (value_round_open (types_declared ps hs)) (rounds ps hs) (typed_world ps hs) typed_open
+  valued_open : (ps : Program S) (hs : List (Headed S)) → OpenHeaders hs → OpenWorld (valued_world ps hs)
+  valued_open ps hs k =
+      times_holds OpenWorld (value_round ps hs ds) (value_round_open ps hs k ds) (rounds ps hs) (named_world ps hs)
+      (times_holds OpenWorld (value_round ps (by_names hs) ds)
+      (value_round_open ps (by_names hs) (names_open hs k) ds) (rounds ps (by_names hs)) (typed_world ps hs)
+      (typed_open ps hs k))
+    where
+      ds : DeclaredTypes
+      ds = types_declared ps hs
 
   -- ---- methods
 
@@ -364,10 +367,6 @@ module _ {S : Type 0} where
       (file_block members (i.name ∷ before) is) (binding_open i.name
       (import_entity (import_sound members before i) i.of) (import_open (import_sound members before i) i.of))
       (imports_open members (i.name ∷ before) is)
-
-  headers_joined : (xs ys : List (Headed S)) → OpenHeaders xs → OpenHeaders ys → OpenHeaders (xs ++ ys)
-  headers_joined [] ys h k = k
-  headers_joined (x ∷ xs) ys h k = (h.0, headers_joined xs ys h.1 k)
 
   file_headers : (home : ℕ) (m : Bool) (file : ℕ) (is : Environment Entity) → OpenNames is →
       (before : List (List ℕ)) (hs : List (S × Header S)) → OpenHeaders (headed_file home m file is before hs)

@@ -8,11 +8,10 @@ use Rattle.go_tree.specs.GoTypes.Answers.{is_among}
 use Rattle.go_tree.specs.GoTypes.Entities.{Entity, World, block_of, universe}
 use Rattle.go_tree.specs.GoTypes.Programs as typed
 use Rattle.go_tree.specs.GoTypes.Programs.{Headed, all_headers, names_in, is_init, import_entity, file_block, headed_files, headed}
-use Rattle.go_tree.specs.GoTypes.Collect.{types_declared, aliased_world, typed_world, valued_world, alias_entity, good_entity, type_declared, declared_by, DeclaredTypes, collected}
-use Rattle.typed_in_place.specs.ProgramsAlike.{OneByOne, no_more, and_more, SameHeader, SameMethod, SameNumbers, DeclareAlike}
-use Rattle.typed_in_place.proofs.Collected.{same_collected}
-use Rattle.typed_in_place.proofs.ImportsMoved.{alias-moved, good-moved, type_declared-moved, declared-moved, method-moved, header-moved}
-use Rattle.typed_in_place.proofs.ProgramsReplaced.{one_by_one, append_one}
+use Rattle.go_tree.specs.GoTypes.Collect.{aliased_world, typed_world, collected}
+use Rattle.typed_in_place.specs.ProgramsAlike.{OneByOne, no_more, and_more, SameNumbers, DeclareAlike, AliasesStand, TypesStand, ValuesStand}
+use Rattle.typed_in_place.proofs.SamePrograms.{same_collected, declare_by}
+use Rattle.typed_in_place.proofs.ProgramsReplaced.{one_by_one, append_one, moved_aliases_stand, moved_types_stand, moved_values_stand}
 use Rattle.run_rules.specs.Programs.{linked_imports, linked_file, linked_package, linked_packages, in_dependency_order, world}
 use Rattle.order_runs.specs.CycleRuns.ImportCycles.OtherImports.{PackagesBeside, import_path, FileUnder, PackageUnder, SameOrder}
 use Rattle.order_runs.proofs.CycleRuns.ImportCycles.NamesReadAlike.{past-blank}
@@ -81,17 +80,14 @@ module _ {S : Type 0} (ps qs : List (Package S)) (h : PackagesBeside ps qs) wher
 
   -- ---- what headers declare
 
-  same-header : (x k : Headed S) → HeaderMoved x k → (w : World) → SameHeader x k
-  same-header x k r w = subst (λ z. SameHeader x z) (sym r.same) (header-moved w r.imports x (r.moved w))
+  aliases-stand : (w : World) (x k : Headed S) → HeaderMoved x k → AliasesStand w x k
+  aliases-stand w x k r = subst (AliasesStand w x) (sym r.same) (moved_aliases_stand w r.imports x (r.moved w))
 
-  same-method : (x k : Headed S) → HeaderMoved x k → (w : World) → SameMethod w x k
-  same-method x k r w = subst (λ z. SameMethod w x z) (sym r.same) (method-moved w r.imports x (r.moved w))
+  types-stand : (w : World) (x k : Headed S) → HeaderMoved x k → TypesStand w x k
+  types-stand w x k r = subst (TypesStand w x) (sym r.same) (moved_types_stand w r.imports x (r.moved w))
 
-  abbrev Declare : DeclaredTypes → World → Headed S → Headed S → Type 0
-  Declare ds w x k = declared_by ds w x ≡ declared_by ds w k
-
-  same-declared : (ds : DeclaredTypes) (w : World) (x k : Headed S) → HeaderMoved x k → Declare ds w x k
-  same-declared ds w x k r = subst (λ z. Declare ds w x z) (sym r.same) (declared-moved w r.imports x (r.moved w) ds)
+  values-stand : (w : World) (x k : Headed S) → HeaderMoved x k → ValuesStand w x k
+  values-stand w x k r = subst (ValuesStand w x) (sym r.same) (moved_values_stand w r.imports x (r.moved w))
 
   module _ (xs ys : List (ℕ × Package S)) (order : OneByOne (PackageUnder ps qs) xs ys) where
     abbrev before : typed.Program S
@@ -100,28 +96,11 @@ module _ {S : Type 0} (ps qs : List (Package S)) (h : PackagesBeside ps qs) wher
     abbrev after : typed.Program S
     after = linked_packages qs ys
 
-    aliases : (w : World) → OneByOne (λ x k. alias_entity w x ≡ alias_entity w k) (headed before) (headed after)
-    aliases w = one_by_one (λ x k r. alias-moved w r.imports x (r.moved w) ∙ ap (alias_entity w) (sym r.same)) (all-moved order)
-
-    good : (ds : DeclaredTypes) (w : World) → OneByOne (λ x k. good_entity ds w x ≡ good_entity ds w k) (headed before) (headed after)
-    good ds w = one_by_one (λ x k r. good-moved w r.imports x (r.moved w) ds ∙ ap (good_entity ds w) (sym r.same)) (all-moved order)
-
-    declare : (ds : DeclaredTypes) (w : World) → OneByOne (Declare ds w) (headed before) (headed after)
-    declare ds w = one_by_one {R = HeaderMoved} {Q = Declare ds w} (same-declared ds w) (all-moved order)
-
     alike : DeclareAlike before after
-    alike = record {
-      numbers = numbers order;
-      headers = one_by_one (λ x k r. same-header x k r (collected before)) (all-moved order);
-      aliases_before = aliases (aliased_world before (headed before));
-      aliases_after = aliases (aliased_world after (headed after));
-      defined = one_by_one (λ x k r. type_declared-moved (aliased_world before (headed before)) r.imports x (r.moved (aliased_world before (headed before))) ∙ ap (type_declared (aliased_world before (headed before))) (sym r.same)) (all-moved order);
-      good_before = good (types_declared before (headed before)) (typed_world before (headed before));
-      good_after = good (types_declared after (headed after)) (typed_world after (headed after));
-      declared_before = declare (types_declared before (headed before)) (valued_world before (headed before));
-      declared_after = declare (types_declared after (headed after)) (valued_world after (headed after));
-      methods = one_by_one (λ x k r. same-method x k r (valued_world before (headed before))) (all-moved order);
-    }
+    alike =
+        declare_by before after (numbers order) (one_by_one (aliases-stand (aliased_world before (headed before))) (all-moved order)) (one_by_one (aliases-stand (aliased_world after (headed after))) (all-moved order))
+        (one_by_one (types-stand (typed_world before (headed before))) (all-moved order)) (one_by_one (types-stand (typed_world after (headed after))) (all-moved order))
+        (λ w e. one_by_one (values-stand w) (all-moved order)) (λ w e. one_by_one (values-stand w) (all-moved order))
 
     pub collected-moved : collected after ≡ collected before
     collected-moved = sym (same_collected before after alike)

@@ -11,10 +11,10 @@ use Rattle.pkg_graph.specs.Package.{Package}
 use Rattle.go_tree.specs.GoTypes.Entities.{World}
 use Rattle.go_tree.specs.GoTypes.TypeNames.{resolved, type_meant}
 use Rattle.go_tree.specs.GoTypes.Programs.{headed, file_env}
-use Rattle.go_tree.specs.GoTypes.Collect.{aliased_world, typed_world, valued_world, collected}
+use Rattle.go_tree.specs.GoTypes.Collect.{aliased_world, typed_world, named_world, valued_world, collected}
 use Rattle.typed_in_place.specs.Replaced.{same_type, TypeReplaced}
 use Rattle.typed_in_place.specs.HeaderReplaced.{no_receiver}
-use Rattle.typed_in_place.specs.ProgramReplaced.{ValuesEnd, after_values, at_last}
+use Rattle.typed_in_place.specs.ProgramReplaced.{ValuesEnd, after_names, after_values, at_last}
 use Rattle.run_rules.specs.Sites.{MarkRef, Site, part_span, sites}
 use Rattle.run_rules.specs.FormTrees.{as_type}
 use Rattle.run_rules.specs.Programs.{linked, top_place, body_place, decl_seen}
@@ -77,10 +77,12 @@ abbrev after : List (Package At)
 after = packages_put before in_f (as_type new_type)
 
 values-before : (w : World) → ValuesEnd (linked before) w → StandsIn before in_f (as_type new_type) w
+values-before _ after_names = values-there (named_world (linked before) (headed (linked before))) refl
 values-before _ after_values = values-there (valued_world (linked before) (headed (linked before))) refl
 values-before _ at_last = values-there (collected (linked before)) refl
 
 values-after : (w : World) → ValuesEnd (linked after) w → StandsIn before in_f (as_type new_type) w
+values-after _ after_names = values-there (named_world (linked after) (headed (linked after))) refl
 values-after _ after_values = values-there (valued_world (linked after) (headed (linked after))) refl
 values-after _ at_last = values-there (collected (linked after)) refl
 

@@ -15,10 +15,10 @@ use Rattle.go_tree.specs.declared.const_eval.consts.Const.TheVariants.{Whole}
 use Rattle.go_tree.specs.GoTypes.Types.{untyped}
 use Rattle.go_tree.specs.GoTypes.Entities.{Entity, constant, World, meaning}
 use Rattle.go_tree.specs.GoTypes.Programs.{headed, file_env}
-use Rattle.go_tree.specs.GoTypes.Collect.{valued_world, collected}
+use Rattle.go_tree.specs.GoTypes.Collect.{named_world, valued_world, collected}
 use Rattle.typed_in_place.specs.Declared.{a_constant}
 use Rattle.typed_in_place.specs.Leaves.{plain_name}
-use Rattle.typed_in_place.specs.ProgramReplaced.{ValuesEnd, after_values, at_last}
+use Rattle.typed_in_place.specs.ProgramReplaced.{ValuesEnd, after_names, after_values, at_last}
 use Rattle.run_rules.specs.Sites.{part_span}
 use Rattle.run_rules.specs.FormTrees.{as_expr}
 use Rattle.run_rules.specs.Programs.{linked, decl_seen}
@@ -60,10 +60,12 @@ module _ (w : World) (old : meaning (file_env w 0 [] None) (codes "Ptr") ≡ Som
       (tt, ((tt, λ i. cc), ((tt, λ i. cc), ((tt, λ i. the_use), ((tt, λ i. cc), (tt, tt))))))
 
 in-before : (w : World) → ValuesEnd (linked before) w → UsesIn before in_two new_name w
+in-before _ after_names = uses-in (named_world (linked before) (headed (linked before))) refl refl
 in-before _ after_values = uses-in (valued_world (linked before) (headed (linked before))) refl refl
 in-before _ at_last = uses-in (collected (linked before)) refl refl
 
 in-after : (w : World) → ValuesEnd (linked (packages_put before in_two (as_expr new_name))) w → UsesIn before in_two new_name w
+in-after _ after_names = uses-in (named_world (linked (packages_put before in_two (as_expr new_name))) (headed (linked (packages_put before in_two (as_expr new_name))))) refl refl
 in-after _ after_values = uses-in (valued_world (linked (packages_put before in_two (as_expr new_name))) (headed (linked (packages_put before in_two (as_expr new_name))))) refl refl
 in-after _ at_last = uses-in (collected (linked (packages_put before in_two (as_expr new_name)))) refl refl
 

@@ -14,10 +14,10 @@ use Rattle.pkg_graph.specs.Package.{SourceTree, Package}
 use Rattle.go_tree.specs.GoTypes.Types.{untyped}
 use Rattle.go_tree.specs.GoTypes.Entities.{Entity, constant, World, Env, exported}
 use Rattle.go_tree.specs.GoTypes.Programs.{headed, file_env}
-use Rattle.go_tree.specs.GoTypes.Collect.{valued_world, collected}
+use Rattle.go_tree.specs.GoTypes.Collect.{named_world, valued_world, collected}
 use Rattle.typed_in_place.specs.Declared.{a_constant}
 use Rattle.typed_in_place.specs.Leaves.{qualified_name}
-use Rattle.typed_in_place.specs.ProgramReplaced.{ValuesEnd, after_values, at_last}
+use Rattle.typed_in_place.specs.ProgramReplaced.{ValuesEnd, after_names, after_values, at_last}
 use Rattle.run_rules.specs.Sites.{MarkRef, Site, part_span, sites}
 use Rattle.run_rules.specs.FormTrees.{as_expr}
 use Rattle.run_rules.specs.Programs.{linked, decl_seen}
@@ -107,10 +107,12 @@ abbrev after : List (Package At)
 after = packages_put before in_f (as_expr new_name)
 
 in-before : (w : World) → ValuesEnd (linked before) w → UsesIn before in_f new_name w
+in-before _ after_names = uses-in (named_world (linked before) (headed (linked before))) refl refl
 in-before _ after_values = uses-in (valued_world (linked before) (headed (linked before))) refl refl
 in-before _ at_last = uses-in (collected (linked before)) refl refl
 
 in-after : (w : World) → ValuesEnd (linked after) w → UsesIn before in_f new_name w
+in-after _ after_names = uses-in (named_world (linked after) (headed (linked after))) refl refl
 in-after _ after_values = uses-in (valued_world (linked after) (headed (linked after))) refl refl
 in-after _ at_last = uses-in (collected (linked after)) refl refl
 

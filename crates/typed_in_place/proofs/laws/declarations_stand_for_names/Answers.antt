@@ -4,7 +4,7 @@ use Rattle.typed_in_place.proofs.CalledLiteral.{same_function, literal_in_place}
 use Rattle.typed_in_place.proofs.laws.declarations_stand_for_names.Goals as goal
 
 pub returns-clause-constant : goal.returns-clause-constant
-returns-clause-constant c = λ ps hs h x f r d around a e g n m p q i j k l u v w y. declared_constant_stands ps hs h x f r d around a e g n m p q i j k l u v w y
+returns-clause-constant c = λ ps hs h x f r w end d around a e g n m p q i j k l u v y z. declared_constant_stands ps hs h x f r w end d around a e g n m p q i j k l u v y z
 
 pub returns-clause-alias : goal.returns-clause-alias
 returns-clause-alias c = λ ps hs h t d w end around a p q n u k m s f g. declared_alias_stands ps hs h t d w end around a p q n u k m s f g

@@ -1,11 +1,11 @@
-use Rattle.std.proofs.Common.{◌≡◌, ◌∙◌, IfOk, ap, arith, false, refl, subst, sym, true}
+use Rattle.std.proofs.Common.{◌≡◌, IfOk, refl, subst, sym, true}
 use Rattle.initial_values.specs.ValueEntities.Headers.{HasSpelledValues}
 use Rattle.package_blocks.specs.declared.headers.HeaderKind.{HeaderKind}
 use Rattle.package_blocks.specs.declared.headers.HeaderKind.TheVariants as kind
 use Rattle.package_blocks.specs.Headers.{header_of}
 use Rattle.value_rounds.specs.Values.{is_value}
 use Rattle.collected.specs.ValueHeaders.Steps.{SetsValues}
-use Rattle.collected.proofs.ValueHeaders.HeaderLemmas.{under_condition}
+use Rattle.collected.proofs.ValueHeaders.HeaderLemmas.{no_value, under_condition}
 use Rattle.collected.proofs.value_headers.headers.declare_kind.Goals as goal
 
 pub declare_constants-requires-clause-spelled : goal.declare_constants-requires-clause-spelled
@@ -43,13 +43,6 @@ returns-in-Variables-clause-set c =
     (sym c.in-Variables.is)
     (under_condition c.declare_variables.result (is_value (header_of of) ≡ true) (SetsValues k bs m ds file (header_of of))
     c.declare_variables.ensures.set)
-
--- a kind of header that isn't one of values
-no_value :
-    (x y : HeaderKind) → x ≡ y → is_value (header_of y) ≡ false → is_value (header_of x) ≡ true → ⊥
-no_value x y e none some =
-    let z : true ≡ false = sym some ∙ ap (λ k. is_value (header_of k)) e ∙ none in
-    absurd (grind (arith, z))
 
 pub returns-in-Type-clause-set : goal.returns-in-Type-clause-set
 returns-in-Type-clause-set c = λ e. absurd (no_value c.args.kind _ c.in-Type.is refl e)
