@@ -1,5 +1,5 @@
 -- The name that is needed for a package at a use is the one that the rules find.
-use Rattle.std.proofs.Common.{◌≡◌, ◌∙◌, refl, sym, ap, subst, ℕ, suc, ◌<◌, ◌^◌, Bool, true, false, not, ◌&&◌, ◌||◌, cond, bytes_eq, codes, List, [], ◌∷◌, ◌++◌, map, filter, reverse, Option, Some, None, is_some}
+use Rattle.std.proofs.Common.{◌≡◌, ◌∙◌, refl, sym, ap, subst, ℕ, suc, Bool, true, false, not, ◌&&◌, ◌||◌, cond, bytes_eq, codes, List, [], ◌∷◌, ◌++◌, map, filter, reverse, Option, Some, None, is_some}
 use Rattle.std.specs.List.{list_any}
 use Rattle.std.proofs.lemmas.Bool.{both_ways}
 use Rattle.go_tree.specs.declared.spans.Span.{Span}
@@ -26,11 +26,12 @@ use Rattle.pkg_graph.specs.Package.{import_specs}
 use Rattle.pkg_graph.specs.Members.{import_name}
 use Rattle.run_rules.specs.Surroundings.{Place, is_local}
 use Rattle.run_rules.specs.Sites.{Where}
-use Rattle.run_rules.specs.Naming.{Named, no_span, fuel_for, fresh_name, package_path, own_name, names_here, environment_here, added_import, named_package}
+use Rattle.run_rules.specs.Naming.{Named, no_span, fresh_name, package_path, own_name, names_here, environment_here, added_import, named_package}
 use Rattle.run_rules.specs.Laws.{needed_of}
 use Rattle.run_rules.specs.Steps.{At}
 use Rattle.run_rules.specs.Run.{here_of}
-use Rattle.run_rules.proofs.NamesFound.{named_is_needed}
+use Rattle.fresh_names.specs.Laws.{TakesFew}
+use Rattle.fresh_names.proofs.Found.{found-needed, takes-few-leave}
 use Rattle.constant_steps.specs.FormImports.ImportLaws.Steps.{names_standing}
 use Rattle.constant_steps.proofs.FormImports.ImportLaws.GraphImports.{map_twice}
 use Rattle.constant_steps.specs.PlaceMeanings.Agreement.{means_local, AgreesAt}
@@ -169,12 +170,12 @@ module _ (ps : List (packages.Package At)) (w : Where At) (p : Place At) (names 
   rebuilt q (Some n) = refl
   rebuilt q None = refl
 
-  pub named_is : (q : ℕ) (a : Needed) → fuel_for w.source.tree (avoided (names_standing ps w) []) < 2 ^ 64 → IsNeededAt names file at [] (package_path ps q) (own_name ps q) a
+  pub named_is : (q : ℕ) (a : Needed) → TakesFew w.source.tree (avoided (names_standing ps w) []) → IsNeededAt names file at [] (package_path ps q) (own_name ps q) a
       → named_by q (package_path ps q) (own_name ps q) a ≡ named_package ps w p [] q
   named_is q a few h =
-      let few_asked : fuel_for w.source.tree (avoided asked []) < 2 ^ 64 =
-      subst (λ (l : List (List ℕ)). fuel_for w.source.tree l < 2 ^ 64) (ap (λ (x : FileNames). avoided x []) (sym named) ∙ same_avoided []) few in
+      let few_asked : TakesFew w.source.tree (avoided asked []) =
+      subst (TakesFew w.source.tree) (ap (λ (x : FileNames). avoided x []) (sym named) ∙ same_avoided []) few in
       let one : a ≡ needed_of (named_package ps w p [] q) =
       one_is_needed names file here [] (package_path ps q) (own_name ps q) a (needed_of (named_package ps w p [] q)) h
-      (as_told [] (package_path ps q) (own_name ps q) (needed_of (named_package ps w p [] q)) (named_is_needed ps w p [] q few_asked)) in
+      (as_told [] (package_path ps q) (own_name ps q) (needed_of (named_package ps w p [] q)) (found-needed ps w p [] q (takes-few-leave w.source.tree (avoided asked []) (own_name ps q) few_asked))) in
       ap (named_by q (package_path ps q) (own_name ps q)) one ∙ rebuilt q (serving rules [] (package_path ps q) asked.imports)

@@ -1,6 +1,6 @@
 -- A use of a marked constant of a program as it stands, and what the code is told of it (Go specification, Constant
 -- declarations; Qualified identifiers; Declarations and scope).
-use Rattle.std.specs.Prelude.{◌≡◌, ℕ, ◌<◌, ◌^◌, Bool, not, List, [], map, Option, Some, None, slice_get}
+use Rattle.std.specs.Prelude.{◌≡◌, ℕ, Bool, not, List, [], map, Option, Some, None, slice_get}
 use Rattle.std.specs.List.{list_any}
 use Rattle.go_tree.specs.Tree.{NameAt, Expr, ident, selector}
 use Rattle.go_tree.specs.FileView.{file_of}
@@ -8,6 +8,7 @@ use Rattle.go_tree.specs.declared.scope_names.names.Entity.{Entity}
 use Rattle.go_tree.specs.declared.scope_names.names.Entity.TheVariants as entity
 use Rattle.go_tree.specs.ScopeNames.Identifiers.{identifiers}
 use Rattle.scope_tables.specs.Table.{IsTableOf, table_of}
+use Rattle.fresh_names.specs.Laws.{TakesFew}
 use Rattle.run_rules.specs.ImportRules.Needs.{avoided}
 use Rattle.pkg_graph.specs.Package.{Package}
 use Rattle.pkg_graph.specs.Views.{package_view}
@@ -16,7 +17,7 @@ use Rattle.run_rules.specs.Surroundings.{Place}
 use Rattle.run_rules.specs.Programs.{top_place}
 use Rattle.run_rules.specs.Sites.{MarkRef, Where, Site, a_constant, part_span, where_is, inlinable, mark_of}
 use Rattle.run_rules.specs.Sites.{outer_meaning, qualifier}
-use Rattle.run_rules.specs.Naming.{unnamed_package, fuel_for}
+use Rattle.run_rules.specs.Naming.{unnamed_package}
 use Rattle.run_rules.specs.Reduced.{reduced}
 use Rattle.run_rules.specs.Respanned.{packages_with}
 use Rattle.run_rules.specs.Steps.{At, same_here, lies_in}
@@ -70,7 +71,7 @@ module _ (ps : List (Package At)) where
       pub home_stands : slice_get ps home.number ≡ Some home.of
       pub use_stands : slice_get ps x.at.number ≡ Some x.at.of
       pub words : identifiers (file_of u.file.now) ≡ identifiers x.at.source.tree
-      pub few_words : fuel_for x.at.source.tree (avoided (names_standing ps x.at) []) < 2 ^ 64
+      pub few_words : TakesFew x.at.source.tree (avoided (names_standing ps x.at) [])
       pub names_are : u.names.now ≡ names_standing ps x.at
       pub is_table : IsTableOf u.names.now (file_of u.file.now) (table_of u.scopes.now)
       pub agrees : AgreesAt ps x.at (table_of u.scopes.now) x.place u.at

@@ -1,5 +1,5 @@
 -- The first candidate that is new is found wherever one is.
-use Rattle.std.proofs.Common.{◌≡◌, ◌≢◌, refl, sym, ap, ◌∙◌, ℕ, zero, suc, ◌+◌, ◌<◌, ◌≤◌, ◌⊎◌, inl, inr, ⊎_elim, Bool, true, false, true≢false, not, ◌&&◌, ◌||◌, nat_eq, bytes_eq, List, [], ◌∷◌, ◌++◌, length, Option, Some, None, if◌then◌else◌, codes, arith}
+use Rattle.std.proofs.Common.{◌≡◌, ◌≢◌, refl, sym, ap, ◌∙◌, subst, ℕ, zero, suc, ◌+◌, ◌<◌, ◌≤◌, ◌^◌, ◌⊎◌, inl, inr, ⊎_elim, Bool, true, false, true≢false, not, ◌&&◌, ◌||◌, nat_eq, bytes_eq, List, [], ◌∷◌, ◌++◌, length, Option, Some, None, if◌then◌else◌, codes, arith}
 use Rattle.std.proofs.lemmas.Bool.{eqb-true, eqb-false, cases_lt}
 use Rattle.std.proofs.lemmas.List.{length-append}
 use Rattle.go_tree.specs.File.{File}
@@ -14,7 +14,7 @@ use Rattle.run_rules.specs.Surroundings.{Place}
 use Rattle.run_rules.specs.Sites.{Where}
 use Rattle.run_rules.specs.Naming.{package_path, own_name, names_here, environment_here, added_import, named_package, first_new, fuel_for, fresh_name}
 use Rattle.run_rules.specs.Laws.{needed_of}
-use Rattle.fresh_names.specs.Laws.{IsNewCandidate}
+use Rattle.fresh_names.specs.Laws.{IsNewCandidate, TakesFew}
 use Rattle.fresh_names.proofs.Decimals.{told_apart}
 use Rattle.fresh_names.proofs.Candidates.{different, candidates-differ, Known, known, all-fit}
 
@@ -101,6 +101,10 @@ module _ {S : Type 0} (file : File S) (avoid : List (List ℕ)) (base : List ℕ
           absurd (true≢false (sym k.1 ∙ ap (is_new file avoid) w.same ∙ none w.number (let few : w.number < different = w.few in omega (arith, m)))))
           (cases_lt (fuel_for file avoid) different)
 
+  -- where the names to avoid are fewer than 2^64 as they are listed, each as often as it stands, few are not new
+  pub few-listed : fuel_for file avoid < 2 ^ 64 → TakesFew file avoid
+  few-listed h = record { names = taken; taken = taken-so; few = subst (λ (k : ℕ). k < 2 ^ 64) (sym taken-many) h }
+
   -- so the name that is found is the first new one
   pub found-first : IsNewCandidate file avoid base → IsFresh base file avoid (fresh_name file avoid base)
   found-first k = searched base (is_new file avoid) (fuel_for file avoid) 0 (λ j l. absurd (omega (arith, l))) (next-new k)
@@ -128,6 +132,24 @@ module _ {S : Type 0} (ps : List (Package S)) (w : Where S) (p : Place S) (bound
 
 -- ---- where one is new
 
+abbrev two_to_64 : ℕ
+two_to_64 = 18446744073709551616
+
+two_to_64_is : two_to_64 ≡ 2 ^ 64
+two_to_64_is = refl
+
+abbrev most : ℕ
+most = 11000000000000000000000000000000000000000000000000000000000000000
+
+most_is : most ≡ told_apart
+most_is = refl
+
+fewer : (k : ℕ) → k < 2 ^ 64 → k ≤ told_apart
+fewer k h =
+    let a : k < two_to_64 = subst (λ (b : ℕ). k < b) (sym two_to_64_is) h in
+    let c : k ≤ most = omega (arith, a) in
+    subst (λ (b : ℕ). k ≤ b) most_is c
+
 module _ (base : List ℕ) (passes : List ℕ → Bool) where
   -- one of so many passes, or none does
   looked : (m : ℕ) → ((k : ℕ) × (passes (candidate base k) ≡ true)) ⊎ NonePass base passes m
@@ -148,6 +170,10 @@ module _ {S : Type 0} (file : File S) (avoid : List (List ℕ)) (base : List ℕ
       (λ i l. all (candidate base i) (none i l)) in
       absurd (omega arith))
       (looked base (is_new file avoid) (suc (length names)))
+
+  -- so it is where they are fewer than 2^64
+  pub takes-few-leave : TakesFew file avoid → IsNewCandidate file avoid base
+  takes-few-leave h = few-leave h.names h.taken (fewer (length h.names) h.few)
 
 -- ---- where none is
 

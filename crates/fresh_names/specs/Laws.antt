@@ -1,6 +1,6 @@
 -- The laws of new names for packages. Each is the contract of a function of this crate (Go specification, Identifiers;
 -- Import declarations).
-use Rattle.std.specs.Prelude.{◌≡◌, ℕ, ◌≤◌, ◌+◌, ◌^◌, true, false, List, length}
+use Rattle.std.specs.Prelude.{◌≡◌, ℕ, ◌≤◌, ◌<◌, ◌+◌, ◌^◌, true, false, List, length}
 use Rattle.go_tree.specs.File.{File}
 use Rattle.go_tree.specs.GoWords.Tokens.Pieces.{is_among}
 use Rattle.go_tree.specs.ScopeNames.Fresh.{candidate, is_new, IsFresh}
@@ -18,6 +18,13 @@ IsNewCandidate file avoid base = (k : ℕ) × (is_new file avoid (candidate base
 -- The names that are not new stand among these.
 abbrev pub TakenAmong : {S : Type 0} → File S → List (List ℕ) → List (List ℕ) → Type 0
 TakenAmong file avoid names = (n : List ℕ) → is_new file avoid n ≡ false → is_among names n ≡ true
+
+-- The names that are not new in the file, where these are to be avoided, stand among fewer than 2^64: however often the
+-- file writes a name, it counts once.
+pub record TakesFew {S : Type 0} (file : File S) (avoid : List (List ℕ)) : Type 0 where
+  pub names : List (List ℕ)
+  pub taken : TakenAmong file avoid names
+  pub few : length names < 2 ^ 64
 
 -- ---- new names
 

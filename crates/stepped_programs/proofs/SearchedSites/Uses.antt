@@ -18,7 +18,7 @@ use Rattle.pkg_graph.specs.Package.{SourceTree, Package, import_specs}
 use Rattle.pkg_graph.specs.Views.{package_view}
 use Rattle.go_tree.specs.GoTypes.Answers.{given, meets}
 use Rattle.run_rules.specs.Sites.{MarkRef, Where, Inlinable, a_constant, an_alias, a_function, Site, part_span, same_mark, is_among_marks, inlinable}
-use Rattle.run_rules.specs.Naming.{fuel_for}
+use Rattle.fresh_names.specs.Laws.{TakesFew}
 use Rattle.run_rules.specs.Marks.{text_at}
 use Rattle.run_rules.specs.Texts.{FileText}
 use Rattle.run_rules.specs.Respanned.{file_with, package_with}
@@ -196,7 +196,7 @@ module _ (marks : List MarkRef) (st : Standing) (w : Where At) (p : ProgramView)
                 ap identifiers (told.file_is ∙ iw.tree_is) ∙ file-stays here_of w.source.tree
                 ∙ ap (λ (v : Where At). identifiers v.source.tree) (sym placed.there);
             few_words =
-                subst (λ (v : Where At). fuel_for v.source.tree (avoided (names_standing ps v) []) < 2 ^ 64) (sym placed.there)
+                subst (λ (v : Where At). TakesFew v.source.tree (avoided (names_standing ps v) [])) (sym placed.there)
                 iw.few_words;
             names_are = told.names_are ∙ iw.names_are ∙ ap (names_standing ps) (sym placed.there);
             is_table = table_told;

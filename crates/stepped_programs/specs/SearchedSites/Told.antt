@@ -4,12 +4,12 @@ use Rattle.std.specs.Prelude.{◌≡◌, ℕ, ◌<◌, ◌^◌, true, List, [], 
 use Rattle.go_tree.specs.Tree.{NameAt, Expr}
 use Rattle.go_tree.specs.FileView.{file_of}
 use Rattle.scope_tables.specs.Table.{IsTableOf, table_of}
+use Rattle.fresh_names.specs.Laws.{TakesFew}
 use Rattle.run_rules.specs.ImportRules.Needs.{avoided}
 use Rattle.pkg_graph.specs.Package.{Package, import_specs}
 use Rattle.pkg_graph.specs.Views.{package_view}
 use Rattle.run_rules.specs.Programs.{package_number}
 use Rattle.run_rules.specs.Sites.{MarkRef, Where, a_constant, is_among_marks, where_is, inlinable}
-use Rattle.run_rules.specs.Naming.{fuel_for}
 use Rattle.run_rules.specs.Marks.{text_at}
 use Rattle.run_rules.specs.Texts.{FileText}
 use Rattle.run_rules.specs.Respanned.{file_with, packages_with}
@@ -55,7 +55,7 @@ pub record IsProgram (marks : List MarkRef) (st : Standing) (p : ProgramView) : 
       → IsToldValue st.packages home e (value_in p.values.now m)
 
 -- The file stands there in the program, and reads from its text; its tree, its comments, its names, the table of its
--- scopes and the numbers of its imports are told; its identifiers, with the names to avoid, are fewer than 2^64. Its
+-- scopes and the numbers of its imports are told; the names that aren't new in it are few. Its
 -- declarations are as marked_uses asks, whatever table tells which keys of composite literals name fields.
 pub record IsFile (marks : List MarkRef) (st : Standing) (w : Where At) (f : FileView) : Type 0 where
   pub home_is : f.home ≡ w.number
@@ -69,6 +69,6 @@ pub record IsFile (marks : List MarkRef) (st : Standing) (w : Where At) (f : Fil
   pub names_are : f.names.now ≡ names_standing st.packages w
   pub table : IsTableOf f.names.now (file_of f.tree.now) (table_of f.scopes.now)
   pub imports_are : f.imports.now ≡ map (λ s. package_number st.packages s.path) (import_specs w.source.tree)
-  pub few_words : fuel_for w.source.tree (avoided (names_standing st.packages w) []) < 2 ^ 64
+  pub few_words : TakesFew w.source.tree (avoided (names_standing st.packages w) [])
   pub sound : EachSound st.packages w w.source.tree.decls
   pub told : (t : LiteralTypes) → EachTold st.packages w (names_of f) t w.source.tree.decls

@@ -1,12 +1,12 @@
 -- The law of looks at files of a program as it stands (Go specification, Declarations and scope; Import declarations).
-use Rattle.std.specs.Prelude.{◌≡◌, ℕ, ◌<◌, ◌^◌, List, [], map, Some, slice_get}
+use Rattle.std.specs.Prelude.{◌≡◌, ℕ, List, [], map, Some, slice_get}
 use Rattle.go_tree.specs.FileView.{file_of}
 use Rattle.go_scan.specs.TokenLists.{TokenLists}
+use Rattle.fresh_names.specs.Laws.{TakesFew}
 use Rattle.run_rules.specs.ImportRules.Needs.{avoided}
 use Rattle.pkg_graph.specs.Views.{package_view}
 use Rattle.pkg_graph.specs.declared.packages.SourceTree.{SourceTree}
 use Rattle.run_rules.specs.Sites.{MarkRef, Where}
-use Rattle.run_rules.specs.Naming.{fuel_for}
 use Rattle.run_rules.specs.Marks.{text_at}
 use Rattle.run_rules.specs.Texts.{FileText}
 use Rattle.run_rules.specs.Respanned.{file_with, package_with, packages_with}
@@ -40,7 +40,7 @@ pub record StandsAs
   pub source_is : file_of source.tree ≡ file_with here_of w.source.tree
   pub comments_are : tokens.comments ≡ text.comments
   pub block_is : IsBlockOf block (package_with here_of w.of)
-  pub few_words : fuel_for w.source.tree (avoided (names_standing st.packages w) []) < 2 ^ 64
+  pub few_words : TakesFew w.source.tree (avoided (names_standing st.packages w) [])
   pub sound : EachSound st.packages w w.source.tree.decls
   pub told :
       (f : Names) (t : LiteralTypes) → Knows here_of (file_with here_of) st.packages w f

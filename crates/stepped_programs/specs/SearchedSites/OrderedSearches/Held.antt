@@ -4,11 +4,11 @@ use Rattle.std.specs.Prelude.{◌≡◌, ℕ, ◌<◌, ◌^◌, true, Bool, List
 use Rattle.std.specs.Prelude.{None, slice_get}
 use Rattle.go_tree.specs.Tree.{NameAt, Expr}
 use Rattle.go_scan.specs.TokenLists.{TokenLists}
+use Rattle.fresh_names.specs.Laws.{TakesFew}
 use Rattle.run_rules.specs.ImportRules.Needs.{avoided}
 use Rattle.pkg_graph.specs.Package.{Package}
 use Rattle.pkg_graph.specs.Views.{package_view}
 use Rattle.run_rules.specs.Sites.{MarkRef, Where, a_constant, is_among_marks, where_is, inlinable}
-use Rattle.run_rules.specs.Naming.{fuel_for}
 use Rattle.run_rules.specs.Marks.{text_at}
 use Rattle.run_rules.specs.Texts.{FileText}
 use Rattle.run_rules.specs.Respanned.{file_with, packages_with}
@@ -43,11 +43,11 @@ pub record AreTokensOf (st : Standing) (w : Where At) (list : TokenLists) : Type
   pub tokens_are : list.items ≡ text.tokens
   pub comments_are : list.comments ≡ text.comments
 
--- The file may be searched: its identifiers, with the names to avoid, are fewer than 2^64, and its declarations are as
+-- The file may be searched: the names that aren't new in it are few, and its declarations are as
 -- marked_uses asks, by whatever table of its scopes, and whatever table tells which keys of composite literals name
 -- fields.
 pub record IsSearchable (marks : List MarkRef) (st : Standing) (w : Where At) : Type 0 where
-  pub few_words : fuel_for w.source.tree (avoided (names_standing st.packages w) []) < 2 ^ 64
+  pub few_words : TakesFew w.source.tree (avoided (names_standing st.packages w) [])
   pub sound : EachSound st.packages w w.source.tree.decls
   pub told :
       (f : Names) (t : LiteralTypes) → Knows here_of (file_with here_of) st.packages w f
