@@ -91,7 +91,6 @@ module _ {S T : Type 0} {w : World} {h : Headed S} {k : Headed T} where
     declared = λ ds. sym (a.declared ds);
   }
 
-
 module _ {S T : Type 0} {w : World} {h : Headed S} {k : Headed T} where
   pub values_stand_back : ValuesStand w h k → ValuesStand w k h
   values_stand_back a = record {
