@@ -3,3 +3,17 @@ pub mod Walk
 pub mod Decls
 pub mod UsesThere
 pub mod Rewritten
+pub mod Recorded
+pub mod Read
+pub mod Items
+pub mod Chosen
+pub mod Names
+pub mod Forms
+pub mod Applies
+pub mod Obstacles
+pub mod Reduces
+pub mod Files
+pub mod Remade
+pub mod Step
+pub mod Apart
+pub mod Becoming

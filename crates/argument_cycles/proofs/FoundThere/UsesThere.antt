@@ -1,6 +1,6 @@
 -- The use of a step stands, with the imports of its form added, where it stood.
-use Rattle.std.proofs.Common.{◌≡◌, refl, sym, ◌∙◌, subst, ℕ, zero, suc, Bool, true, false, List, [], ◌∷◌, Some, arith}
-use Rattle.std.specs.Prelude.{slice_get, Contains}
+use Rattle.std.proofs.Common.{◌≡◌, refl, sym, ◌∙◌, subst, ℕ, zero, suc, List, ◌∷◌, Some}
+use Rattle.std.specs.Prelude.{slice_get}
 use Rattle.std.proofs.lemmas.Option.{same_Some}
 use Rattle.go_tree.specs.declared.spans.Span.{Span}
 use Rattle.go_tree.specs.File.{Decl}
@@ -9,7 +9,7 @@ use Rattle.go_tree.specs.ScopeNames.Identifiers.{expr_identifiers, decl_identifi
 use Rattle.go_tree.specs.GoTypes.Agreement.{In}
 use Rattle.go_tree.specs.GoTypes.Entities.{World}
 use Rattle.pkg_graph.specs.Package.{Package}
-use Rattle.typed_in_place.specs.ProgramsAlike.{OneByOne, no_more, and_more}
+use Rattle.typed_in_place.specs.ProgramsAlike.{no_more, and_more}
 use Rattle.typed_in_place.specs.SameWorlds.SameWorlds.{SameWorld}
 use Rattle.run_rules.specs.Programs.{world, decl_seen}
 use Rattle.run_rules.specs.Run.{Standing, Logged, Next, is_commented, here_of}
@@ -46,6 +46,20 @@ module _ (left right : World) (same : SameWorld left right) (P : List ℕ → Ty
   found_there (and_more r rs) first = first_there r
   found_there (and_more r rs) (later a) = further (found_there rs a)
 
+  abbrev place_or : Place S → Seen S → Place S
+  place_or d (seen q u e) = q
+  place_or d s = d
+
+  its-place : {p : Place S} {u : Use} {e : Expr S} (q : Place S) (y : Seen S) → Part left right same P (seen p u e) y → y ≡ seen q u e → Both left right same P (expr_identifiers e) p q
+  its-place {p} {e = e} q _ (part_expr {q = r} h) c = subst (λ (z : Place S). Both left right same P (expr_identifiers e) p z) (λ v. place_or q (c v)) h
+
+  -- the use's place, where it has a number
+  pub at-number : {p : Place S} {u : Use} {e : Expr S} (q : Place S) {xs ys : List (Seen S)} → walk.Parts left right same P xs ys → (k : ℕ) → slice_get xs k ≡ Some (seen p u e) → slice_get ys k ≡ Some (seen q u e)
+      → Both left right same P (expr_identifiers e) p q
+  at-number q no_more k w h = absurd cc
+  at-number {p} {u} {e} q (and_more {a = x} {b = y} r rs) zero w h = its-place q y (subst (λ (z : Seen S). Part left right same P z y) (same_Some x (seen p u e) w) r) (same_Some y (seen q u e) h)
+  at-number q (and_more r rs) (suc k) w h = at-number q rs k w h
+
 module _ (marks : List MarkRef) (st : Standing) (l : Logged) (after : Standing) (n : Next marks st l after) (new : AddsNewNames st.packages n.found) (before : AllOrdered st.packages) (added : AllOrdered (packages_added st.packages n.found)) (e : Expr At) (part : n.found.site.part ≡ an_expr e) where
   abbrev x : Site At
   x = n.found.site
@@ -53,7 +67,7 @@ module _ (marks : List MarkRef) (st : Standing) (l : Logged) (after : Standing) 
   abbrev mid : List (Package At)
   mid = packages_added st.packages n.found
 
-  here : Placed here_of (λ (z : Span). Unit {0}) st.packages marks x
+  pub here : Placed here_of (λ (z : Span). Unit {0}) st.packages marks x
   here = placed marks st l after n
 
   seat : Seated st.packages marks x
@@ -80,3 +94,9 @@ module _ (marks : List MarkRef) (st : Standing) (l : Logged) (after : Standing) 
       was_seen = λ d h. subst (λ (c : Decl At). slice_get (decl_seen st.packages x.at.number x.at.of x.at.source.tree c) there.nth ≡ Some (seen x.place x.use_ e)) (same_Some here.decl d (sym here.decl_is ∙ h)) there.was;
       is_seen = λ d h. subst (λ (c : Decl At). slice_get (decl_seen mid x.at.number (where_added n.found).of (file_added n.found) c) there.nth ≡ Some (seen there.place x.use_ e)) (same_Some here.decl d (sym here.decl_is ∙ h)) there.now;
     }
+
+    -- any place that it has there is like its old one
+    pub both_there : (t : UseThere n) → t.tree ≡ e → Both (world st.packages) (world mid) Same P (expr_identifiers e) x.place t.place
+    both_there t same_tree =
+        at-number (world st.packages) (world mid) Same P t.place (step-parts marks st l after n new before added P x.decl here.decl here.decl_is so) t.nth
+        (t.was_seen here.decl here.decl_is ∙ (λ v. Some (seen x.place x.use_ (same_tree v)))) (t.is_seen here.decl here.decl_is ∙ (λ v. Some (seen t.place x.use_ (same_tree v))))

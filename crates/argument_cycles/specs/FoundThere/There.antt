@@ -1,8 +1,7 @@
 -- A step's use with the imports of its form added to its file (Go specification, Calls; Import declarations; Qualified
 -- identifiers; Declarations and scope).
-use Rattle.std.specs.Prelude.{◌≡◌, ◌⊎◌, ℕ, Bool, false, List, map, ◌++◌, Option, Some, None, slice_get}
+use Rattle.std.specs.Prelude.{◌≡◌, ◌⊎◌, ℕ, false, List, map, ◌++◌, Some, None, slice_get}
 use Rattle.go_tree.specs.File.{Decl}
-use Rattle.go_tree.specs.ScopeNames.Binders.{func_binders}
 use Rattle.go_tree.specs.ScopeNames.Means.{means, numbered}
 use Rattle.go_tree.specs.ScopeNames.Means as scope
 use Rattle.go_tree.specs.Tree.{Expr}
