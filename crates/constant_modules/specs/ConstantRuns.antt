@@ -1,4 +1,3 @@
 pub mod Laws
 pub mod FirstUses
 pub mod Runs
-pub mod Apart

@@ -15,10 +15,11 @@ use Rattle.go_translation.specs.SameMeaning.{Packages, SameMeaning}
 use Rattle.run_rules.specs.Surroundings.{whole, Place, Seen, seen}
 use Rattle.run_rules.specs.Programs.{top_place, decl_seen}
 use Rattle.run_rules.specs.Sites.{MarkRef, Where, Site, an_expr, qualified_mark}
-use Rattle.run_rules.specs.FormTrees.{ConstForm}
+use Rattle.run_rules.specs.FormTrees.{ConstForm, as_expr}
+use Rattle.run_rules.specs.Reduced.{becomes, home_place, reduced}
 use Rattle.constant_steps.specs.Alone.{this_package, a_later_package}
 use Rattle.constant_steps.specs.PlainUse.{linked_at}
-use Rattle.constant_steps.specs.QualifiedSteps.MemberNames.{own_member, imported_member}
+use Rattle.constant_steps.specs.QualifiedSteps.MemberNames.{NamesMember, own_member, imported_member}
 use Rattle.constant_steps.specs.QualifiedSteps.NamedUse.{one_qualifier}
 use Rattle.constant_steps.proofs.QualifiedSteps.ExampleParts.{named, of_p, no_comments}
 use Rattle.constant_modules.specs.NamedAnywhere.Use.{NamedUseAnywhere, ConstantUse, PackagesStandAnywhere, same_before}
@@ -95,12 +96,21 @@ use_of_c =
 names_c : qualified_mark rs here use_of_c.place (codes "p") (codes "C") ≡ Some (mark_of 1 1)
 names_c = refl
 
-is_named_use : ConstantUse nat_eq no_comments rs marks use_of_c
+use_names : NamesMember rs here use_of_c.place use_before (mark_of 1 1)
+use_names = imported_member {s = 31} {t = 32} {q = codes "p"} {n = named 33 (codes "C")} {m = mark_of 1 1} names_c refl
+
+text_names : NamesMember rs home (home_place nat_eq no_comments rs marks home) (ident 21 (codes "D")) (mark_of 0 1)
+text_names = own_member refl
+
+use_reduces : reduced nat_eq no_comments rs marks use_of_c ≡ Some (becomes ConstForm (as_expr put) 31 (record { of = 0; name = codes "p"; added = None } ∷ []))
 unfolding passes
+use_reduces = refl
+
+is_named_use : ConstantUse nat_eq no_comments rs marks use_of_c
 is_named_use = record {
   use_ = use_before;
   part = refl;
-  names = imported_member {s = 31} {t = 32} {q = codes "p"} {n = named 33 (codes "C")} {m = mark_of 1 1} names_c refl;
+  names = use_names;
   home = home;
   home_is = refl;
   constant = named 20 (codes "C");
@@ -108,7 +118,7 @@ is_named_use = record {
   declared = refl;
   untyped = refl;
   new_mark = mark_of 0 1;
-  text_names = own_member refl;
+  text_names = text_names;
   new_home = home;
   new_home_is = refl;
   new_span = 7;
@@ -119,7 +129,7 @@ is_named_use = record {
   new = put;
   range = 31;
   packages = record { of = 0; name = codes "p"; added = None } ∷ [];
-  reduces = refl;
+  reduces = use_reduces;
   none_added = refl;
 }
 
