@@ -33,7 +33,7 @@ module _ (files : List Source) (marks : List MarkRef) (st : Standing) (l : Logge
 
   pub kept : SettledFlagsStay → AreAllSettled marks st (users_of old) (flags_of old) → AreAllSettled marks after (users_of new) (flags_of new)
   kept law settled =
-      law files marks st l after n old new s t (users_of old) (users_of new) (flags_of old) (flags_of new) a b over
+      law files marks st l after n old new s t (users_of old) (users_of new) (flags_of old) (flags_of new) a b put.types_stay over
       (filled files marks st l after n at os block f old new a.is_program o put).others
       (λ d k i other was. subst (λ (u : Known). is_user u d (k, i) ≡ true) (sym put.users_stay) was) settled may_stay
 

@@ -1,2 +1,3 @@
 pub mod OnTheWay
+pub mod Types
 pub mod Laws

@@ -61,6 +61,7 @@ module _ (files : List Source) (marks : List MarkRef) (st : Standing) (old new :
         places_told = t.places_told ∙ sym (ap (λ (p : Program). p.places) f.rest);
         marks_told = t.marks_told ∙ sym (ap (λ (p : Program). p.marks) f.rest);
         values_told = t.values_told ∙ sym (ap (λ (p : Program). p.values) f.rest);
+        types_told = t.types_told ∙ sym (ap (λ (p : Program). p.types) f.rest);
       }
 
   kept_stays : (s : ProgramSources) → IsKeptProgram files marks st old s → IsKeptProgram files marks st new s
@@ -71,6 +72,7 @@ module _ (files : List Source) (marks : List MarkRef) (st : Standing) (old new :
         ready = a.ready;
         typed = a.typed;
         named = a.named;
+        fields = subst (TellsFields st.packages) (sym (ap (λ (p : Program). p.types) f.rest)) a.fields;
         searchable = a.searchable;
       }
 

@@ -1,0 +1,20 @@
+use Rattle.constant_modules.proofs.ConstantPrograms.Few.{files_few}
+use Rattle.constant_modules.proofs.ConstantPrograms.Stay.{read_programs, first_right, steps_over_names, programs_stay}
+use Rattle.constant_modules.proofs.constant_programs.laws.constant_programs_stay.Goals as goal
+
+pub returns-clause-read : goal.returns-clause-read
+returns-clause-read c = read_programs c.constant_programs_are_read.ensures c.keys_apart_are_found.ensures.read c.paths_stay_apart.ensures.read
+
+pub returns-clause-first : goal.returns-clause-first
+returns-clause-first c = first_right c.constant_steps_take_names_apart.ensures.none c.first_uses_are_of_constants.ensures.uses c.first_uses_are_of_constants.ensures.typed
+
+pub returns-clause-over : goal.returns-clause-over
+returns-clause-over c = steps_over_names c.constant_steps_take_names_apart.ensures.takes
+
+pub returns-clause-kept : goal.returns-clause-kept
+returns-clause-kept c =
+    programs_stay c.constant_steps_take_names_apart.ensures.none c.constant_steps_take_names_apart.ensures.takes c.constant_steps_stay.ensures.kept c.paths_stay_apart.ensures.kept
+    c.printed_steps_avoid_few_names.ensures.total
+
+pub returns-clause-few : goal.returns-clause-few
+returns-clause-few c = files_few

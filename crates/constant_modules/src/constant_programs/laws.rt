@@ -1,0 +1,31 @@
+//! The laws of programs of constants on the way of a run.
+
+ghost use Rattle.constant_modules.specs.ConstantPrograms.Laws as law;
+
+use crate::apart_keys::{constant_steps_take_names_apart, keys_apart_are_found};
+use crate::constant_runs::{
+    constant_programs_are_read, constant_steps_stay, first_uses_are_of_constants,
+};
+use printed_constants::printed_steps_avoid_few_names;
+use run_by_steps::paths_stay_apart;
+
+/// A module that reads and is well typed and within the limits, has the form (`HasForm`), and all of whose marks are of
+/// constants, is a program as it stands on the way of a run (`read`). The first use of such a program that becomes a form is as steps over
+/// it ask (`first`), and each step is one over a name (`over`). After a step that passes no limit it is such a program
+/// again (`kept`). Few names aren't new in its files (`few`) (Go specification, Constant declarations; Composite literals;
+/// Identifiers; Import declarations).
+pub fn constant_programs_stay()
+    ensures read { law.ReadModulesAreConstantPrograms }
+    ensures first { law.FirstUsesAreRight }
+    ensures over { law.StepsAreOverNames }
+    ensures kept { law.ConstantProgramsStay }
+    ensures few { law.SmallFilesTakeFew }
+{
+    constant_programs_are_read();
+    constant_steps_stay();
+    constant_steps_take_names_apart();
+    first_uses_are_of_constants();
+    keys_apart_are_found();
+    paths_stay_apart();
+    printed_steps_avoid_few_names();
+}
