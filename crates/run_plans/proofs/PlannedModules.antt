@@ -2,6 +2,7 @@ pub mod Folders
 pub mod FileSizes
 pub mod ReadOnce
 pub mod Members
+pub mod Dots
 pub mod Forms
 pub mod Inlined
 pub mod Stops

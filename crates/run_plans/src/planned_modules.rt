@@ -1,6 +1,7 @@
 //! What is planned for the files that are read of a folder, or why nothing is: the module that they are, its run over
 //! marked constants, which files that changes, and its report.
 
+mod dots;
 mod faults;
 mod laws;
 mod modules;

@@ -6,8 +6,9 @@ use Rattle.run_by_steps.specs.RunProgress.Laws.{ReadPathsAreApart, StepsKeepPath
 use Rattle.run_rules.specs.Run.{Standing, module_file_size, texts_size, the_limits}
 use Rattle.run_rules.specs.Sites.{MarkRef}
 use Rattle.constant_modules.specs.ApartKeys.Laws.{FilesKeepKeysApart, StepsHaveNoneBeside, ConstantStepsTakeNamesApart}
-use Rattle.constant_modules.specs.ConstantPrograms.Laws.{ReadModulesAreConstantPrograms, FirstUsesAreRight, StepsAreOverNames, ConstantProgramsStay}
+use Rattle.constant_modules.specs.ConstantPrograms.Laws.{ReadModulesAreConstantPrograms, FirstUsesAreRight, StepsAreOverNames, ConstantProgramsStay, FormedModulesAreInlined}
 use Rattle.constant_modules.specs.ConstantPrograms.Programs.{IsConstantProgram}
+use Rattle.constant_modules.specs.ConstantRuns.Apart.{ApartModulesAreInlined}
 use Rattle.constant_modules.specs.ConstantRuns.FirstUses.{FirstUsesAreOfConstants, FirstUsesOfConstantsAreTyped}
 use Rattle.constant_modules.specs.ConstantRuns.Laws.{ReadModulesAreOfConstants, StepsStayOfConstants}
 
@@ -39,3 +40,7 @@ programs_stay none take stay apart within files marks done st l after n p fits =
       apart = apart marks st l after n p.apart;
       small = small;
     }
+
+pub modules_inlined : ApartModulesAreInlined → FormedModulesAreInlined
+modules_inlined inline files ps texts only after report i octets typed form constants small =
+    inline files ps texts only after report i octets typed form.unspread form.plain form.keys constants small

@@ -15,14 +15,16 @@ use Rattle.constant_edits.specs.ConstantForm.{ConstantForm}
 use Rattle.constant_steps.specs.FormImports.ImportLaws.Steps.{names_standing}
 use Rattle.member_uses.specs.Laws.{AllConstants}
 use Rattle.order_runs.specs.RunSteps.RunPackages.{packages_of}
+use Rattle.printed_constants.specs.InlinedFiles.InlinedModules.Modules.{IsInlinedModule}
 use Rattle.printed_constants.specs.TypedParts.MarkedRuns.KeptMarks.Over.{IsOverName}
 use Rattle.printed_constants.specs.TypedParts.MarkedRuns.PutForms.Uses.{IsFirstUse, UsesNamedConstant}
 use Rattle.printed_constants.specs.TypedParts.StandingUses.Laws.{AreTyped}
 use Rattle.printed_constants.specs.TypedParts.StandingUses.ToldSteps.Laws.{BecomesForm}
 use Rattle.run_rules.specs.ImportRules.Needs.{avoided}
-use Rattle.run_rules.specs.Inlining.{ModuleReads, standing_as_read}
+use Rattle.run_rules.specs.Inlining.{ModuleReads, IsInlining, standing_as_read}
 use Rattle.run_rules.specs.Marks.{marks_of}
-use Rattle.run_rules.specs.Run.{Standing, Logged, Next, module_file_size, texts_size, the_limits, passed}
+use Rattle.run_rules.specs.Respanned.{packages_with}
+use Rattle.run_rules.specs.Run.{Standing, Logged, Next, here_of, module_file_size, texts_size, the_limits, passed}
 use Rattle.run_rules.specs.Sites.{MarkRef, Where}
 use Rattle.run_rules.specs.Steps.{At, Found}
 use Rattle.run_rules.specs.Texts.{FileText}
@@ -65,3 +67,14 @@ SmallFilesTakeFew =
     (st : Standing) → ProgramReads st → OnePathEach st.packages → texts_size st.texts ≤ the_limits.total
     → (w : Where At) → slice_get st.packages w.number ≡ Some w.of → slice_get w.of.files w.file_number ≡ Some w.source
     → TakesFew w.source.tree (avoided (names_standing st.packages w) [])
+
+-- The inlining of such a module leaves files that read as a module, which is well typed and means what it meant: of its
+-- steps nothing is asked.
+abbrev pub FormedModulesAreInlined : Type 0
+FormedModulesAreInlined =
+    (files : List Source) (ps : List (Package Span)) (texts : List (List ℕ × FileText)) (only : List ℕ)
+    (after : List (List ℕ × FileText)) (report : List ℕ)
+    (i : IsInlining the_limits files ps texts only after report)
+    → list_all (λ f. each is_byte f.path) files ≡ true → WellTyped (packages_of ps []) → HasForm ps
+    → AllConstants ps (marks_of ps texts only) → texts_size texts ≤ the_limits.total
+    → IsInlinedModule files ps texts i.log after (packages_with here_of i.last.packages)

@@ -4,7 +4,7 @@ ghost use Rattle.constant_modules.specs.ConstantPrograms.Laws as law;
 
 use crate::apart_keys::{constant_steps_take_names_apart, keys_apart_are_found};
 use crate::constant_runs::{
-    constant_programs_are_read, constant_steps_stay, first_uses_are_of_constants,
+    apart_runs_inline, constant_programs_are_read, constant_steps_stay, first_uses_are_of_constants,
 };
 use printed_constants::printed_steps_avoid_few_names;
 use run_by_steps::paths_stay_apart;
@@ -12,7 +12,8 @@ use run_by_steps::paths_stay_apart;
 /// A module that reads and is well typed and within the limits, has the form (`HasForm`), and all of whose marks are of
 /// constants, is a program as it stands on the way of a run (`read`). The first use of such a program that becomes a form is as steps over
 /// it ask (`first`), and each step is one over a name (`over`). After a step that passes no limit it is such a program
-/// again (`kept`). Few names aren't new in its files (`few`) (Go specification, Constant declarations; Composite literals;
+/// again (`kept`). Few names aren't new in its files (`few`). What its inlining leaves reads as a module, which is well typed
+/// and means what the old one means (`inlined`) (Go specification, Constant declarations; Composite literals;
 /// Identifiers; Import declarations).
 pub fn constant_programs_stay()
     ensures read { law.ReadModulesAreConstantPrograms }
@@ -20,7 +21,9 @@ pub fn constant_programs_stay()
     ensures over { law.StepsAreOverNames }
     ensures kept { law.ConstantProgramsStay }
     ensures few { law.SmallFilesTakeFew }
+    ensures inlined { law.FormedModulesAreInlined }
 {
+    apart_runs_inline();
     constant_programs_are_read();
     constant_steps_stay();
     constant_steps_take_names_apart();

@@ -1,5 +1,5 @@
 use Rattle.constant_modules.proofs.ConstantPrograms.Few.{files_few}
-use Rattle.constant_modules.proofs.ConstantPrograms.Stay.{read_programs, first_right, steps_over_names, programs_stay}
+use Rattle.constant_modules.proofs.ConstantPrograms.Stay.{read_programs, first_right, steps_over_names, programs_stay, modules_inlined}
 use Rattle.constant_modules.proofs.constant_programs.laws.constant_programs_stay.Goals as goal
 
 pub returns-clause-read : goal.returns-clause-read
@@ -18,3 +18,6 @@ returns-clause-kept c =
 
 pub returns-clause-few : goal.returns-clause-few
 returns-clause-few c = files_few
+
+pub returns-clause-inlined : goal.returns-clause-inlined
+returns-clause-inlined c = modules_inlined c.apart_runs_inline.ensures.inlined
