@@ -20,7 +20,8 @@ use Rattle.read_modules.specs.Modules.{IsReadIn, packages_in, texts_in}
 use Rattle.refusals.specs.declared.refusal.Detail.TheVariants as detail
 use Rattle.refusals.specs.declared.refusal.Refusal.{Refusal}
 use Rattle.run_by_steps.specs.Reached.{AllSupported}
-use Rattle.run_rules.specs.Programs.{linked}
+use Rattle.literal_tables.specs.HasTypes.{HasTypes}
+use Rattle.run_rules.specs.Programs.{linked, world}
 use Rattle.run_rules.specs.Run.{module_file_size, texts_size, the_limits}
 use Rattle.source_files.specs.declared.files.SourceFile.{SourceFile}
 use Rattle.stepped_programs.specs.LoadedPrograms.Loaded.{IsLoaded, marks_constants}
@@ -100,11 +101,11 @@ module _ (files : List SourceFile) (m : ReadModule) (r : IsReadFrom files m) (on
           pub run_refused : (x : Refusal) → IsRunFault folder files (packages_in m) (texts_in m) only (Refused x) → IsUnplanned folder files only x
           run_refused x h = passes_limit x (record { taken = taken; limit = h.limit; passes = h.passes; tells = h.tells })
 
-          module _ (dots : FilesWithoutDots) (begin : LoadedProgramsBeginRuns) (p : Program) (loaded : IsLoaded folder m only p) where
+          module _ (dots : FilesWithoutDots) (begin : LoadedProgramsBeginRuns) (p : Program) (loaded : IsLoaded folder m only p) (types : HasTypes (world (packages_in m)) p.types) where
             begins : BeginsRun (beginning_of folder m only) p
             begins =
                 begin folder m only p is_read.reads o.octets (words_told m.files.items r.words) (typed_members folder (packages_in m) (texts_in m) is_read.reads typed)
-                (formed (packages_in m) (texts_in m) form dots folder is_read.reads) (constants (packages_in m) (texts_in m) form only) small loaded (loaded.types typed)
+                (formed (packages_in m) (texts_in m) form dots folder is_read.reads) (constants (packages_in m) (texts_in m) form only) small loaded types
 
             pub starts : StartsRun folder files m only p
             starts = record { read = read_in; begins = begins; bad_are = loaded.bad_are }
@@ -128,13 +129,14 @@ module _ (files : List SourceFile) (m : ReadModule) (r : IsReadFrom files m) (on
     bytes_as : size ≤ the_limits.total → (folder : List Source) (f : AreOfFolder folder files) → bytes ≡ module_file_size folder + texts_size (texts_in m)
     bytes_as small folder f = is small ∙ sum ∙ size_is files m r only read folder f
 
-    pub loaded_of : without_dots (texts_in m) ≡ true → (l : Option Program) (p : Program) → l ≡ Some p → is_some l ≡ marks_constants (packages_in m) (texts_in m) → IfSome l (LoadsFrom m only bytes) → IsLoadedOf files m only o size p
-    loaded_of dots l p e marks loads =
+    pub loaded_of : without_dots (texts_in m) ≡ true → (l : Option Program) (p : Program) → l ≡ Some p → (well_typed (linked (packages_in m)) ≡ true → HasTypes (world (packages_in m)) p.types) → is_some l ≡ marks_constants (packages_in m) (texts_in m) → IfSome l (LoadsFrom m only bytes) → IsLoadedOf files m only o size p
+    loaded_of dots l p e types marks loads =
         record {
           read = r;
           form = and_both (without_dots (texts_in m)) (marks_constants (packages_in m) (texts_in m)) dots (sym marks ∙ ap is_some e);
           typing = h;
           size_is = sum;
+          types = types;
           loaded = λ small folder f. subst (λ (x : Option Program). IfSome x (LoadsFrom m only bytes)) e loads folder files (read_in files m r only read folder f) (bytes_as small folder f);
         }
 
@@ -157,7 +159,7 @@ module _ (files : List SourceFile) (read : ModulesAreRead) (o : Option Refusal) 
       fits = subst (λ (n : ℕ). n ≤ the_limits.total) l.size_is small
 
       starts_in : (folder : List Source) (f : AreOfFolder folder files) → StartsRun folder files m only p
-      starts_in folder f = starts files m l.read only read folder f l.form typed_as fits law begin p (l.loaded small folder f)
+      starts_in folder f = starts files m l.read only read folder f l.form typed_as fits law begin p (l.loaded small folder f) (l.types typed_as)
 
       pub starts_some : AreFolder files → StartsSomeRun files p
       starts_some f = record { folder = sources_of files; read_module = m; only = only; starts = starts_in (sources_of files) f }
