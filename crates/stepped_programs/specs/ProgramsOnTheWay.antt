@@ -1,3 +1,2 @@
 pub mod OnTheWay
-pub mod Types
 pub mod Laws

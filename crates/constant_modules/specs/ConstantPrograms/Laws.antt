@@ -23,11 +23,13 @@ use Rattle.printed_constants.specs.TypedParts.StandingUses.ToldSteps.Laws.{Becom
 use Rattle.run_rules.specs.ImportRules.Needs.{avoided}
 use Rattle.run_rules.specs.Inlining.{ModuleReads, IsInlining, standing_as_read}
 use Rattle.run_rules.specs.Marks.{marks_of}
+use Rattle.run_rules.specs.Programs.{world}
 use Rattle.run_rules.specs.Respanned.{packages_with}
 use Rattle.run_rules.specs.Run.{Standing, Logged, Next, here_of, module_file_size, texts_size, the_limits, passed}
 use Rattle.run_rules.specs.Sites.{MarkRef, Where}
 use Rattle.run_rules.specs.Steps.{At, Found}
 use Rattle.run_rules.specs.Texts.{FileText}
+use Rattle.typed_in_place.specs.SameWorlds.SameWorlds.{SameWorld}
 use Rattle.constant_modules.specs.ConstantPrograms.Programs.{HasForm, IsConstantProgram}
 
 -- A module that reads and has the form is such a program, where the paths of its files are octets, it is well typed, all
@@ -60,6 +62,13 @@ ConstantProgramsStay =
     (files : List Source) (marks : List MarkRef) (done : List Logged) (st : Standing) (l : Logged) (after : Standing)
     (n : Next marks st l after) → IsConstantProgram files marks st
     → passed the_limits files done l n.new after.texts ≡ None → IsConstantProgram files marks after
+
+-- Before a step and after it the same is found of the types and names that the packages declare.
+abbrev pub StepsKeepWorlds : Type 0
+StepsKeepWorlds =
+    (files : List Source) (marks : List MarkRef) (st : Standing) (l : Logged) (after : Standing)
+    (n : Next marks st l after) → IsConstantProgram files marks st
+    → SameWorld (world st.packages) (world after.packages)
 
 -- Where the texts of a program that reads are within the limit of a run, few names aren't new in each of its files.
 abbrev pub SmallFilesTakeFew : Type 0

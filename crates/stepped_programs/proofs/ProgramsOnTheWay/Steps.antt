@@ -12,10 +12,11 @@ use Rattle.next_file.specs.Limits.{Passes}
 use Rattle.stepped_programs.specs.declared.package_search.looks.ProgramSources.{ProgramSources}
 use Rattle.stepped_programs.specs.declared.package_search.search.FoundInPackage.{FoundInPackage}
 use Rattle.printed_constants.specs.CountedNames.Laws.{StepsStayWithinTotal}
-use Rattle.constant_modules.specs.ConstantPrograms.Laws.{StepsAreOverNames, ConstantProgramsStay}
+use Rattle.constant_modules.specs.ConstantPrograms.Laws.{StepsAreOverNames, ConstantProgramsStay, StepsKeepWorlds}
 use Rattle.constant_modules.specs.ConstantPrograms.Programs.{IsConstantProgram}
 use Rattle.constant_modules.specs.NamedThere.Steps.{IsOfConstants}
 use Rattle.literal_tables.specs.HasTypes.{HasTypes}
+use Rattle.literal_tables.specs.Laws.{SameWorldsKeepTables}
 use Rattle.run_by_steps.specs.NextPrograms.Made.{NextWith}
 use Rattle.run_by_steps.specs.Reached.{row_of}
 use Rattle.run_by_steps.specs.RunProgress.Laws.{HasCome, StepsComeNext}
@@ -33,7 +34,6 @@ use Rattle.stepped_programs.specs.SearchedSites.TypedSearches.Laws.{TypedFilesAr
 use Rattle.stepped_programs.specs.SteppedValues.Flags.{IsKeptProgram}
 use Rattle.stepped_programs.specs.ProgramsOnTheWay.Laws.{StepsStayOnTheWay, BlocksStayOnTheWay}
 use Rattle.stepped_programs.specs.ProgramsOnTheWay.OnTheWay.{IsOnTheWay}
-use Rattle.stepped_programs.specs.ProgramsOnTheWay.Types.{StepsKeepTables}
 use Rattle.repeated_parts.specs.declared.literal_types.table.LiteralTypes.{LiteralTypes}
 use Rattle.run_rules.specs.Programs.{world}
 use Rattle.stepped_programs.specs.FirstUses.Step.{IsUseStep}
@@ -77,8 +77,8 @@ is_of stand total are_put come files ps texts only done st p s c u a progress st
     let small : length step.file.text ≤ 4194304 = subst (λ (x : FileText). length x.text ≤ 4194304) n.text_is (total files done (row_of marks st (step_of a) old) n.next.new n.after.texts fits).0 in
     are_put files marks st s u.home u.found a old step.file n p os right.expr o.kept.is_program right.part small swapped
 
-pub stay_on : FoundFilesStand → TypedFilesAreSearchable → TablesServePrograms → StepsKeepTables → StepsAreOverNames → ConstantProgramsStay → StepsStayWithinTotal → FoundUsesArePut → StepsComeNext → StepsAreCounted → StepsKeepPrograms → StepsKeepSettled → StepsStayOnTheWay
-stay_on stand searchable serve tables over keeps total are_put come count keep settle files ps texts only done st p q s t c d u a progress step o comes made n reached os swapped put sources more =
+pub stay_on : FoundFilesStand → TypedFilesAreSearchable → TablesServePrograms → SameWorldsKeepTables → StepsKeepWorlds → StepsAreOverNames → ConstantProgramsStay → StepsStayWithinTotal → FoundUsesArePut → StepsComeNext → StepsAreCounted → StepsKeepPrograms → StepsKeepSettled → StepsStayOnTheWay
+stay_on stand searchable serve tables worlds over keeps total are_put come count keep settle files ps texts only done st p q s t c d u a progress step o comes made n reached os swapped put sources more =
     let marks : List MarkRef = marks_of ps texts only in
     let old : FileText = text_there made.file in
     let l : Logged = row_of marks st (step_of a) old in
@@ -87,7 +87,7 @@ stay_on stand searchable serve tables over keeps total are_put come count keep s
     let program : IsConstantProgram files marks n.after = keeps files marks done st l n.after n.next o.constants fits in
     let its : IsOfConstants marks n.after = program.constants in
     let types : HasTypes (world n.after.packages) q.types =
-    subst (λ (t : LiteralTypes). HasTypes (world n.after.packages) t) (sym put.types_stay) (tables files marks st l n.after n.next p.types o.constants o.types) in
+    subst (λ (t : LiteralTypes). HasTypes (world n.after.packages) t) (sym put.types_stay) (tables (world st.packages) (world n.after.packages) p.types (worlds files marks st l n.after n.next o.constants) o.types) in
     let is : IsOfStep n.next (place_of u.home u.found) os u.found.tables.names.«package» step.file =
     is_of stand total are_put come files ps texts only done st p s c u a progress step o comes made n os swapped in
     let kept : IsKeptProgram files marks n.after q t =

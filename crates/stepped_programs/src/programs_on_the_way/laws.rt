@@ -8,7 +8,7 @@ use crate::{
     typed_files_are_searchable,
 };
 use constant_modules::constant_programs::constant_programs_stay;
-use literal_tables::tables_stay_right;
+use literal_tables::right_tables_stay;
 use printed_constants::printed_steps_avoid_few_names;
 use run_by_steps::progress_follows_steps;
 use run_by_steps::step_counts::{counts_come, steps_are_counted};
@@ -19,9 +19,9 @@ pub fn runs_begin()
     ensures { law.RunsBegin }
 {
     constant_programs_stay();
+    right_tables_stay();
     steps_are_counted();
     tables_serve_programs();
-    tables_stay_right();
     typed_files_are_searchable();
 }
 
@@ -56,7 +56,7 @@ pub fn steps_stay_on_the_way()
     steps_keep_programs();
     steps_keep_settled();
     tables_serve_programs();
-    tables_stay_right();
+    right_tables_stay();
     typed_files_are_searchable();
 }
 

@@ -1,5 +1,6 @@
 use Rattle.constant_modules.proofs.ConstantPrograms.Few.{files_few}
 use Rattle.constant_modules.proofs.ConstantPrograms.Stay.{read_programs, first_right, steps_over_names, programs_stay, modules_inlined}
+use Rattle.constant_modules.proofs.ConstantPrograms.Worlds.{keep_worlds}
 use Rattle.constant_modules.proofs.constant_programs.laws.constant_programs_stay.Goals as goal
 
 pub returns-clause-read : goal.returns-clause-read
@@ -21,3 +22,6 @@ returns-clause-few c = files_few
 
 pub returns-clause-inlined : goal.returns-clause-inlined
 returns-clause-inlined c = modules_inlined c.apart_runs_inline.ensures.inlined
+
+pub returns-clause-worlds : goal.returns-clause-worlds
+returns-clause-worlds c = keep_worlds c.constant_steps_take_names_apart.ensures.takes
