@@ -2,7 +2,7 @@
 use Rattle.std.proofs.Common.{◌≡◌, true, Some}
 use Rattle.std.specs.Prelude.{slice_get}
 use Rattle.go_tree.specs.GoTypes.WellTyped.{well_typed}
-use Rattle.literal_tables.specs.Laws.{RightTablesServePrograms}
+use Rattle.literal_tables.specs.Laws.{RightTablesTellFields}
 use Rattle.order_runs.specs.CycleRuns.OrderCycles.Orders.{AllOrdered}
 use Rattle.constant_modules.specs.ConstantPrograms.Laws.{SmallFilesTakeFew}
 use Rattle.repeated_parts.specs.UseSearch.UsesOfMarks.Laws.{EachSound}
@@ -28,7 +28,7 @@ are_searchable sound few marks st reads paths ordered typed small w there =
       sound = sound_there sound st reads ordered typed w there;
     }
 
-pub tell_fields : TypedFilesAreSound → RightTablesServePrograms → TablesServePrograms
+pub tell_fields : TypedFilesAreSound → RightTablesTellFields → TablesServePrograms
 tell_fields sound tell st t reads ordered typed has w package_is file_is f knows =
     tell st.packages w f t ordered typed (record { package_there = package_is; file_there = file_is }) knows
     (sound_there sound st reads ordered typed w (record { package_is = package_is; file_is = file_is })) has

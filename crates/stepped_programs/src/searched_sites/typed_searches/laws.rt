@@ -4,7 +4,7 @@ ghost use Rattle.stepped_programs.specs.SearchedSites.TypedSearches.Laws.{Tables
 
 use crate::typed_files_are_sound;
 use constant_modules::constant_programs::constant_programs_stay;
-use literal_tables::right_tables_serve_programs;
+use literal_tables::right_tables_tell_fields;
 
 /// Each file of a well-typed program that reads may be searched (`IsSearchable`), where its texts are within the limit of
 /// a run: few names aren't new in it, and its declarations are as searches ask (Go specification, Identifiers; Import
@@ -21,6 +21,6 @@ pub fn typed_files_are_searchable()
 pub fn tables_serve_programs()
     ensures { TablesServePrograms }
 {
-    right_tables_serve_programs();
+    right_tables_tell_fields();
     typed_files_are_sound();
 }
