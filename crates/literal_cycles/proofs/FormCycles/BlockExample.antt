@@ -7,7 +7,7 @@ use Rattle.go_tree.specs.declared.exprs.Rest.TheVariants.{Plain}
 use Rattle.go_tree.specs.Tree.{NameAt, named, Expr, ident, int_lit, call, func_lit, Exprs, no_exprs, expr_and, Stmt, eval, define, inner, Stmts, no_stmts, stmt_and}
 use Rattle.go_tree.specs.File.{Func, func, File}
 use Rattle.pkg_graph.specs.Package.{SourceTree, Package}
-use Rattle.run_rules.specs.Surroundings.{Place, at_stmt, block, after_stmt}
+use Rattle.run_rules.specs.Surroundings.{Place, at_stmt, block, after_stmt, in_literal}
 use Rattle.run_rules.specs.Places.{stmt_seen}
 use Rattle.run_rules.specs.Programs.{body_place}
 use Rattle.run_rules.specs.Sites.{MarkRef, Where}
@@ -16,7 +16,7 @@ use Rattle.run_rules.proofs.CaseTools.{mark, param, sig}
 use Rattle.order_runs.specs.CycleLaws.PutCalls.{called_among}
 use Rattle.order_runs.proofs.CycleLaws.ConstantCycles.Examples.{node}
 use Rattle.literal_cycles.specs.FormCycles.Puts.{StatementCallsThrough}
-use Rattle.literal_cycles.specs.FormCycles.Blocks.{to_new_names, bound_by, is_it, NamesFunction, IsBlockOf, IsLiteralWith}
+use Rattle.literal_cycles.specs.FormCycles.Blocks.{to_new_names, bound_by, is_it, NamesFunction, CallsArguments, HasBody, IsBlockOf, IsLiteralWith}
 use Rattle.literal_cycles.proofs.FormCycles.BlockCalls.{block-through}
 
 abbrev name_of : ℕ → List ℕ → NameAt At
@@ -116,6 +116,22 @@ is_block = record {
 abbrev literal : Expr At
 literal = call (node 35) (func_lit (node 35) callee.sig (node 35) body) one Plain
 
+literal_arguments : CallsArguments packages marks w q q (ident (node 35) (codes "F")) one one
+literal_arguments at = refl
+
+literal_body : HasBody packages marks w (mark 0 0 0 0) (in_literal q callee.sig) body
+literal_body = record {
+  home = w;
+  callee = callee;
+  is_home = refl;
+  is_callee = refl;
+  same_body = refl;
+  meanings = home.env.names;
+  extra = [];
+  place = record { env = refl; bound = refl; agrees = record { bound = λ n e. refl; here = λ n e. refl; blank = λ n e. refl } };
+  identifiers = λ n i. (refl, record { function = refl; qualifier = refl });
+}
+
 is_literal : IsLiteralWith packages marks w (mark 0 0 0 0) q literal call_
 is_literal = record {
   names = there_called;
@@ -125,18 +141,8 @@ is_literal = record {
   values = one;
   new_rest = Plain;
   is_literal = refl;
-  arguments = λ at. refl;
-  function = record {
-    home = w;
-    callee = callee;
-    is_home = refl;
-    is_callee = refl;
-    same_body = refl;
-    meanings = home.env.names;
-    extra = [];
-    place = record { env = refl; bound = refl; agrees = record { bound = λ n e. refl; here = λ n e. refl; blank = λ n e. refl } };
-    identifiers = λ n i. (refl, record { function = refl; qualifier = refl });
-  };
+  arguments = literal_arguments;
+  function = literal_body;
 }
 
 through : StatementCallsThrough packages marks w 2 (mark 0 0 0 0) q block_ use_
