@@ -225,13 +225,13 @@ module _ (st : Standing) (reads : ProgramReads st) (paths : OnePathEach st.packa
       abbrev imports : List (List ℕ)
       imports = map (λ i. i.name) (names_here st.packages w).imports
 
-      abbrev all-names : List (List ℕ)
+      abbrev pub all-names : List (List ℕ)
       all-names = own.words ++ (imports ++ (block.words ++ rest))
 
       abbrev name_of_import : ImportSpec At → ImportName
       name_of_import s = record { name = import_name st.packages s; path = s.path; spec = no_span }
 
-      names-few : texts_size st.texts ≤ the_limits.total → (named : ℕ) → named ≤ 2 → length all-names + named < 2 ^ 64
+      pub names-few : texts_size st.texts ≤ the_limits.total → (named : ℕ) → named ≤ 2 → length all-names + named < 2 ^ 64
       names-few small named h =
           let within : texts_size st.texts ≤ 16777216 = small in
           let one = one_among st.texts w.source.path in
@@ -270,7 +270,7 @@ module _ (st : Standing) (reads : ProgramReads st) (paths : OnePathEach st.packa
           first_ (inl j) = in-left n own.words (imports ++ (block.words ++ rest)) (own.all n j)
           first_ (inr j) = behind (in-either n avoid rest j)
 
-      names-taken : TakenAmong w.source.tree (avoided (names_here st.packages w) []) all-names
+      pub names-taken : TakenAmong w.source.tree (avoided (names_here st.packages w) []) all-names
       names-taken n h =
           among_in n all-names
           (of-taken n (in_among n (taken w.source.tree (avoided (names_here st.packages w) [])) (taken-so w.source.tree (avoided (names_here st.packages w) []) n h)))
