@@ -2,7 +2,7 @@
 -- declared as the name of one which repeats an expression, by the law alone.
 --   package p: const (A = iota; D); const C = D      package q: import "m/p"; var E = struct{ x int }{ x: p.C }
 -- C is marked; after the step: var E = struct{ x int }{ x: p.D }
-use Rattle.std.specs.Prelude.{refl, ℕ, true, false, List, [], ◌∷◌, None, if◌then◌else◌, codes, nat_eq}
+use Rattle.std.specs.Prelude.{◌≡◌, refl, ℕ, true, false, List, [], ◌∷◌, Some, None, if◌then◌else◌, codes, nat_eq}
 use Rattle.std.proofs.Common.{arith}
 use Rattle.go_tree.specs.Tree.{Expr, ident, selector, composite, no_exprs, expr_and, no_elems, elem, plain, some_value, named as a_type, struct_type, field, no_fields, const_decl, var_decl, ValueSpecs, no_specs, spec}
 use Rattle.go_tree.specs.File.{Decl, values, File}
@@ -12,12 +12,13 @@ use Rattle.go_translation.specs.Packages.{sources}
 use Rattle.go_translation.specs.SameMeaning.{Packages, SameMeaning}
 use Rattle.run_rules.specs.Surroundings.{whole, Place, Seen, seen}
 use Rattle.run_rules.specs.Programs.{top_place, decl_seen}
-use Rattle.run_rules.specs.Sites.{MarkRef, Where, Site, an_expr}
-use Rattle.run_rules.specs.FormTrees.{ConstForm}
+use Rattle.run_rules.specs.Sites.{MarkRef, Where, Site, an_expr, qualified_mark}
+use Rattle.run_rules.specs.FormTrees.{ConstForm, as_expr}
+use Rattle.run_rules.specs.Reduced.{becomes, home_place, reduced}
 use Rattle.constant_steps.specs.Alone.{no_constants, and_constant, and_repeated, constants_alone, no_variables, and_variable, variables_alone, no_decls, and_decl, this_package, a_later_package}
 use Rattle.constant_steps.specs.Alone as alone
 use Rattle.constant_steps.specs.PlainUse.{linked_at}
-use Rattle.constant_steps.specs.QualifiedSteps.MemberNames.{own_member, imported_member}
+use Rattle.constant_steps.specs.QualifiedSteps.MemberNames.{NamesMember, own_member, imported_member}
 use Rattle.constant_steps.specs.QualifiedSteps.NamedUse.{one_qualifier}
 use Rattle.constant_steps.proofs.QualifiedSteps.ExampleParts.{named, declares, of_p, no_comments}
 use Rattle.constant_modules.specs.NamedAnywhere.Use.{NamedUseAnywhere, ConstantUse, PackagesStandAnywhere, same_before}
@@ -88,12 +89,24 @@ use_of_c =
       mark = mark_of 1 0;
     }
 
-is_named_use : ConstantUse nat_eq no_comments rs marks use_of_c
+names_c : qualified_mark rs here use_of_c.place (codes "p") (codes "C") ≡ Some (mark_of 1 0)
+names_c = refl
+
+use_names : NamesMember rs here use_of_c.place use_before (mark_of 1 0)
+use_names = imported_member {s = 31} {t = 32} {q = codes "p"} {n = named 33 (codes "C")} {m = mark_of 1 0} names_c refl
+
+text_names : NamesMember rs home (home_place nat_eq no_comments rs marks home) (ident 21 (codes "D")) (mark_of 0 1)
+text_names = own_member refl
+
+use_reduces : reduced nat_eq no_comments rs marks use_of_c ≡ Some (becomes ConstForm (as_expr put) 31 (record { of = 0; name = codes "p"; added = None } ∷ []))
 unfolding passes
+use_reduces = refl
+
+is_named_use : ConstantUse nat_eq no_comments rs marks use_of_c
 is_named_use = record {
   use_ = use_before;
   part = refl;
-  names = imported_member refl refl;
+  names = use_names;
   home = home;
   home_is = refl;
   constant = named 20 (codes "C");
@@ -101,7 +114,7 @@ is_named_use = record {
   declared = refl;
   untyped = refl;
   new_mark = mark_of 0 1;
-  text_names = own_member refl;
+  text_names = text_names;
   new_home = home;
   new_home_is = refl;
   new_span = 7;
@@ -112,7 +125,7 @@ is_named_use = record {
   new = put;
   range = 31;
   packages = record { of = 0; name = codes "p"; added = None } ∷ [];
-  reduces = refl;
+  reduces = use_reduces;
   none_added = refl;
 }
 

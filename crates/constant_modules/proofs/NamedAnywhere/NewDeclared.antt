@@ -77,4 +77,4 @@ module _ {S : Type 0} (rs : List (Package S)) (w : Where S) (s : S) (m : MarkRef
     meant_after true plain k ps at v ended =
         let t : There = in_package (nat_eq m.file M) refl in
         program_constant n (after same rs changes number pk tree true M N p) k ps v ended m.file m.decl m.item t.file z g t.specs at (ap (λ l. means l n) (files_named same rs changes number pk tree w.number 0 M N (plain refl)) ∙ block) t.file_is t.decl_is
-    meant_after false plain k ps at = meant_before k ps at
+    meant_after false plain k ps at v ended = meant_before k ps at v ended
