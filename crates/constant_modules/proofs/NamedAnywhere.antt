@@ -14,6 +14,7 @@ pub mod NamedLinked
 pub mod StepsAnywhere
 pub mod Puts
 pub mod Added
+pub mod NamesDeclared
 pub mod Nexts
 pub mod Steps
 pub mod TakenRuns

@@ -5,6 +5,7 @@ pub mod ConstantRuns
 pub mod CountedUses
 pub mod FewNames
 pub mod KeptUses
+pub mod KeyedImports
 pub mod LookUps
 pub mod NamedAnywhere
 pub mod NamedThere

@@ -10,6 +10,7 @@ pub mod constant_runs;
 pub mod counted_uses;
 pub mod few_names;
 pub mod kept_uses;
+pub mod keyed_imports;
 pub mod look_ups;
 pub mod named_anywhere;
 pub mod named_there;

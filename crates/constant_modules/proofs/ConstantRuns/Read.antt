@@ -14,6 +14,7 @@ use Rattle.run_rules.specs.Programs.{linked_file}
 use Rattle.run_rules.specs.Respanned.{source_with, package_with, packages_with}
 use Rattle.run_rules.specs.Run.{as_read}
 use Rattle.run_rules.specs.Steps.{At}
+use Rattle.constant_modules.specs.ApartKeys.Laws.{FilesKeepKeysApart}
 use Rattle.constant_modules.specs.ConstantNames.Laws.{ReadConstantsNameConstants}
 use Rattle.constant_modules.specs.ConstantRuns.Laws.{ReadConstantsHaveNoTypes, PlainConstantsAreUntyped, ReadModulesAreOfConstants}
 use Rattle.constant_modules.specs.ConstantRuns.Types.{AreReadPlain}
@@ -31,8 +32,8 @@ module _ (ps : List (Package Span)) where
       let p = mapped_nth (package_with as_read) ps k q e in
       subst (λ (z : Package At). PlainFiles (map (linked_file (packages_with as_read ps)) z.files)) p.2 (files_read p.0.files (plain k p.0 p.1))
 
-pub read_programs : ReadModulesAreReady → ReadModulesAreTyped → ReadMarksAreNamed → ReadPackagesAreNamed → ReadPackagesHaveFiles → ReadConstantsNameConstants → ReadConstantsHaveNoTypes → PlainConstantsAreUntyped → ReadModulesAreOfConstants
-read_programs ready typed named own have names none untyped files ps texts only r octets well unspread plain constants small =
+pub read_programs : ReadModulesAreReady → ReadModulesAreTyped → ReadMarksAreNamed → ReadPackagesAreNamed → ReadPackagesHaveFiles → ReadConstantsNameConstants → ReadConstantsHaveNoTypes → PlainConstantsAreUntyped → FilesKeepKeysApart → ReadModulesAreOfConstants
+read_programs ready typed named own have names none untyped found files ps texts only r octets well unspread plain apart constants small =
     record {
       ready = ready files ps texts r octets well unspread;
       files = have files ps texts r;
@@ -42,5 +43,6 @@ read_programs ready typed named own have names none untyped files ps texts only 
       constants = names files ps texts only r octets well unspread constants;
       untyped = untyped (standing_as_read ps texts).packages (marks_of ps texts only) (read_plain ps plain) (none files ps texts only r);
       plain = read_plain ps plain;
+      apart = found ps texts apart;
       small = small;
     }

@@ -15,9 +15,9 @@ use Rattle.constant_steps.specs.Alone.{PlainFiles}
 use Rattle.order_runs.specs.CycleRuns.ImportCycles.ImportSteps.{packages_added, where_added}
 use Rattle.order_runs.specs.ImportCodes.PackagesMoved.{ImportsStand}
 use Rattle.order_runs.specs.RunSteps.RunPackages.{members_of, packages_of}
-use Rattle.printed_constants.specs.TypedParts.MarkedRuns.KeptMarks.Over.{IsOverName}
 use Rattle.printed_constants.specs.TypedParts.MarkedRuns.Marked.{decl_there}
 use Rattle.printed_constants.specs.TypedParts.MarkedRuns.SettledConstants.Programs.{IsOverConstant, PutsOtherName}
+use Rattle.constant_modules.specs.KeyedImports.Steps.{IsOverNameKeyed}
 use Rattle.constant_modules.specs.NamedAnywhere.Taken.{site_there, TakesNameAnywhere}
 use Rattle.constant_modules.specs.NamedAnywhere.Use.{ConstantUse}
 
@@ -52,8 +52,8 @@ pub record StandsAnywhere {marks : List MarkRef} {st : Standing} {l : Logged} {a
       (marked : List FuncName) (Q : List (Package At)) → WellTyped (with_further (packages_of st.packages marked) Q)
       → ImportsStand Q (members_of after.packages)
 
--- Each step of a run is so, and is over a marked constant as kept_marks asks.
+-- Each step of a run is so, and is over a marked constant as keyed_imports asks.
 abbrev pub AllOverAnywhere : {marks : List MarkRef} {st last : Standing} {log : List Logged} → Run marks st log last
     → Type 0
 AllOverAnywhere (ends st over) = Unit {0}
-AllOverAnywhere (goes_on st next last l log n run) = IsOverName n × (StandsAnywhere n × AllOverAnywhere run)
+AllOverAnywhere (goes_on st next last l log n run) = IsOverNameKeyed n × (StandsAnywhere n × AllOverAnywhere run)

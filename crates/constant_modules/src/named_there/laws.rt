@@ -3,10 +3,10 @@
 ghost use Rattle.constant_modules.specs.NamedThere.Laws as law;
 ghost use Rattle.constant_modules.specs.NamedThere.Steps as of_steps;
 
+use crate::apart_keys::steps_put_names;
 use crate::counted_uses::imports_stay_used;
-use crate::few_names::{steps_avoid_few_names, steps_keep_look_ups};
-use crate::look_ups::steps_remove_no_look_ups;
-use crate::named_anywhere::runs_over_marks_anywhere_keep;
+use crate::few_names::steps_avoid_few_names;
+use crate::keyed_imports::steps_keep_uses;
 use crate::typed_uses::{steps_are_over_names, steps_use_expressions};
 use printed_constants::constants_name_members;
 use printed_constants::typed_parts::marked_runs::constants_settle;
@@ -38,19 +38,17 @@ pub fn steps_stay_plain()
 {}
 
 /// So a step in a ready, well-typed program of constants (`IsOfConstants`) takes its name as named_anywhere has it, and
-/// stands as that asks of runs over marked constants, if no import has a name that stands beside (`NoneBeside`): of the
-/// use, of its place and of the imports at last nothing is asked any more (Go specification, Constant declarations;
-/// Qualified identifiers; Import declarations).
+/// stands as that asks of runs over marked constants: of the use, of its place and of the imports nothing is asked any
+/// more (Go specification, Constant declarations; Qualified identifiers; Import declarations).
 pub fn constant_steps_take_names()
     ensures { of_steps.ConstantStepsTakeNames }
 {
     steps_use_expressions();
     steps_avoid_few_names();
     constants_settle();
-    steps_keep_look_ups();
-    steps_remove_no_look_ups();
+    steps_put_names();
+    steps_keep_uses();
     steps_are_over_names();
     constant_uses_are_there();
-    runs_over_marks_anywhere_keep();
     imports_stay_used();
 }
