@@ -12,9 +12,9 @@ use Rattle.run_rules.specs.Run.{Standing, Logged, Next}
 use Rattle.run_rules.specs.Sites.{MarkRef}
 use Rattle.run_rules.specs.Steps.{At}
 use Rattle.typed_in_place.specs.SameWorlds.SameWorlds.{SameWorld}
-use Rattle.constant_modules.specs.ApartKeys.Laws.{ConstantStepsTakeNamesApart}
 use Rattle.constant_modules.specs.ConstantPrograms.Laws.{StepsKeepWorlds}
 use Rattle.constant_modules.specs.NamedAnywhere.Taken.{TakesNameThere}
+use Rattle.constant_modules.specs.NamedThere.Steps.{ConstantStepsTakeNames}
 use Rattle.constant_modules.proofs.NamedAnywhere.Nexts.{nothing-behind}
 use Rattle.constant_modules.proofs.NamedAnywhere.Steps.{likened}
 
@@ -31,5 +31,5 @@ module _ (marks : List MarkRef) (st : Standing) (l : Logged) (after : Standing) 
       subst (λ (w : World). SameWorld w (world after.packages)) (world-of st.packages)
       (subst (λ (w : World). SameWorld (collected (sources (members_of st.packages ++ []))) w) (world-of after.packages) (likened marks st l after n h [] well).found)
 
-pub keep_worlds : ConstantStepsTakeNamesApart → StepsKeepWorlds
-keep_worlds take files marks st l after n p = same-worlds marks st l after n (take marks st l after n p.constants p.keys).0.0.there p.constants.typed
+pub keep_worlds : ConstantStepsTakeNames → StepsKeepWorlds
+keep_worlds take files marks st l after n p = same-worlds marks st l after n (take marks st l after n p.constants).0.there p.constants.typed

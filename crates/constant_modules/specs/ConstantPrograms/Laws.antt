@@ -16,7 +16,6 @@ use Rattle.constant_steps.specs.FormImports.ImportLaws.Steps.{names_standing}
 use Rattle.member_uses.specs.Laws.{AllConstants}
 use Rattle.order_runs.specs.RunSteps.RunPackages.{packages_of}
 use Rattle.printed_constants.specs.InlinedFiles.InlinedModules.Modules.{IsInlinedModule}
-use Rattle.printed_constants.specs.TypedParts.MarkedRuns.KeptMarks.Over.{IsOverName}
 use Rattle.printed_constants.specs.TypedParts.MarkedRuns.PutForms.Uses.{IsFirstUse, UsesNamedConstant}
 use Rattle.printed_constants.specs.TypedParts.StandingUses.Laws.{AreTyped}
 use Rattle.printed_constants.specs.TypedParts.StandingUses.ToldSteps.Laws.{BecomesForm}
@@ -30,6 +29,7 @@ use Rattle.run_rules.specs.Sites.{MarkRef, Where}
 use Rattle.run_rules.specs.Steps.{At, Found}
 use Rattle.run_rules.specs.Texts.{FileText}
 use Rattle.typed_in_place.specs.SameWorlds.SameWorlds.{SameWorld}
+use Rattle.constant_modules.specs.KeyedImports.Steps.{IsOverNameKeyed}
 use Rattle.constant_modules.specs.ConstantPrograms.Programs.{HasForm, IsConstantProgram}
 
 -- A module that reads and has the form is such a program, where the paths of its files are octets, it is well typed, all
@@ -50,11 +50,11 @@ FirstUsesAreRight =
     → IsConstantProgram files marks st → IsFirstUse marks st f old → BecomesForm f form
     → UsesNamedConstant st f old × AreTyped marks st f form
 
--- A step of such a program is one over a name, as kept_marks asks.
+-- A step of such a program is one over a name, as keyed_imports asks.
 abbrev pub StepsAreOverNames : Type 0
 StepsAreOverNames =
     (files : List Source) (marks : List MarkRef) (st : Standing) (l : Logged) (after : Standing)
-    (n : Next marks st l after) → IsConstantProgram files marks st → IsOverName n
+    (n : Next marks st l after) → IsConstantProgram files marks st → IsOverNameKeyed n
 
 -- After a step that passes no limit it is such a program again.
 abbrev pub ConstantProgramsStay : Type 0

@@ -2,10 +2,11 @@
 
 ghost use Rattle.constant_modules.specs.ConstantPrograms.Laws as law;
 
-use crate::apart_keys::{constant_steps_take_names_apart, keys_apart_are_found};
 use crate::constant_runs::{
-    apart_runs_inline, constant_programs_are_read, constant_steps_stay, first_uses_are_of_constants,
+    constant_programs_are_read, constant_runs_inline, constant_steps_stay,
+    first_uses_are_of_constants,
 };
+use crate::named_there::constant_steps_take_names;
 use printed_constants::printed_steps_avoid_few_names;
 use run_by_steps::paths_stay_apart;
 
@@ -24,12 +25,11 @@ pub fn constant_programs_stay()
     ensures few { law.SmallFilesTakeFew }
     ensures inlined { law.FormedModulesAreInlined }
 {
-    apart_runs_inline();
     constant_programs_are_read();
+    constant_runs_inline();
     constant_steps_stay();
-    constant_steps_take_names_apart();
+    constant_steps_take_names();
     first_uses_are_of_constants();
-    keys_apart_are_found();
     paths_stay_apart();
     printed_steps_avoid_few_names();
 }

@@ -4,7 +4,7 @@ use Rattle.pkg_graph.specs.Reads.{Source}
 use Rattle.run_rules.specs.Run.{Standing, Logged, Next}
 use Rattle.run_rules.specs.Sites.{MarkRef}
 use Rattle.repeated_parts.specs.UseSearch.MarkValues.Tables.{DeclKey, Known, same_key, values_at, value_in}
-use Rattle.printed_constants.specs.TypedParts.MarkedRuns.KeptMarks.Over.{IsOverName}
+use Rattle.constant_modules.specs.KeyedImports.Steps.{IsOverNameKeyed}
 use Rattle.stepped_programs.specs.declared.package_search.looks.ProgramSources.{ProgramSources}
 use Rattle.programs.specs.declared.state.Program.{Program}
 use Rattle.stepped_programs.specs.SearchedSites.OrderedSearches.Held.{IsHeld}
@@ -19,7 +19,7 @@ kept_held : ProgramsAreHeld → (files : List Source) (marks : List MarkRef) (st
 kept_held held files marks st p s a = held files marks st p s a.is_program a.sources a.named a.ready.links.ordered a.ready.typed a.fields a.searchable
 
 kept_told : MarkedValuesStay → (files : List Source) (marks : List MarkRef) (st : Standing) (l : Logged) (after : Standing) (n : Next marks st l after) (p q : Program) (s t : ProgramSources)
-    → IsKeptProgram files marks st p s → IsKeptProgram files marks after q t → IsOverName n → ((k : DeclKey) → is_of_step n.found k ≡ false → values_at k q.values ≡ values_at k p.values)
+    → IsKeptProgram files marks st p s → IsKeptProgram files marks after q t → IsOverNameKeyed n → ((k : DeclKey) → is_of_step n.found k ≡ false → values_at k q.values ≡ values_at k p.values)
     → TellOthersTheSame marks (same_key (decl_of_step n.found)) s.values.now t.values.now
 kept_told values files marks st l after n p q s t a b over others m among other =
     ap (λ (x : Known). value_in x m) b.sources.values_told

@@ -8,7 +8,7 @@ use Rattle.run_rules.specs.Run.{Standing, Logged, Next}
 use Rattle.run_rules.specs.Sites.{MarkRef, Where}
 use Rattle.run_rules.specs.Steps.{At}
 use Rattle.repeated_parts.specs.UseSearch.MarkValues.Tables.{DeclKey, same_key, values_at}
-use Rattle.printed_constants.specs.TypedParts.MarkedRuns.KeptMarks.Over.{IsOverName}
+use Rattle.constant_modules.specs.KeyedImports.Steps.{IsOverNameKeyed}
 use Rattle.printed_constants.specs.TypedParts.MarkedRuns.NamedMarks.Named.{AllNamed}
 use Rattle.printed_constants.specs.TypedParts.MarkedRuns.SettledConstants.Programs.{IsReady}
 use Rattle.stepped_programs.specs.declared.package_search.looks.ProgramSources.{ProgramSources}
@@ -41,7 +41,7 @@ abbrev pub SettledFlagsStay : Type 0
 SettledFlagsStay =
     (files : List Source) (marks : List MarkRef) (st : Standing) (l : Logged) (after : Standing)
     (n : Next marks st l after) (p q : Program) (s t : ProgramSources) (were users : Users) (old new : ℕ → List Bool)
-    → IsKeptProgram files marks st p s → IsKeptProgram files marks after q t → q.types ≡ p.types → IsOverName n
+    → IsKeptProgram files marks st p s → IsKeptProgram files marks after q t → q.types ≡ p.types → IsOverNameKeyed n
     → ((k : DeclKey) → is_of_step n.found k ≡ false → values_at k q.values ≡ values_at k p.values)
     → KeepOthers (same_key (decl_of_step n.found)) were users → AreAllSettled marks st were old
     → ((w : Where At) → IsThere st.packages w → flag_of new w ≡ true
