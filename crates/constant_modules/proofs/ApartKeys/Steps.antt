@@ -187,7 +187,7 @@ module _ (use_them : StepsUseExpressions) (take_few : SmallTextsTakeFewNames) (w
     }
 
     stands : StandsNamedThere n
-    stands = stand_there marks st l after n is.ready is.typed is.own is.named is.constants is.untyped few is.plain
+    stands = stand_there marks st l after n is.ready is.typed is.own is.named is.constants is.untyped few
 
     puts : PutsNameThere n
     puts = puts-there sound_added marks st l after n is.ready is.files is.typed few adds stands

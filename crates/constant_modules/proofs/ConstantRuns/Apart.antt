@@ -20,13 +20,13 @@ module _ (none : StepsHaveNoneBeside) (take : ConstantStepsTakeNamesApart) (stay
 
 module _ (read : ReadModulesAreOfConstants) (found : FilesKeepKeysApart) (beside : ApartRunsHaveNoneBeside) (stays : RunsStayWithin) where
   pub inlinings_keep_apart : ConstantInliningsKeep → ApartInliningsKeep
-  inlinings_keep_apart keep files ps texts only after report i octets typed unspread plain apart constants small =
+  inlinings_keep_apart keep files ps texts only after report i octets typed unspread apart constants small =
       let within : StaysWithin i.run = stays files (marks_of ps texts only) (standing_as_read ps texts) i.last [] i.log i.run i.within in
-      keep files ps texts only after report i octets typed unspread plain constants small
-      (beside (marks_of ps texts only) (standing_as_read ps texts) i.last i.log (read files ps texts only i.read octets typed unspread plain constants small) (found ps texts apart) i.run within)
+      keep files ps texts only after report i octets typed unspread constants small
+      (beside (marks_of ps texts only) (standing_as_read ps texts) i.last i.log (read files ps texts only i.read octets typed unspread constants small) (found ps texts apart) i.run within)
 
   pub modules_inlined_apart : ConstantModulesAreInlined → ApartModulesAreInlined
-  modules_inlined_apart inline files ps texts only after report i octets typed unspread plain apart constants small =
+  modules_inlined_apart inline files ps texts only after report i octets typed unspread apart constants small =
       let within : StaysWithin i.run = stays files (marks_of ps texts only) (standing_as_read ps texts) i.last [] i.log i.run i.within in
-      inline files ps texts only after report i octets typed unspread plain constants small
-      (beside (marks_of ps texts only) (standing_as_read ps texts) i.last i.log (read files ps texts only i.read octets typed unspread plain constants small) (found ps texts apart) i.run within)
+      inline files ps texts only after report i octets typed unspread constants small
+      (beside (marks_of ps texts only) (standing_as_read ps texts) i.last i.log (read files ps texts only i.read octets typed unspread constants small) (found ps texts apart) i.run within)

@@ -17,11 +17,11 @@ use Rattle.constant_modules.specs.ConstantRuns.Laws.{StepsLeaveNoPredeclared, St
 use Rattle.constant_modules.specs.NamedAnywhere.Marked.{StandsAnywhere}
 use Rattle.constant_modules.specs.NamedAnywhere.MarkedLaws.{StepsAnywhereStayReady}
 use Rattle.constant_modules.specs.NamedAnywhere.Taken.{TakesNameAnywhere}
-use Rattle.constant_modules.specs.NamedThere.Laws.{StepsStayPlain, StepsStayUntyped}
+use Rattle.constant_modules.specs.NamedThere.Laws.{StepsStayUntyped}
 use Rattle.constant_modules.specs.NamedThere.Steps.{ConstantStepsTakeNames}
 
-pub steps_stay : ConstantStepsTakeNames → ConstantsWrite → StepsAnywhereStayReady → StepsKeepNamed → StepsKeepFiles → MarkedConstantsNameConstants → StepsLeaveNoPredeclared → StepsStayPlain → StepsStayUntyped → StepsStayOfConstants
-steps_stay take write step keep have names none plain untyped marks st l after n is beside small =
+pub steps_stay : ConstantStepsTakeNames → ConstantsWrite → StepsAnywhereStayReady → StepsKeepNamed → StepsKeepFiles → MarkedConstantsNameConstants → StepsLeaveNoPredeclared → StepsStayUntyped → StepsStayOfConstants
+steps_stay take write step keep have names none untyped marks st l after n is beside small =
     let t : TakesNameAnywhere n × (IsOverName n × StandsAnywhere n) = take marks st l after n is beside in
     let write_so : WritesFile n = writes marks st l after n t.1.0 write is.ready is.named in
     let r : IsReady after × WellTyped (packages_of after.packages []) = step marks st l after n is.ready is.typed write_so t.0 in
@@ -35,7 +35,6 @@ steps_stay take write step keep have names none plain untyped marks st l after n
       own = own_after marks st l after n is.own;
       named = named;
       constants = names after.packages marks r.0.links.ordered files r.1 named free;
-      untyped = untyped marks st l after n is.plain is.untyped;
-      plain = plain marks st l after n is.plain;
+      untyped = untyped marks st l after n is.untyped;
       small = small;
     }

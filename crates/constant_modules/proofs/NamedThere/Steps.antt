@@ -35,7 +35,7 @@ module _ (use_them : StepsUseExpressions) (take_few : SmallTextsTakeFewNames) (w
   names = keep marks st l after n used.0 used.1 is.ready.reads is.ready.paths is.ready.links is.named is.small writes removed
 
   stands : StandsNamedThere n
-  stands = stand marks st l after n is.ready is.typed is.own is.named is.constants is.untyped few is.plain
+  stands = stand marks st l after n is.ready is.typed is.own is.named is.constants is.untyped few
 
   -- it takes its name, but for its imports at last
   pub there : TakesNameThere n

@@ -1,4 +1,4 @@
--- The laws of runs over constants, in modules of any plain declarations whose keys are apart from imports. Each is the
+-- The laws of runs over constants, in modules of any declarations whose keys are apart from imports. Each is the
 -- contract of a function of this crate (Go specification, Constant declarations; Composite literals; Import
 -- declarations; Packages; Program initialization and execution).
 use Rattle.std.specs.Prelude.{◌≡◌, ◌≤◌, true, ℕ, List, []}
@@ -24,7 +24,6 @@ use Rattle.run_rules.specs.Texts.{FileText}
 use Rattle.constant_modules.specs.ApartKeys.Files.{keys_are_apart}
 use Rattle.constant_modules.specs.ApartKeys.Laws.{KeysApart}
 use Rattle.constant_modules.specs.ConstantRuns.Runs.{NoneBesideAnywhere}
-use Rattle.constant_modules.specs.ConstantRuns.Types.{AreReadPlain}
 use Rattle.constant_modules.specs.NamedThere.Steps.{IsOfConstants}
 
 -- From a program of constants whose keys are apart from imports, at no step of a run, whose texts stay within the
@@ -42,7 +41,7 @@ ApartInliningsKeep =
     (after : List (List ℕ × FileText)) (report : List ℕ)
     (i : IsInlining the_limits files ps texts only after report)
     → list_all (λ f. each is_byte f.path) files ≡ true → WellTyped (packages_of ps []) → UnspreadPackages ps
-    → AreReadPlain ps → keys_are_apart ps ≡ true → AllConstants ps (marks_of ps texts only)
+    → keys_are_apart ps ≡ true → AllConstants ps (marks_of ps texts only)
     → texts_size texts ≤ the_limits.total → KeptByRun ps texts (marks_of ps texts only) i.last
 
 -- And it leaves files that read as a module, which is well typed and means what it meant.
@@ -52,6 +51,6 @@ ApartModulesAreInlined =
     (after : List (List ℕ × FileText)) (report : List ℕ)
     (i : IsInlining the_limits files ps texts only after report)
     → list_all (λ f. each is_byte f.path) files ≡ true → WellTyped (packages_of ps []) → UnspreadPackages ps
-    → AreReadPlain ps → keys_are_apart ps ≡ true → AllConstants ps (marks_of ps texts only)
+    → keys_are_apart ps ≡ true → AllConstants ps (marks_of ps texts only)
     → texts_size texts ≤ the_limits.total
     → IsInlinedModule files ps texts i.log after (packages_with here_of i.last.packages)
