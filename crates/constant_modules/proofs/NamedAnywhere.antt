@@ -3,6 +3,7 @@ pub mod FormsNamed
 pub mod NewDeclared
 pub mod OwnExpressions
 pub mod UsesKnown
+pub mod UsesAfter
 pub mod Swaps
 pub mod Rehomed
 pub mod TypesFree

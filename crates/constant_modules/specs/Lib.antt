@@ -2,6 +2,7 @@ pub mod ApartKeys
 pub mod ConstantNames
 pub mod ConstantPrograms
 pub mod ConstantRuns
+pub mod ConstantsOfGroups
 pub mod CountedUses
 pub mod FewNames
 pub mod KeptUses

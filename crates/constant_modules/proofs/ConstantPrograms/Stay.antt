@@ -18,7 +18,7 @@ texts_small n m h = let k : n + m ≤ 16777216 = h in omega (arith, k)
 pub read_programs : ReadModulesAreOfConstants → ReadPathsAreApart → ReadModulesAreConstantPrograms
 read_programs of apart files ps texts only r octets typed form constants small =
     record {
-      constants = of files ps texts only r octets typed form.unspread form.plain form.keys constants (texts_small (module_file_size files) (texts_size texts) small);
+      constants = of files ps texts only r octets typed form.unspread form.keys constants (texts_small (module_file_size files) (texts_size texts) small);
       apart = apart files ps texts r;
       small = small;
     }
@@ -40,4 +40,4 @@ programs_stay stay apart within files marks done st l after n p fits =
 
 pub modules_inlined : ConstantModulesAreInlined → FormedModulesAreInlined
 modules_inlined inline files ps texts only after report i octets typed form constants small =
-    inline files ps texts only after report i octets typed form.unspread form.plain form.keys constants small
+    inline files ps texts only after report i octets typed form.unspread form.keys constants small

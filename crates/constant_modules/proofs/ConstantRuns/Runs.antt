@@ -25,14 +25,14 @@ module _ (take : ConstantStepsTakeNames) (stay : StepsStayOfConstants) where
 
 module _ (read : ReadModulesAreOfConstants) (over : ConstantRunsAreOver) (stays : RunsStayWithin) where
   pub inlinings_keep : RunsOverMarksAnywhereKeep → ConstantInliningsKeep
-  inlinings_keep keep files ps texts only after report i octets typed unspread plain apart constants small =
+  inlinings_keep keep files ps texts only after report i octets typed unspread apart constants small =
       let within : StaysWithin i.run = stays files (marks_of ps texts only) (standing_as_read ps texts) i.last [] i.log i.run i.within in
       keep files ps texts only i.last i.log i.read octets typed unspread constants i.run
-      (over (marks_of ps texts only) (standing_as_read ps texts) i.last i.log (read files ps texts only i.read octets typed unspread plain apart constants small) i.run within)
+      (over (marks_of ps texts only) (standing_as_read ps texts) i.last i.log (read files ps texts only i.read octets typed unspread apart constants small) i.run within)
 
   pub modules_inlined : RunsOverMarksAnywhereInline → ConstantModulesAreInlined
-  modules_inlined inline files ps texts only after report i octets typed unspread plain apart constants small =
+  modules_inlined inline files ps texts only after report i octets typed unspread apart constants small =
       let within : StaysWithin i.run = stays files (marks_of ps texts only) (standing_as_read ps texts) i.last [] i.log i.run i.within in
       subst (λ (ts : List (List ℕ × FileText)). IsInlinedModule files ps texts i.log ts (packages_with here_of i.last.packages)) (sym i.after_is)
       (inline files ps texts only i.last i.log i.read octets typed unspread constants i.run
-      (over (marks_of ps texts only) (standing_as_read ps texts) i.last i.log (read files ps texts only i.read octets typed unspread plain apart constants small) i.run within))
+      (over (marks_of ps texts only) (standing_as_read ps texts) i.last i.log (read files ps texts only i.read octets typed unspread apart constants small) i.run within))

@@ -16,12 +16,12 @@ use Rattle.constant_modules.specs.KeyedImports.Steps.{IsOverNameKeyed}
 use Rattle.constant_modules.specs.NamedAnywhere.Marked.{StandsAnywhere}
 use Rattle.constant_modules.specs.NamedAnywhere.MarkedLaws.{StepsAnywhereStayReady}
 use Rattle.constant_modules.specs.NamedAnywhere.Taken.{TakesNameAnywhere}
-use Rattle.constant_modules.specs.NamedThere.Laws.{StepsStayPlain, StepsStayUntyped}
+use Rattle.constant_modules.specs.NamedThere.Laws.{StepsStayUntyped}
 use Rattle.constant_modules.specs.NamedThere.Steps.{ConstantStepsTakeNames}
 use Rattle.constant_modules.proofs.NamedAnywhere.Puts.{puts_of}
 
-pub steps_stay : ConstantStepsTakeNames → KeyedStepsWrite → StepsAnywhereStayReady → KeyedStepsKeepNamed → StepsKeepFiles → StepsKeepKeysApart → MarkedConstantsNameConstants → StepsLeaveNoPredeclared → StepsStayPlain → StepsStayUntyped → StepsStayOfConstants
-steps_stay take write step keep have apart names none plain untyped marks st l after n is small =
+pub steps_stay : ConstantStepsTakeNames → KeyedStepsWrite → StepsAnywhereStayReady → KeyedStepsKeepNamed → StepsKeepFiles → StepsKeepKeysApart → MarkedConstantsNameConstants → StepsLeaveNoPredeclared → StepsStayUntyped → StepsStayOfConstants
+steps_stay take write step keep have apart names none untyped marks st l after n is small =
     let t : TakesNameAnywhere n × (IsOverNameKeyed n × StandsAnywhere n) = take marks st l after n is in
     let write_so : WritesFile n = (write marks st l after n is.ready is.named t.1.0).0 in
     let r : IsReady after × WellTyped (packages_of after.packages []) = step marks st l after n is.ready is.typed write_so t.0 in
@@ -35,8 +35,7 @@ steps_stay take write step keep have apart names none plain untyped marks st l a
       own = own_after marks st l after n is.own;
       named = named;
       constants = names after.packages marks r.0.links.ordered files r.1 named free;
-      untyped = untyped marks st l after n is.plain is.untyped;
-      plain = plain marks st l after n is.plain;
+      untyped = untyped marks st l after n is.untyped;
       apart = apart marks st l after n is.ready (puts_of marks st l after n t.0.there) write_so is.apart;
       small = small;
     }

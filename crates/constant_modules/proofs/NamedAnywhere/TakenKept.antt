@@ -37,15 +37,13 @@ module _ (marks : List MarkRef) (st : Standing) (l : Logged) (after : Standing) 
     there =
         record {
           place = h.place;
-          use_ = as_use same_here (is_commented st) (packages_added st.packages n.found) marks (site_there n.found h.place) h.use_;
+          use_ = as_use same_here (is_commented st) (packages_added st.packages n.found) marks (site_there n.found h.place) h.use_ h.stands.home_plain;
           stands =
               record {
                 package_there = h.stands.package_there;
                 file_there = h.stands.file_there;
                 decl = h.stands.decl;
                 decl_there = h.stands.decl_there;
-                plain = h.stands.plain;
-                home_plain = h.stands.home_plain;
                 alone = h.stands.alone;
               };
           parts = λ Q w s k at. simple_stand same_here (packages_added st.packages n.found) (site_there n.found h.place) h.use_.new h.stands.decl k (linked (packages_added st.packages n.found)) (sources Q) h.stands.simple;

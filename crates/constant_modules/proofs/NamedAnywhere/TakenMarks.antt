@@ -67,8 +67,6 @@ module _ (sound : AddedImportsMayBeDeclared) (marks : List MarkRef) (st : Standi
     file_there = change-at with_tree w.of.files w.file_number w.source here.file_is;
     decl = here.decl;
     decl_there = here.decl_is;
-    plain = h.plain;
-    home_plain = h.home_plain;
     alone = alone-there marks st l after n ready.reads h.place h.used_as h.use_.use_ h.use_.part here.decl here.decl_is (h.there here.decl here.decl_is);
   }
 

@@ -43,7 +43,7 @@ module _ (use_them : StepsUseExpressions) (take_few : SmallTextsTakeFewNames) (w
   adds = record { new_names = adds-new-names marks st l after n few (linked-names st.packages is.ready.links); ordered = is.ready.links.ordered; ordered_added = ordered.0 }
 
   stands : StandsNamedThere n
-  stands = stand marks st l after n is.ready is.typed is.own is.named is.constants is.untyped few is.plain
+  stands = stand marks st l after n is.ready is.typed is.own is.named is.constants is.untyped few
 
   puts : PutsNameThere n
   puts = put marks st l after n is.ready is.files is.typed few adds stands

@@ -10,7 +10,7 @@ use Rattle.go_tree.specs.ScopeNames.Identifiers.{type_option_identifiers, expr_i
 use Rattle.go_tree.specs.GoTypes.Agreement.{In}
 use Rattle.run_rules.specs.Sites.{Inlinable, a_constant, constant_in_spec, less, nth_constant, inlinable_in}
 use Rattle.order_runs.proofs.CycleRuns.ImportCycles.FreeIdentifiers.{in-left, in-right}
-use Rattle.constant_modules.proofs.NamedAnywhere.OwnExpressions.{no_alias}
+use Rattle.constant_modules.proofs.ConstantsOfGroups.TextsKept.{no_alias}
 
 module _ {S : Type 0} (c : NameAt S) (e : Expr S) (m : List ℕ) (among : In m (expr_identifiers e)) where
   value_is : {n : NameAt S} {y : Expr S} → a_constant n y ≡ a_constant c e → y ≡ e

@@ -9,14 +9,12 @@ use Rattle.run_rules.specs.Run.{Standing, module_file_size, texts_size, the_limi
 use Rattle.run_rules.specs.Sites.{MarkRef}
 use Rattle.constant_steps.specs.WrittenLiteral.UnspreadForms.UnspreadForms.{UnspreadPackages}
 use Rattle.constant_modules.specs.ApartKeys.Files.{keys_are_apart}
-use Rattle.constant_modules.specs.ConstantRuns.Types.{AreReadPlain}
 use Rattle.constant_modules.specs.NamedThere.Steps.{IsOfConstants}
 
--- A module as read whose constants are inlined: no call hands on a slice, each spec of constants or variables has one
--- name, and no import has a predeclared identifier for its name that is a key of a composite literal in its file.
+-- A module as read whose constants are inlined: no call hands on a slice, and no import has a predeclared identifier for
+-- its name that is a key of a composite literal in its file.
 pub record HasForm (ps : List (Package Span)) : Type 0 where
   pub unspread : UnspreadPackages ps
-  pub plain : AreReadPlain ps
   pub keys : keys_are_apart ps ≡ true
 
 -- A program of constants (named_there's `IsOfConstants`), each of whose texts has a path of its own; with `go.mod` the

@@ -1,4 +1,4 @@
--- The laws of runs over constants, in modules of any plain declarations. Each is the contract of a function of this
+-- The laws of runs over constants, in modules of any declarations. Each is the contract of a function of this
 -- crate (Go specification, Constant declarations; Import declarations; Packages; Program initialization and execution).
 use Rattle.std.specs.Prelude.{◌≡◌, ◌≤◌, true, ℕ, List, []}
 use Rattle.std.specs.List.{list_all}
@@ -21,7 +21,6 @@ use Rattle.run_rules.specs.Run.{Standing, Logged, Run, here_of, texts_size, the_
 use Rattle.run_rules.specs.Sites.{MarkRef}
 use Rattle.run_rules.specs.Texts.{FileText}
 use Rattle.constant_modules.specs.ApartKeys.Files.{keys_are_apart}
-use Rattle.constant_modules.specs.ConstantRuns.Types.{AreReadPlain}
 use Rattle.constant_modules.specs.NamedAnywhere.Marked.{AllOverAnywhere}
 use Rattle.constant_modules.specs.NamedThere.Steps.{IsOfConstants}
 
@@ -40,7 +39,7 @@ ConstantInliningsKeep =
     (after : List (List ℕ × FileText)) (report : List ℕ)
     (i : IsInlining the_limits files ps texts only after report)
     → list_all (λ f. each is_byte f.path) files ≡ true → WellTyped (packages_of ps []) → UnspreadPackages ps
-    → AreReadPlain ps → keys_are_apart ps ≡ true → AllConstants ps (marks_of ps texts only)
+    → keys_are_apart ps ≡ true → AllConstants ps (marks_of ps texts only)
     → texts_size texts ≤ the_limits.total → KeptByRun ps texts (marks_of ps texts only) i.last
 
 -- And it leaves files that read as a module, which is well typed and means what it meant.
@@ -50,6 +49,6 @@ ConstantModulesAreInlined =
     (after : List (List ℕ × FileText)) (report : List ℕ)
     (i : IsInlining the_limits files ps texts only after report)
     → list_all (λ f. each is_byte f.path) files ≡ true → WellTyped (packages_of ps []) → UnspreadPackages ps
-    → AreReadPlain ps → keys_are_apart ps ≡ true → AllConstants ps (marks_of ps texts only)
+    → keys_are_apart ps ≡ true → AllConstants ps (marks_of ps texts only)
     → texts_size texts ≤ the_limits.total
     → IsInlinedModule files ps texts i.log after (packages_with here_of i.last.packages)

@@ -14,11 +14,11 @@ use Rattle.constant_modules.specs.ConstantNames.Members.{AllNameConstants}
 use Rattle.constant_modules.specs.KeyedImports.Steps.{IsOverNameKeyed}
 use Rattle.constant_modules.specs.NamedAnywhere.Marked.{StandsAnywhere}
 use Rattle.constant_modules.specs.NamedAnywhere.Taken.{TakesNameAnywhere}
-use Rattle.constant_modules.specs.NamedThere.There.{AllUntyped, ArePlain}
+use Rattle.constant_modules.specs.NamedThere.There.{AllUntyped}
 
 -- A program that is ready and well typed, whose packages have files and names of their own, whose texts are within the
--- limit of a run, whose declarations are all plain, and whose marks are all of constants that are declared without a
--- type as names of constants; no import has a predeclared identifier for its name that is a key in its file.
+-- limit of a run, and whose marks are all of constants that are declared without a type as names of constants; no
+-- import has a predeclared identifier for its name that is a key in its file. Whatever else it declares.
 pub record IsOfConstants (marks : List MarkRef) (st : Standing) : Type 0 where
   pub ready : IsReady st
   pub files : HaveFiles st.packages
@@ -27,7 +27,6 @@ pub record IsOfConstants (marks : List MarkRef) (st : Standing) : Type 0 where
   pub named : AllNamed st.packages marks
   pub constants : AllNameConstants st.packages marks
   pub untyped : AllUntyped st.packages marks
-  pub plain : ArePlain st.packages
   pub apart : KeysApart st.packages
   pub small : texts_size st.texts ≤ the_limits.total
 

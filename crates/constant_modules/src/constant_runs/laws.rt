@@ -11,7 +11,9 @@ use crate::keyed_imports::{keyed_marks_stay_named, steps_keep_uses};
 use crate::named_anywhere::{
     runs_anywhere_keep, runs_over_marks_anywhere_inline, runs_over_marks_anywhere_keep,
 };
-use crate::named_there::{constant_steps_take_names, constant_uses_are_there, steps_stay_plain};
+use crate::named_there::{
+    constant_steps_take_names, constant_uses_are_there, constants_stay_untyped,
+};
 use crate::typed_forms::first_uses_are_typed;
 use crate::typed_uses::{first_uses_use_constants, steps_use_expressions};
 use constant_steps::form_imports::packages_have_own_names;
@@ -20,18 +22,16 @@ use printed_constants::typed_parts::marked_runs::{
     constants_settle, members_are_linked, read_marks_are_named, read_modules_are_ready,
 };
 
-/// In a module that reads no type is written for a marked constant, since the mark of a constant with a type is a bad
-/// one (`read`). Where all declarations are plain, that is what named_there asks of marked constants (`plain`) (Go
-/// specification, Constant declarations).
+/// In a module that reads no type is written for a marked constant, whichever names share its spec, since the mark of a
+/// constant with a type is a bad one (Go specification, Constant declarations).
 pub fn constants_are_untyped()
-    ensures read { law.ReadConstantsHaveNoTypes }
-    ensures plain { law.PlainConstantsAreUntyped }
+    ensures { law.ReadConstantsHaveNoTypes }
 {}
 
 /// So a module that reads, is well typed and within the limits, and all of whose marks are of constants, is a program of
-/// constants as named_there has it (`IsOfConstants`), where its declarations are plain, no call hands on a slice, and no
-/// import has a predeclared identifier for its name that is a key in its file: whatever else it declares (Go
-/// specification, Constant declarations; Packages; Composite literals; Predeclared identifiers).
+/// constants as named_there has it (`IsOfConstants`), where no call hands on a slice, and no import has a predeclared
+/// identifier for its name that is a key in its file: whatever else it declares (Go specification, Constant declarations;
+/// Packages; Composite literals; Predeclared identifiers).
 pub fn constant_programs_are_read()
     ensures { law.ReadModulesAreOfConstants }
 {
@@ -69,12 +69,12 @@ pub fn constant_steps_stay()
     ensures kept { law.StepsStayOfConstants }
 {
     constant_steps_take_names();
+    constants_stay_untyped();
     keyed_marks_stay_named();
     marked_constants_name_constants();
     members_are_linked();
     runs_anywhere_keep();
     steps_keep_keys_apart();
-    steps_stay_plain();
 }
 
 /// So each step of a run from such a program is over a marked constant and stands as named_anywhere asks (`over`), and

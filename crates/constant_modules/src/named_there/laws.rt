@@ -20,8 +20,8 @@ pub fn steps_list_the_same()
 
 /// So in a well-typed program whose marks are all of constants that are declared as names of constants, the use of a
 /// step is, with the imports of its form added, a name of the marked constant where the walk lists it, and becomes the
-/// same form (`there`). So it stands as named_anywhere asks, but for its imports at last, where all declarations are
-/// plain (`stand`) (Go specification, Constant declarations; Iota; Qualified identifiers; Import declarations).
+/// same form (`there`). So it stands as named_anywhere asks, but for its imports at last, whatever else the program
+/// declares (`stand`) (Go specification, Constant declarations; Iota; Qualified identifiers; Import declarations).
 pub fn constant_uses_are_there()
     ensures there { law.ConstantUsesAreThere }
     ensures stand { law.ConstantUsesStandThere }
@@ -30,11 +30,10 @@ pub fn constant_uses_are_there()
     constants_settle();
 }
 
-/// A step leaves all declarations plain (`plain`), and then marked constants without a type are so after it (`untyped`)
-/// (Go specification, Constant declarations; Variable declarations).
-pub fn steps_stay_plain()
-    ensures plain { law.StepsStayPlain }
-    ensures untyped { law.StepsStayUntyped }
+/// After a step no type is written for a marked constant, if none was, whichever names share its spec (Go specification,
+/// Constant declarations).
+pub fn constants_stay_untyped()
+    ensures { law.StepsStayUntyped }
 {}
 
 /// So a step in a ready, well-typed program of constants (`IsOfConstants`) takes its name as named_anywhere has it, and
