@@ -1,9 +1,0 @@
-pub mod Stay
-pub mod Universe
-pub mod BlockMembers
-pub mod NamesStand
-pub mod TypesBeside
-pub mod Told
-pub mod SpansStand
-pub mod FilesTold
-mod Example

@@ -1,2 +1,0 @@
-pub mod HasTypes
-pub mod Laws
