@@ -11,6 +11,7 @@ mod runs;
 mod sizes;
 mod sources;
 mod told;
+mod types;
 
 pub use faults::ModuleFault;
 pub use laws::{

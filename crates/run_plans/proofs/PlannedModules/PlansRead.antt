@@ -21,6 +21,7 @@ use Rattle.refusals.specs.declared.refusal.Detail.TheVariants as detail
 use Rattle.refusals.specs.declared.refusal.Refusal.{Refusal}
 use Rattle.run_by_steps.specs.Reached.{AllSupported}
 use Rattle.literal_tables.specs.HasTypes.{HasTypes}
+use Rattle.repeated_parts.specs.declared.literal_types.table.LiteralTypes.{LiteralTypes}
 use Rattle.run_rules.specs.Programs.{linked, world}
 use Rattle.run_rules.specs.Run.{module_file_size, texts_size, the_limits}
 use Rattle.source_files.specs.declared.files.SourceFile.{SourceFile}
@@ -129,14 +130,14 @@ module _ (files : List SourceFile) (m : ReadModule) (r : IsReadFrom files m) (on
     bytes_as : size ≤ the_limits.total → (folder : List Source) (f : AreOfFolder folder files) → bytes ≡ module_file_size folder + texts_size (texts_in m)
     bytes_as small folder f = is small ∙ sum ∙ size_is files m r only read folder f
 
-    pub loaded_of : without_dots (texts_in m) ≡ true → (l : Option Program) (p : Program) → l ≡ Some p → (well_typed (linked (packages_in m)) ≡ true → HasTypes (world (packages_in m)) p.types) → is_some l ≡ marks_constants (packages_in m) (texts_in m) → IfSome l (LoadsFrom m only bytes) → IsLoadedOf files m only o size p
-    loaded_of dots l p e types marks loads =
+    pub loaded_of : without_dots (texts_in m) ≡ true → (l : Option Program) (p : Program) → l ≡ Some p → (types : LiteralTypes) → HasTypes (world (packages_in m)) types → IfSome l (λ q. q.types ≡ types) → is_some l ≡ marks_constants (packages_in m) (texts_in m) → IfSome l (LoadsFrom m only bytes) → IsLoadedOf files m only o size p
+    loaded_of dots l p e types has told marks loads =
         record {
           read = r;
           form = and_both (without_dots (texts_in m)) (marks_constants (packages_in m) (texts_in m)) dots (sym marks ∙ ap is_some e);
           typing = h;
           size_is = sum;
-          types = types;
+          types = subst (HasTypes (world (packages_in m))) (sym (subst (λ (x : Option Program). IfSome x (λ q. q.types ≡ types)) e told)) has;
           loaded = λ small folder f. subst (λ (x : Option Program). IfSome x (LoadsFrom m only bytes)) e loads folder files (read_in files m r only read folder f) (bytes_as small folder f);
         }
 
@@ -159,7 +160,7 @@ module _ (files : List SourceFile) (read : ModulesAreRead) (o : Option Refusal) 
       fits = subst (λ (n : ℕ). n ≤ the_limits.total) l.size_is small
 
       starts_in : (folder : List Source) (f : AreOfFolder folder files) → StartsRun folder files m only p
-      starts_in folder f = starts files m l.read only read folder f l.form typed_as fits law begin p (l.loaded small folder f) (l.types typed_as)
+      starts_in folder f = starts files m l.read only read folder f l.form typed_as fits law begin p (l.loaded small folder f) l.types
 
       pub starts_some : AreFolder files → StartsSomeRun files p
       starts_some f = record { folder = sources_of files; read_module = m; only = only; starts = starts_in (sources_of files) f }

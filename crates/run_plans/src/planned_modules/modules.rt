@@ -20,6 +20,8 @@ use crate::planned_modules::plan::Plan;
 use crate::planned_modules::runs::plan_run;
 use crate::planned_modules::sizes::{total_bytes, within_limit};
 use crate::planned_modules::told::{not_built, too_large};
+use crate::planned_modules::types::declared_types;
+use checked_modules::read_values_are_spelled;
 use folder_reading::MAX_MODULE_BYTES;
 use go_tree::MAX_FILE_BYTES;
 use module_reading::{ReadModule, read_module_files};
@@ -112,9 +114,11 @@ fn plan_read(
 {
     modules_are_read();
     modules_may_be_loaded();
+    read_values_are_spelled();
+    let types = declared_types(alloc, read.graph.packages(), read.graph.order())?;
     let fault = form_fault(alloc, files, &read)?;
     let size = total_bytes(files);
-    match load_program(alloc, read, only, within_limit(size)) {
+    match load_program(alloc, read, types, only, within_limit(size)) {
         Ok(Some(mut program)) => {
             let plan = plan_loaded(alloc, files, &mut program, fault, size);
             drop(program);

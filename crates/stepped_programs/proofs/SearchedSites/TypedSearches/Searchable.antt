@@ -2,7 +2,7 @@
 use Rattle.std.proofs.Common.{◌≡◌, true, Some}
 use Rattle.std.specs.Prelude.{slice_get}
 use Rattle.go_tree.specs.GoTypes.WellTyped.{well_typed}
-use Rattle.literal_tables.specs.Laws.{RightTablesTellFields}
+use Rattle.told_literals.specs.Laws.{RightTablesTellFields}
 use Rattle.order_runs.specs.CycleRuns.OrderCycles.Orders.{AllOrdered}
 use Rattle.constant_modules.specs.ConstantPrograms.Laws.{SmallFilesTakeFew}
 use Rattle.repeated_parts.specs.UseSearch.UsesOfMarks.Laws.{EachSound}

@@ -4,7 +4,7 @@ ghost use Rattle.stepped_programs.specs.SearchedSites.TypedSearches.Laws.{Tables
 
 use crate::typed_files_are_sound;
 use constant_modules::constant_programs::constant_programs_stay;
-use literal_tables::right_tables_tell_fields;
+use told_literals::right_tables_tell_fields;
 
 /// Each file of a well-typed program that reads may be searched (`IsSearchable`), where its texts are within the limit of
 /// a run: few names aren't new in it, and its declarations are as searches ask (Go specification, Identifiers; Import
