@@ -1,11 +1,11 @@
 -- A table that is made of what is collected of a program is right.
-use Rattle.std.proofs.Common.{◌≡◌, ◌∙◌, refl, sym, ap, subst, ℕ, List, Option, Some, None}
+use Rattle.std.proofs.Common.{◌≡◌, ◌∙◌, sym, ap, subst, ℕ, List, Option, Some, None}
 use Rattle.std.proofs.lemmas.Option.{none-some, same_Some}
 use Rattle.go_tree.specs.declared.spans.Span.{Span}
 use Rattle.go_tree.specs.declared.const_eval.consts.Const.{Const}
 use Rattle.go_tree.specs.ScopeNames.Means.{means}
 use Rattle.go_tree.specs.GoTypes.Types.{GoType, basic}
-use Rattle.go_tree.specs.GoTypes.Entities.{World, block_of, type_of_name}
+use Rattle.go_tree.specs.GoTypes.Entities.{block_of, type_of_name}
 use Rattle.go_tree.specs.GoTypes.Programs.{Program, headed}
 use Rattle.go_tree.specs.GoTypes.Collect.{collected}
 use Rattle.type_table.specs.TypeRelations.Environment.{Environment, defined_types, env_type}

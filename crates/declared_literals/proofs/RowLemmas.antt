@@ -1,7 +1,5 @@
 -- Rows of a table that tell of all types what literals need.
-use Rattle.std.proofs.Common.{◌≡◌, ◌∙◌, refl, sym, ap, subst, arith, ℕ, zero, suc, ◌+◌, ◌<◌, ◌≤◌, Bool, true, false, List, [], ◌∷◌, ◌++◌, length, Option, Some, None, nat_eq, nat_lt, slice_get}
-use Rattle.std.proofs.lemmas.Option.{none-some}
-use Rattle.go_tree.specs.GoTypes.Table.{TypeNode}
+use Rattle.std.proofs.Common.{◌≡◌, ◌∙◌, refl, sym, ap, subst, arith, ℕ, zero, suc, ◌<◌, ◌≤◌, Bool, true, false, List, [], ◌∷◌, ◌++◌, length, Option, Some, None, nat_eq, nat_lt, slice_get}
 use Rattle.go_tree.specs.GoTypes.Types.{GoType, untyped_nil}
 use Rattle.type_table.specs.TypeRelations.Environment.{Environment, defined_types, env_type}
 use Rattle.type_table.specs.TypesAt.{type_of_row, type_within, type_at}

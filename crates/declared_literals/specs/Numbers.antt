@@ -1,7 +1,6 @@
--- The numbers of the types that packages declare, by the names of these (Go specification, Type declarations; Declarations
--- and scope).
+-- The numbers of the types that packages declare, by the names of these (Go specification, Type declarations;
+-- Declarations and scope).
 use Rattle.std.specs.Prelude.{◌≡◌, ℕ, ◌<◌, ◌⊎◌, List, [], Option, Some, None, slice_get, slice_index_or}
-use Rattle.go_tree.specs.declared.spans.Span.{Span}
 use Rattle.go_tree.specs.FileView.{type_spec_of}
 use Rattle.go_tree.specs.ScopeNames.Means.{Environment, means}
 use Rattle.typed_names.specs.declared.entities.Entity.{Entity}

@@ -52,7 +52,8 @@ fn base_number(tables: &Tables, t: TypeId) -> Option<usize>
 fn row(tables: &Tables, t: TypeId) -> LiteralType
     requires ready { AreReady tables.now }
     requires of { IsType tables.now.env (Typed t) }
-    ensures { IsRow (defined_types tables.now.env) (env_type tables.now.env) (env_type tables.now.env t.0) (Some result) }
+    ensures { IsRow (defined_types tables.now.env) (env_type tables.now.env) (env_type tables.now.env t.0)
+        (Some result) }
 {
     LiteralType {
         is_struct: is_struct(tables, t),

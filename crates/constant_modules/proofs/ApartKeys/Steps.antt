@@ -1,6 +1,6 @@
 -- In a program whose keys are apart from imports with predeclared names, no import that a step removes has the name of
 -- such a key; and keys are apart after the step.
-use Rattle.std.proofs.Common.{◌≡◌, ◌∙◌, sym, subst, ℕ, true, false, List, ◌++◌, Option, Some, None, is_some}
+use Rattle.std.proofs.Common.{◌≡◌, ◌∙◌, refl, sym, subst, ℕ, true, false, List, Option, Some, None, is_some}
 use Rattle.std.specs.Prelude.{slice_get}
 use Rattle.std.specs.List.{list_any}
 use Rattle.go_tree.specs.File.{ImportSpec, Decl}

@@ -3,8 +3,6 @@ use Rattle.constant_steps.specs.FormImports.OwnNames.{ReadPackagesAreNamed}
 use Rattle.printed_constants.specs.TypedParts.MarkedRuns.LinkedMembers.Laws.{ReadPackagesHaveFiles}
 use Rattle.printed_constants.specs.TypedParts.MarkedRuns.NamedMarks.Laws.{ReadMarksAreNamed}
 use Rattle.printed_constants.specs.TypedParts.MarkedRuns.ReadyModules.Laws.{ReadModulesAreReady, ReadModulesAreTyped}
-use Rattle.run_rules.specs.Inlining.{standing_as_read}
-use Rattle.run_rules.specs.Marks.{marks_of}
 use Rattle.constant_modules.specs.ApartKeys.Laws.{FilesKeepKeysApart}
 use Rattle.constant_modules.specs.ConstantNames.Laws.{ReadConstantsNameConstants}
 use Rattle.constant_modules.specs.ConstantRuns.Laws.{ReadConstantsHaveNoTypes, ReadModulesAreOfConstants}

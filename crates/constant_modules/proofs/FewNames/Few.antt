@@ -2,7 +2,7 @@
 use Rattle.std.proofs.Common.{◌≡◌, refl, sym, ap, subst, ◌∙◌, ◌⊎◌, inl, inr, ℕ, zero, suc, ◌+◌, ◌<◌, ◌≤◌, ◌^◌, Bool, true, false, if◌then◌else◌, nat_eq, List, [], ◌∷◌, ◌++◌, map, length, Option, Some, None, codes, arith, length-append}
 use Rattle.std.specs.Prelude.{slice_get}
 use Rattle.std.proofs.lemmas.List.{length-map}
-use Rattle.fresh_names.specs.Laws.{TakenAmong}
+use Rattle.fresh_names.specs.Laws.{TakenAmong, TakesFew}
 use Rattle.go_tree.specs.declared.spans.Span.{Span}
 use Rattle.go_tree.specs.Tree.{NameAt, Expr, ident, selector}
 use Rattle.go_tree.specs.File.{ImportSpec}
@@ -225,13 +225,13 @@ module _ (st : Standing) (reads : ProgramReads st) (paths : OnePathEach st.packa
       abbrev imports : List (List ℕ)
       imports = map (λ i. i.name) (names_here st.packages w).imports
 
-      abbrev pub all-names : List (List ℕ)
+      abbrev all-names : List (List ℕ)
       all-names = own.words ++ (imports ++ (block.words ++ rest))
 
       abbrev name_of_import : ImportSpec At → ImportName
       name_of_import s = record { name = import_name st.packages s; path = s.path; spec = no_span }
 
-      pub names-few : texts_size st.texts ≤ the_limits.total → (named : ℕ) → named ≤ 2 → length all-names + named < 2 ^ 64
+      names-few : texts_size st.texts ≤ the_limits.total → (named : ℕ) → named ≤ 2 → length all-names + named < 2 ^ 64
       names-few small named h =
           let within : texts_size st.texts ≤ 16777216 = small in
           let one = one_among st.texts w.source.path in
@@ -270,7 +270,7 @@ module _ (st : Standing) (reads : ProgramReads st) (paths : OnePathEach st.packa
           first_ (inl j) = in-left n own.words (imports ++ (block.words ++ rest)) (own.all n j)
           first_ (inr j) = behind (in-either n avoid rest j)
 
-      pub names-taken : TakenAmong w.source.tree (avoided (names_here st.packages w) []) all-names
+      names-taken : TakenAmong w.source.tree (avoided (names_here st.packages w) []) all-names
       names-taken n h =
           among_in n all-names
           (of-taken n (in_among n (taken w.source.tree (avoided (names_here st.packages w) [])) (taken-so w.source.tree (avoided (names_here st.packages w) []) n h)))
@@ -292,3 +292,16 @@ pub few-taken : (marks : List MarkRef) (st : Standing) (l : Logged) (after : Sta
 few-taken marks st l after n e part reads paths named small =
     let u : UsesConstant n = named-used marks st l after n e part named in
     few-of marks st n.found (step-makes-form marks st l after n) (placed marks st l after n) (record { home = u.home; home_is = u.home_is; name = u.name; value = u.value; declared = u.declared; as_name = u.as_name }) reads paths small
+
+-- few names aren't new in a file of a small program
+pub file-few : (st : Standing) → ProgramReads st → OnePathEach st.packages → texts_size st.texts ≤ the_limits.total → (w : Where At) → slice_get st.packages w.number ≡ Some w.of → slice_get w.of.files w.file_number ≡ Some w.source
+    → TakesFew w.source.tree (avoided (names_here st.packages w) [])
+file-few st reads paths small w package_is file_is =
+    record {
+      names = all-names st reads paths w package_is file_is;
+      taken = names-taken st reads paths w package_is file_is;
+      few = bounded (length (all-names st reads paths w package_is file_is)) (names-few st reads paths w package_is file_is small 0 (omega arith));
+    }
+  where
+    bounded : (k : ℕ) → k + 0 < 2 ^ 64 → k < 2 ^ 64
+    bounded k h = omega (arith, h)

@@ -1,10 +1,10 @@
 -- A header under other imports has the same code, where each name that it looks up means what it meant, and each key the
 -- same or no operand.
-use Rattle.std.specs.Prelude.{◌≡◌, refl, ℕ, true, false, List, [], ◌++◌, map, length, Option, Some, None, if◌then◌else◌}
-use mathlib.Core.Path.{ap, ◌∙◌}
+use Rattle.std.specs.Prelude.{◌≡◌, refl, ℕ, true, false, List, [], map, length, Option, None, if◌then◌else◌}
+use mathlib.Core.Path.{◌∙◌}
 use Rattle.std.proofs.Common.{arith}
 use Rattle.go_tree.specs.Tree.{NameAt, TypeExpr, Exprs}
-use Rattle.go_tree.specs.ScopeNames.Means.{Environment, is_blank}
+use Rattle.go_tree.specs.ScopeNames.Means.{Environment}
 use Rattle.go_tree.specs.ScopeNames.FreeNames.{names_of, free_type_option}
 use Rattle.go_tree.specs.GoTypes.Types.{GoType}
 use Rattle.go_tree.specs.GoTypes.Entities.{Entity, World}
@@ -12,7 +12,7 @@ use Rattle.go_tree.specs.GoTypes.Statements.{no_values}
 use Rattle.go_tree.specs.GoTypes.Programs.{Header, constants, variables, a_type_spec, a_func, Headed}
 use Rattle.go_tree.specs.GoTypes.SingleNames.{with_header}
 use Rattle.go_tree.specs.GoTypes.Collect.{env_of}
-use Rattle.go_tree.specs.GoTypes.Agreement.{Same, On, Agrees}
+use Rattle.go_tree.specs.GoTypes.Agreement.{On, Agrees}
 use Rattle.typed_in_place.specs.ImportsMoved.{under_imports, file_names, moved_func}
 use Rattle.go_kernel.specs.Kernel.{ImportPath, FuncName, Func, Term, Vals}
 use Rattle.go_translation.specs.Values.{nothing, path_of, zeros_of}

@@ -1,14 +1,12 @@
 -- A name before a dot, at a part of a declaration where nothing declares it, is one that the declaration uses at the top of
 -- its file, keys aside.
-use Rattle.std.proofs.Common.{◌≡◌, refl, sym, subst, ◌⊎◌, inl, inr, ℕ, suc, false, List, [], ◌∷◌, ◌++◌, map, Option, Some, None}
+use Rattle.std.proofs.Common.{◌≡◌, refl, sym, subst, ℕ, suc, false, List, [], ◌∷◌, ◌++◌, Option, Some, None}
 use Rattle.go_tree.specs.Tree.{Param, TypeExpr, named, const_decl, var_decl, empty, eval, step, assign, define, return_, break_, continue_, inner, if_, for_, range_, switch, defer, label, ValueSpecs, no_specs, spec}
 use Rattle.go_tree.specs.File.{TypeSpec, Receiver, Func, Decl, values, types, func, File}
 use Rattle.go_tree.specs.ScopeNames.FreeNames.{free_type, free_type_option, free_params}
 use Rattle.go_tree.specs.ScopeNames.Means.{is_blank}
 use Rattle.go_tree.specs.GoTypes.Agreement.{In, head, tail}
-use Rattle.go_tree.specs.GoTypes.Entities.{Env}
 use Rattle.pkg_graph.specs.Package.{Package}
-use Rattle.constant_steps.specs.StepLaws.NamesOutside.{NamesOutside}
 use Rattle.constant_steps.proofs.FormImports.ImportLaws.GraphImports.{map_append}
 use Rattle.constant_steps.proofs.StepLaws.DeclUses.{body-begins}
 use Rattle.constant_steps.proofs.StepLaws.OutsideHolds.{no_name}
@@ -20,7 +18,7 @@ use Rattle.run_rules.specs.Surroundings.{Place, Seen, seen_type, alike, value_us
 use Rattle.constant_modules.specs.KeyedImports.Keyed.{all_used, specs_marked, decl_marked}
 use Rattle.constant_modules.specs.NamesAndKeys.Marked.{Marked, used_name, Within, at_head, behind, marked_exprs, marked_stmts}
 use Rattle.constant_modules.proofs.CountedUses.Lists.{type-in}
-use Rattle.constant_modules.proofs.KeyedImports.DotWalk.{DotUse, Shows, none, one, two, Beside, member_out, exprs-show, stmts-show}
+use Rattle.constant_modules.proofs.KeyedImports.DotWalk.{Shows, none, one, two, Beside, member_out, exprs-show, stmts-show}
 
 module _ {S : Type 0} (m : List ℕ) (is_name : is_blank m ≡ false) (ps : List (Package S)) (k : ℕ) (p : Package S) (file : File S) where
   abbrev top : Place S

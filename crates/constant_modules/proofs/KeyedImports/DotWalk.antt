@@ -3,25 +3,22 @@ use Rattle.std.proofs.Common.{◌≡◌, refl, sym, subst, ◌∙◌, ◌⊎◌,
 use Rattle.go_tree.specs.Tree.{Arms, BlockOption, Cases, Elems, Expr, ExprOption, Exprs, Fields, NameAt, Param, RangeLeft, Sig, Stmt, StmtOption, Stmts, TypeExpr, Value, ValueOption, ValueSpecs, arm, assign, assigns, binary, braced, break_, call, case, composite, const_decl, continue_, defer, define, defines, elem, empty, eval, expr_and, field, for_, func_lit, ident, if_, index, inner, int_lit, label, map_type, named, no_arms, no_block, no_cases, no_elems, no_expr, no_exprs, no_fields, no_specs, no_stmt, no_stmts, no_value, nothing, plain, pointer, range_, return_, rune_lit, selector, slice, slice_type, some_block, some_expr, some_stmt, some_value, spec, star, step, stmt_and, str_lit, struct_type, switch, type_operand, unary, var_decl}
 use Rattle.go_tree.specs.GoWords.Terminals.{level_of}
 use Rattle.go_tree.specs.ScopeNames.Means.{is_blank}
-use Rattle.go_tree.specs.ScopeNames.Scopes as scopes
-use Rattle.go_tree.specs.ScopeNames.Scopes.{not_blank, sig_declares}
-use Rattle.go_tree.specs.ScopeNames.FreeNames.{names_of, declared, declared_option, arms_declared, defined, sig_names, named_use, free_type, free_fields}
-use Rattle.go_tree.specs.GoTypes.Agreement.{In, head}
-use Rattle.go_tree.specs.GoTypes.Answers.{given, meets, is_among, without}
+use Rattle.go_tree.specs.ScopeNames.FreeNames.{names_of, declared, declared_option, arms_declared, defined, sig_names}
+use Rattle.go_tree.specs.GoTypes.Agreement.{In}
+use Rattle.go_tree.specs.GoTypes.Answers.{given, meets, is_among}
 use Rattle.go_tree.specs.GoTypes.Types.{GoType, FuncType}
 use Rattle.go_tree.specs.GoTypes.Defined.{under}
-use Rattle.go_tree.specs.GoTypes.Entities.{refused, Env, Binds, extend, in_block, defined_in}
+use Rattle.go_tree.specs.GoTypes.Entities.{refused, Env, extend, in_block, defined_in}
 use Rattle.go_tree.specs.GoTypes.TypeNames.{type_meant, func_type}
-use Rattle.go_tree.specs.GoTypes.Literals.{is_struct, key_type, inner_type, literal_type}
-use Rattle.go_tree.specs.GoTypes.Bodies.{literal_env, labelled, body_ctx}
-use Rattle.go_tree.specs.GoTypes.Statements.{bound_names, bind_each}
+use Rattle.go_tree.specs.GoTypes.Literals.{is_struct, literal_type}
+use Rattle.go_tree.specs.GoTypes.Bodies.{literal_env, labelled}
+use Rattle.go_tree.specs.GoTypes.Statements.{bind_each}
 use Rattle.go_tree.specs.GoTypes.Declarations.{Repeated, nothing_to_repeat}
-use Rattle.go_tree.specs.GoTypes.Typing.{parts, all_parts, beyond, used, used_all, used_option, used_elems, used_key, used_value, used_left, used_stmt, used_stmts, used_first, used_block, used_range, used_arms, used_cases, used_constants, used_variables}
+use Rattle.go_tree.specs.GoTypes.Typing.{parts, all_parts}
 use Rattle.form_meaning.specs.FormInPlace.Bound.{stmt_binds, first_binds, range_left_binds, variable_binds}
-use Rattle.form_meaning.proofs.FormInPlace.Uses.{among_left}
 use Rattle.run_rules.specs.Surroundings.{Use, whole, stored, updated, called, deferred_call, alone, other, a_slot, Slot, Place, Seen, seen, seen_type, seen_stmt, is_local, is_old, alike, into_type, head_use, later_uses, arg_uses, unary_use, operand_use, first_operand_use, right_uses, every_use, value_use, return_uses, elem_use, key_use, inner_slot, last_slot, in_slot, callee_place, comma_slot, elem_closed, after_stmt, after_first, first_declares, left_declares, looping, switching, in_heading, at_stmt, plain_slot, ranged, in_literal, repeated_by, in_constant, after_constants, before_repeats, after_variables}
 use Rattle.run_rules.specs.Surroundings as around
-use Rattle.run_rules.specs.Places.{type_seen, written_seen, params_seen, sig_seen, old_seen, after_arms, expr_seen, all_seen, option_seen, elems_seen, key_seen, value_seen, stmt_seen, stmts_seen, first_seen, block_seen, left_seen, arms_seen, cases_seen, constants_seen, variables_seen}
+use Rattle.run_rules.specs.Places.{written_seen, params_seen, sig_seen, old_seen, after_arms, expr_seen, all_seen, option_seen, elems_seen, key_seen, value_seen, stmt_seen, stmts_seen, first_seen, block_seen, left_seen, arms_seen, cases_seen, constants_seen, variables_seen}
 use Rattle.constant_steps.specs.StepLaws.NamesOutside.{NamesOutside}
 use Rattle.constant_steps.proofs.StepLaws.OutsideHolds.{outside_holds}
 use Rattle.order_runs.proofs.RunSteps.SeatedUses.{Among, first}
@@ -29,7 +26,7 @@ use Rattle.constant_steps.specs.FormImports.Literals.{LiteralTyped}
 use Rattle.constant_steps.specs.StepLaws.Answered.{HoldsWithin}
 use Rattle.run_rules.specs.Sites.{named_in, named_in_fields}
 use Rattle.constant_modules.specs.LookUps.Beside.{names_over, package_before}
-use Rattle.constant_modules.specs.NamesAndKeys.Marked.{Marked, used_name, key_name, unless_marked, unless_key, Within, at_head, behind, marked_type, marked_fields, marked_type_option, marked_params, marked_expr, marked_exprs, marked_expr_option, marked_elems, marked_value, marked_value_option, marked_key, marked_stmt, marked_stmts, marked_stmt_option, marked_block_option, marked_left, marked_arms, marked_cases, marked_specs}
+use Rattle.constant_modules.specs.NamesAndKeys.Marked.{Marked, used_name, unless_marked, Within, at_head, marked_type, marked_fields, marked_type_option, marked_params, marked_expr, marked_exprs, marked_expr_option, marked_elems, marked_value, marked_value_option, marked_key, marked_stmt, marked_stmts, marked_stmt_option, marked_block_option, marked_left, marked_arms, marked_cases, marked_specs}
 use Rattle.constant_modules.proofs.NamesAndKeys.TypingMarked.{within-left, within-right}
 use Rattle.constant_modules.proofs.CountedUses.Lists.{one-or, among-either, over-either, unless}
 use Rattle.constant_modules.proofs.LookUps.Clear.{turns}

@@ -37,16 +37,16 @@ used_one n (behind i) = absurd (no_key (key_name (codes "q")) refl i)
     no_key _ e at_head = cc
     no_key x e (behind j) = elim j [ ]
 
+last_key : (n : List ℕ) → Within (key_name n) (key_name (codes "q") ∷ []) → IsFree (codes "v" ∷ codes "T" ∷ []) n
+last_key _ at_head = free
+last_key n (behind j) = elim j [ ]
+
 key_one : (n : List ℕ) → Within (key_name n) (used_name (codes "T") ∷ key_name (codes "q") ∷ []) → IsFree (codes "v" ∷ codes "T" ∷ []) n
 key_one n i = by (used_name (codes "T")) refl i
   where
-    last : Within (key_name n) (key_name (codes "q") ∷ []) → IsFree (codes "v" ∷ codes "T" ∷ []) n
-    last at_head = free
-    last (behind j) = elim j [ ]
-
     by : (x : Marked) → x ≡ used_name (codes "T") → Within (key_name n) (x ∷ key_name (codes "q") ∷ []) → IsFree (codes "v" ∷ codes "T" ∷ []) n
     by _ e at_head = absurd cc
-    by x e (behind j) = last j
+    by x e (behind j) = last_key n j
 
 alike : FileKeyed (codes "v" ∷ codes "T" ∷ []) with_import without
 alike = record { decls = refl; used = used; keys = keys }

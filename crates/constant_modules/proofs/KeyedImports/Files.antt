@@ -9,19 +9,17 @@ use Rattle.go_tree.specs.ScopeNames.Means.{Environment, means, is_blank, or_else
 use Rattle.go_tree.specs.GoTypes.Agreement.{In, head, tail, On}
 use Rattle.go_tree.specs.GoTypes.Answers.{is_among}
 use Rattle.go_tree.specs.GoTypes.Bodies.{no_values}
-use Rattle.go_tree.specs.GoTypes.Collect.{DeclaredTypes, env_of}
+use Rattle.go_tree.specs.GoTypes.Collect.{DeclaredTypes}
 use Rattle.go_tree.specs.GoTypes.Entities.{Entity, World, block_of, universe}
 use Rattle.go_tree.specs.GoTypes.MethodDeclarations.{MethodName}
 use Rattle.go_tree.specs.GoTypes.Programs.{Header, constants, variables, a_type_spec, a_func, Headed, Import, SourceFile, file_env, at_member, constant_headers, variable_headers, headers, all_headers, header_names, header_sound, headed_file, file_block, import_sound, import_entity}
-use Rattle.go_tree.specs.GoTypes.SingleNames.{with_header}
 use Rattle.go_tree.specs.GoTypes.WellTyped.{header_ok}
 use Rattle.constant_steps.proofs.WrittenLiteral.NamesMeant.{means_join}
 use Rattle.order_runs.specs.CycleRuns.ImportCycles.LookedUp.{types_looked_up, receiver_looked_up, names_around}
 use Rattle.order_runs.specs.ImportCodes.PackagesMoved.{imported_as}
-use Rattle.order_runs.proofs.CycleRuns.ImportCycles.FreeIdentifiers.{in-left, in-right}
-use Rattle.order_runs.proofs.ImportCodes.BodiesBound.{ok_in, func-bound}
+use Rattle.order_runs.proofs.ImportCodes.BodiesBound.{func-bound}
 use Rattle.order_runs.proofs.ImportCodes.NamesImported.{name-means, blank-means}
-use Rattle.typed_in_place.specs.ImportsMoved.{under_imports, file_names, MovedReceiver, nothing_received, received, moved_func}
+use Rattle.typed_in_place.specs.ImportsMoved.{under_imports, MovedReceiver, nothing_received, received, moved_func}
 use Rattle.typed_in_place.specs.ProgramReplaced.{All, all_of_none, all_and}
 use Rattle.typed_in_place.specs.ProgramsAlike.{OneByOne, no_more, and_more}
 use Rattle.constant_modules.specs.KeyedImports.Keyed.{all_used, specs_marked, decl_marked, IsFree, FileKeyed}

@@ -1,29 +1,29 @@
 -- Headers under other imports declare the same and use the same names where each name that they look up means what it
 -- meant, and each key the same or no operand.
-use Rattle.std.specs.Prelude.{◌≡◌, refl, ℕ, Bool, true, false, not, ◌&&◌, ◌||◌, List, [], ◌∷◌, ◌++◌, map, Option, Some, None, if◌then◌else◌, nat_eq}
-use mathlib.Core.Path.{ap, sym, ◌∙◌, subst}
+use Rattle.std.specs.Prelude.{◌≡◌, refl, ℕ, Bool, true, false, not, ◌&&◌, List, [], ◌∷◌, ◌++◌, map, Option, Some, None, if◌then◌else◌}
+use mathlib.Core.Path.{ap, sym, subst}
 use Rattle.std.proofs.Common.{arith}
 use Rattle.go_tree.specs.Tree.{NameAt, TypeExpr, Expr, Exprs, no_exprs, expr_and}
 use Rattle.go_tree.specs.File.{TypeSpec, Receiver, Func}
 use Rattle.go_tree.specs.ScopeNames.Means.{Environment, is_blank}
 use Rattle.go_tree.specs.ScopeNames.FreeNames.{names_of, sig_names, free_type, free_type_option, free_params}
-use Rattle.go_tree.specs.GoTypes.Agreement.{Same, On, Agrees, with_names}
+use Rattle.go_tree.specs.GoTypes.Agreement.{Same, On, Agrees}
 use Rattle.go_tree.specs.GoTypes.Answers.{given, both, only_if, is_empty, without}
 use Rattle.go_tree.specs.GoTypes.Bodiless.{all_bodiless}
 use Rattle.go_tree.specs.GoTypes.Entities.{Entity, variable, World, Env, Binds}
 use Rattle.go_tree.specs.GoTypes.Operands.{all_typed}
 use Rattle.go_tree.specs.GoTypes.Programs.{Header, constants, variables, a_type_spec, a_func, Headed}
-use Rattle.go_tree.specs.GoTypes.Collect.{type_declared, env_of, DeclaredTypes, alias_entity, good_entity, may_be_main, function_declared, declared_by}
-use Rattle.go_tree.specs.GoTypes.SingleNames.{has_value_each, each_alone, single_names, with_header, singly}
+use Rattle.go_tree.specs.GoTypes.Collect.{env_of, DeclaredTypes, good_entity, may_be_main, function_declared, declared_by}
+use Rattle.go_tree.specs.GoTypes.SingleNames.{has_value_each, each_alone, single_names, with_header}
 use Rattle.go_tree.specs.GoTypes.Statements.{bind_all, bind_each, body_binds, constant_entity, variable_entity, no_values}
 use Rattle.go_tree.specs.GoTypes.TypeNames.{func_type}
-use Rattle.go_tree.specs.GoTypes.Typing.{used_all, used_stmts}
+use Rattle.go_tree.specs.GoTypes.Typing.{used_all}
 use Rattle.go_tree.specs.GoTypes.WellTyped.{body_ok, body_env, receiver_names, function_uses, header_uses}
 use Rattle.go_translation.proofs.SmallAlike.{written_type-alike}
 use Rattle.typed_in_place.specs.ImportsMoved.{under_imports, file_names, MovedReceiver, MovedIn, moved_type, moved_func, Moved}
 use Rattle.typed_in_place.specs.ProgramsAlike.{OneByOne, no_more, and_more, SameHeader, SameMethod, AliasesStand, TypesStand, NameStands, ValuesStand}
 use Rattle.typed_in_place.proofs.Headers.{type_in, method_in, on_in, body_in, alias_in, good_in, declared_in}
-use Rattle.typed_in_place.proofs.ImportsMoved.{func_type-moved, alias-moved, good-moved, type_declared-moved, declared-moved, method-moved}
+use Rattle.typed_in_place.proofs.ImportsMoved.{func_type-moved, alias-moved, good-moved, type_declared-moved, method-moved}
 use Rattle.constant_modules.specs.NamesAndKeys.Marked.{Marked, OnMarked, marked_expr, marked_exprs, marked_stmts}
 use Rattle.constant_modules.proofs.KeyedImports.Initial.{all_initial-keyed}
 use Rattle.constant_modules.proofs.NamesAndKeys.Functions.{typed_so, uses_so}

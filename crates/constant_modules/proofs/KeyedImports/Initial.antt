@@ -1,5 +1,5 @@
 -- An initialiser is one in another environment in which its names mean the same, and its keys the same or no operand.
-use Rattle.std.specs.Prelude.{◌≡◌, refl, ℕ, Bool, true, false, ◌&&◌, ◌||◌, List, [], ◌∷◌, ◌++◌, Option, Some, None, if◌then◌else◌, is_some}
+use Rattle.std.specs.Prelude.{◌≡◌, refl, ℕ, Bool, true, false, ◌&&◌, ◌||◌, List, [], ◌∷◌, ◌++◌, Option, Some, if◌then◌else◌, is_some}
 use mathlib.Core.Path.{ap, sym, ◌∙◌}
 use Rattle.std.proofs.Common.{inl, inr}
 use Rattle.go_tree.specs.Tree.{Expr, ident, int_lit, rune_lit, str_lit, composite, selector, index, slice, call, func_lit, type_operand, unary, binary, star, Exprs, no_exprs, expr_and, Elems, no_elems, elem, Value, plain, braced, ValueOption, no_value, some_value}
@@ -13,7 +13,7 @@ use Rattle.go_tree.specs.GoTypes.Operands.{typed, constant_of}
 use Rattle.go_tree.specs.GoTypes.Literals.{is_struct, key_type, inner_type, literal_type}
 use Rattle.go_tree.specs.GoTypes.Initial.{means_maker, means_nil, is_address, is_constant, all_constant, sizes_constant, is_maker, is_composite, is_initial, initial_elems, initial_key, initial_value, all_initial}
 use Rattle.go_tree.specs.GoTypes.Agreement.{Agrees, with_names}
-use Rattle.constant_modules.specs.NamesAndKeys.Marked.{Marked, key_name, unless_key, NoOperand, no_meaning, of_package, of_refused, SameOrNone, at_head, OnMarked, marked_type, marked_expr, marked_exprs, marked_elems, marked_value, marked_value_option, marked_key}
+use Rattle.constant_modules.specs.NamesAndKeys.Marked.{key_name, unless_key, NoOperand, no_meaning, of_package, of_refused, SameOrNone, at_head, OnMarked, marked_type, marked_expr, marked_exprs, marked_elems, marked_value, marked_value_option, marked_key}
 use Rattle.constant_modules.proofs.NamesAndKeys.SmallMarked.{type_meant-alike}
 use Rattle.constant_modules.proofs.NamesAndKeys.TypingMarked.{first_of, second_of, marked_alike, key-operand, parts-alike}
 

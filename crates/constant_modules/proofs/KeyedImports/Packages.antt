@@ -1,6 +1,6 @@
 -- Packages of the same declarations under other imports, with keys told apart, declare the same, are typed alike, have the
 -- same code and use the same names.
-use Rattle.std.specs.Prelude.{◌≡◌, refl, ℕ, suc, Bool, true, false, not, ◌&&◌, ◌||◌, List, [], ◌∷◌, ◌++◌, map, None, bytes_eq, codes, nat_eq, slice_get}
+use Rattle.std.specs.Prelude.{◌≡◌, refl, ℕ, suc, Bool, true, false, not, ◌&&◌, ◌||◌, List, [], ◌∷◌, ◌++◌, map, None, bytes_eq, codes, nat_eq}
 use Rattle.std.specs.List.{list_any}
 use mathlib.Core.Path.{ap, ap₂, sym, ◌∙◌, subst}
 use Rattle.std.proofs.Common.{◌⊎◌, inl, inr}
@@ -8,10 +8,10 @@ use Rattle.go_tree.specs.File.{Decl}
 use Rattle.go_tree.specs.ScopeNames.Means.{means}
 use Rattle.go_tree.specs.GoTypes.Answers.{is_among}
 use Rattle.go_tree.specs.GoTypes.Entities.{World, block_of}
-use Rattle.go_tree.specs.GoTypes.Programs.{SourceFile, SourcePackage, Program, all_headers, names_in, block_names, file_block, Headed, headed_file, headed_files, headed_package, headed}
+use Rattle.go_tree.specs.GoTypes.Programs.{SourceFile, Program, all_headers, names_in, block_names, file_block, Headed, headed_file, headed_files, headed_package, headed}
 use Rattle.go_tree.specs.GoTypes.Collect.{DeclaredTypes, types_declared, aliased_world, typed_world, collected}
 use Rattle.go_tree.specs.GoTypes.WellTyped.{body_ok, header_uses, is_used_in}
-use Rattle.typed_in_place.specs.Aliases.{TypesEnd, after_types, after_names, after_values, at_last}
+use Rattle.typed_in_place.specs.Aliases.{after_types, after_names, after_values, at_last}
 use Rattle.typed_in_place.specs.ProgramsAlike.{OneByOne, no_more, and_more, AliasesStand, TypesStand, ValuesStand, DeclareAlike}
 use Rattle.typed_in_place.specs.ImportRule.{SamePackage, declarations_ok}
 use Rattle.typed_in_place.specs.ProgramReplaced as ends

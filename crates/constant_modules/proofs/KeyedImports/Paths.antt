@@ -1,7 +1,7 @@
 -- Packages of a run under other imports, with keys told apart, are linked to such packages.
 use Rattle.std.proofs.Common.{◌≡◌, refl, sym, ◌∙◌, ◌⊎◌, inl, inr, ℕ, Bool, true, false, List, [], ◌∷◌, ◌++◌, map, Some, if◌then◌else◌}
-use Rattle.std.specs.Prelude.{bytes_eq, slice_get}
-use Rattle.go_tree.specs.File.{ImportSpec, Decl}
+use Rattle.std.specs.Prelude.{bytes_eq}
+use Rattle.go_tree.specs.File.{ImportSpec}
 use Rattle.go_tree.specs.GoTypes.Answers.{given}
 use Rattle.go_tree.specs.GoTypes.Programs.{block_names}
 use Rattle.go_translation.specs.Packages as translated
@@ -16,9 +16,8 @@ use Rattle.order_runs.proofs.ImportRuns.PathsAlike.{SamePath, numbers-alike}
 use Rattle.run_rules.specs.Programs.{package_number, linked_import, linked_file, linked_package, numbered}
 use Rattle.typed_in_place.specs.ProgramsAlike.{OneByOne, no_more, and_more}
 use Rattle.typed_in_place.proofs.ProgramsReplaced.{one_by_one}
-use Rattle.constant_modules.specs.KeyedImports.Keyed.{decl_marked, IsFree, FileKeyed, PackagesKeyed}
+use Rattle.constant_modules.specs.KeyedImports.Keyed.{IsFree, FileKeyed, PackagesKeyed}
 use Rattle.constant_modules.specs.KeyedImports.Steps.{FileUnderKeyed, PathKeyed, PathsKeyed}
-use Rattle.constant_modules.specs.NamesAndKeys.Marked.{key_name, Within}
 
 module _ {S : Type 0} where
   -- an import by its name is that of a path

@@ -1,6 +1,6 @@
 -- Each name that a declaration uses at the top of its file, keys aside, stands at a part of it, or is the name of a type
 -- alone there, where each key of a literal of a struct is a name.
-use Rattle.std.proofs.Common.{◌≡◌, refl, sym, subst, ◌⊎◌, inl, inr, ℕ, suc, List, [], ◌∷◌, ◌++◌, map, Option, Some, None}
+use Rattle.std.proofs.Common.{◌≡◌, refl, sym, subst, inl, inr, ℕ, suc, List, [], ◌∷◌, ◌++◌, Option, Some, None}
 use Rattle.go_tree.specs.Tree.{Param, TypeExpr, named, const_decl, var_decl, empty, eval, step, assign, define, return_, break_, continue_, inner, if_, for_, range_, switch, defer, label, ValueSpecs, no_specs, spec}
 use Rattle.go_tree.specs.File.{TypeSpec, Receiver, Func, Decl, values, types, func, File}
 use Rattle.go_tree.specs.ScopeNames.FreeNames.{free_type, free_type_option, free_params}
@@ -17,7 +17,7 @@ use Rattle.constant_modules.specs.KeyedImports.Keyed.{all_used, specs_marked, de
 use Rattle.constant_modules.specs.NamesAndKeys.Marked.{Marked, used_name, Within, at_head, behind, marked_exprs, marked_stmts}
 use Rattle.constant_modules.specs.NamesAndKeys.UsedStand.{Counted}
 use Rattle.constant_modules.proofs.LookUps.Clear.{Clear, body_clear}
-use Rattle.constant_modules.proofs.KeyedImports.Stands.{It, Has, Holds, holds-front, holds-back, Keeps, none, two, of-free, exprs-keep, stmts-keep}
+use Rattle.constant_modules.proofs.KeyedImports.Stands.{It, Has, Holds, Keeps, none, two, of-free, exprs-keep, stmts-keep}
 
 module _ {S : Type 0} (m : List ℕ) (ps : List (Package S)) where
   used-in : (ns : List (List ℕ)) → Within (It m) (all_used ns) → In m ns

@@ -1,10 +1,10 @@
 -- Each name that a part uses, keys aside, stands at a part that run_rules' walk over it lists, or is the name of a type alone,
 -- where each key of a literal of a struct is a name: one line a clause.
 use Rattle.std.proofs.Common.{◌≡◌, refl, sym, subst, ◌∙◌, ◌⊎◌, inl, inr, ℕ, suc, ◌+◌, Bool, true, false, if◌then◌else◌, is_some, List, [], ◌∷◌, ◌++◌, Option, Some, None, arith}
-use Rattle.go_tree.specs.Tree.{NameAt, Param, TypeExpr, named, pointer, slice_type, map_type, struct_type, Fields, no_fields, field, Expr, ident, int_lit, rune_lit, str_lit, composite, selector, index, slice, call, func_lit, type_operand, unary, binary, star, Exprs, no_exprs, expr_and, ExprOption, no_expr, some_expr, Elems, no_elems, elem, Value, plain, braced, ValueOption, no_value, some_value, Stmt, const_decl, var_decl, empty, eval, step, assign, define, return_, break_, continue_, inner, if_, for_, range_, switch, defer, label, Stmts, no_stmts, stmt_and, StmtOption, no_stmt, some_stmt, BlockOption, no_block, some_block, RangeLeft, nothing, assigns, defines, Arms, no_arms, arm, Cases, no_cases, case, ValueSpecs, no_specs, spec}
-use Rattle.go_tree.specs.ScopeNames.FreeNames.{names_of, declared, declared_option, arms_declared, defined, sig_names, named_use, free_type, free_fields}
+use Rattle.go_tree.specs.Tree.{Param, TypeExpr, named, pointer, slice_type, map_type, struct_type, Fields, no_fields, field, Expr, ident, int_lit, rune_lit, str_lit, composite, selector, index, slice, call, func_lit, type_operand, unary, binary, star, Exprs, no_exprs, expr_and, ExprOption, no_expr, some_expr, Elems, no_elems, elem, Value, plain, braced, ValueOption, no_value, some_value, Stmt, const_decl, var_decl, empty, eval, step, assign, define, return_, break_, continue_, inner, if_, for_, range_, switch, defer, label, Stmts, no_stmts, stmt_and, StmtOption, no_stmt, some_stmt, BlockOption, no_block, some_block, RangeLeft, nothing, assigns, defines, Arms, no_arms, arm, Cases, no_cases, case, ValueSpecs, no_specs, spec}
+use Rattle.go_tree.specs.ScopeNames.FreeNames.{names_of, declared, declared_option, arms_declared, defined, sig_names, free_type, free_fields}
 use Rattle.go_tree.specs.GoWords.Terminals.{level_of}
-use Rattle.go_tree.specs.GoTypes.Agreement.{In, head, tail}
+use Rattle.go_tree.specs.GoTypes.Agreement.{In, head}
 use Rattle.go_tree.specs.GoTypes.Answers.{given, meets, is_among}
 use Rattle.go_tree.specs.GoTypes.Types.{GoType}
 use Rattle.go_tree.specs.GoTypes.Defined.{under}
@@ -15,13 +15,12 @@ use Rattle.go_tree.specs.GoTypes.Typing.{parts, all_parts}
 use Rattle.go_tree.specs.GoTypes.Bodies.{labelled}
 use Rattle.go_tree.specs.GoTypes.Declarations.{Repeated, nothing_to_repeat}
 use Rattle.constant_steps.specs.FormImports.Literals.{KeysNamed, KeyNamed, ValueNamed, FieldsNamed}
-use Rattle.order_runs.proofs.CycleRuns.ImportCycles.FreeIdentifiers.{in-left, in-right, in-either}
+use Rattle.order_runs.proofs.CycleRuns.ImportCycles.FreeIdentifiers.{in-left, in-right}
 use Rattle.order_runs.proofs.RunSteps.SeatedUses.{Among, first, later}
 use Rattle.run_rules.specs.Places.{written_seen, params_seen, old_seen, after_arms, expr_seen, all_seen, option_seen, elems_seen, key_seen, value_seen, stmt_seen, stmts_seen, first_seen, block_seen, left_seen, arms_seen, cases_seen, constants_seen, variables_seen}
 use Rattle.run_rules.specs.Surroundings.{Use, whole, stored, updated, called, deferred_call, alone, other, a_slot, Place, Seen, seen, seen_type, seen_stmt, alike, into_type, head_use, later_uses, arg_uses, unary_use, operand_use, first_operand_use, right_uses, every_use, value_use, return_uses, elem_use, key_use, inner_slot, last_slot, in_slot, callee_place, comma_slot, elem_closed, after_stmt, after_first, block, looping, switching, in_heading, at_stmt, plain_slot, ranged, in_literal, repeated_by, in_constant, after_constants, before_repeats, after_variables}
-use Rattle.constant_modules.specs.LookUps.Beside.{beside_part, StandsAt}
 use Rattle.constant_modules.specs.NamesAndKeys.Marked.{Marked, used_name, key_name, unless_marked, unless_key, Within, at_head, behind, marked_type, marked_fields, marked_type_option, marked_params, marked_expr, marked_exprs, marked_expr_option, marked_elems, marked_value, marked_value_option, marked_key, marked_stmt, marked_stmts, marked_stmt_option, marked_block_option, marked_left, marked_arms, marked_cases, marked_specs}
-use Rattle.constant_modules.specs.NamesAndKeys.UsedStand.{alone_part, Counted}
+use Rattle.constant_modules.specs.NamesAndKeys.UsedStand.{Counted}
 use Rattle.constant_modules.proofs.LookUps.Clear.{Clear, callee_clear, stmt_clear, first_clear, left_clear, names_clear, literal_clear, arms_clear}
 use Rattle.constant_modules.proofs.LookUps.Walk as free
 use Rattle.constant_modules.proofs.LookUps.Walk.{among-front, among-back}

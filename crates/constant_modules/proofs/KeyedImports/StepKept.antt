@@ -1,14 +1,12 @@
 -- A step over a constant keeps what names and keys mean in the file as it is read again: an import that goes is used no more,
 -- and a name that is used would use it.
-use Rattle.std.proofs.Common.{◌≡◌, ◌∙◌, refl, sym, ap, subst, ◌⊎◌, inl, inr, ℕ, zero, suc, Bool, true, false, not, ◌&&◌, ◌||◌, List, [], ◌∷◌, ◌++◌, map, Option, Some, None}
+use Rattle.std.proofs.Common.{◌≡◌, ◌∙◌, refl, sym, ap, subst, ◌⊎◌, inl, inr, ℕ, zero, suc, Bool, true, false, not, ◌||◌, List, [], ◌∷◌, ◌++◌, map, Option, Some, None}
 use Rattle.std.specs.Prelude.{bytes_eq, slice_get}
 use Rattle.std.specs.List.{list_any}
 use Rattle.std.proofs.lemmas.Option.{same_Some}
 use Rattle.std.proofs.lemmas.Slice.Eq.{bytes_eq-Decides}
 use Rattle.go_tree.specs.declared.spans.Span.{Span}
 use Rattle.go_tree.specs.File.{ImportSpec, ImportDecl, Decl, File}
-use Rattle.go_tree.specs.FileBare.{bare_import_decl}
-use Rattle.go_tree.specs.GoTypes.Agreement.{In}
 use Rattle.go_tree.specs.GoTypes.Answers.{given, is_among}
 use Rattle.go_tree.specs.GoTypes.Entities.{Entity, universe}
 use Rattle.go_tree.specs.GoTypes.Programs.{import_sound, is_init}
@@ -17,7 +15,6 @@ use Rattle.go_translation.specs.Packages.{are_well_typed}
 use Rattle.pkg_graph.specs.Package.{Package, specs_in, import_specs}
 use Rattle.pkg_graph.specs.Members.{import_name}
 use Rattle.constant_steps.specs.FormImports.ImportLaws.Steps.{used_after, removed_specs}
-use Rattle.constant_steps.specs.FormImports.Literals.{EachSeen, FieldsNamed}
 use Rattle.order_runs.specs.CycleRuns.ImportCycles.ImportSteps.{file_added, packages_added}
 use Rattle.order_runs.specs.CycleRuns.ImportCycles.OtherImports.{import_path}
 use Rattle.order_runs.specs.CycleRuns.KeptImports.Files.{IsSettled, RemovesNoneNamed}
@@ -38,7 +35,7 @@ use Rattle.run_rules.specs.declared.import_rules.new_import.NewImport.{NewImport
 use Rattle.run_rules.specs.ImportRules.Removed.{same_span}
 use Rattle.run_rules.specs.Laws.{file_found}
 use Rattle.run_rules.specs.Naming.{imports_added}
-use Rattle.run_rules.specs.Programs.{linked, linked_import, top_env, decl_seen}
+use Rattle.run_rules.specs.Programs.{linked_import, top_env, decl_seen}
 use Rattle.run_rules.specs.Respanned.{import_spec_with, import_decl_with, decl_with, decls_with}
 use Rattle.run_rules.specs.Run.{Standing, Logged, Next, here_of, origin_of}
 use Rattle.run_rules.specs.Sites.{MarkRef, Where, imported_by, outer}

@@ -1,12 +1,11 @@
 -- In a program whose declarations are typed, whatever its files import, an import that a file uses is one whose name a
 -- declaration of the file uses, keys aside; and so the other way round.
-use Rattle.std.proofs.Common.{◌≡◌, ◌∙◌, refl, sym, subst, ◌⊎◌, inl, inr, ℕ, zero, ◌+◌, Bool, true, false, List, [], ◌∷◌, Some, arith}
+use Rattle.std.proofs.Common.{◌≡◌, ◌∙◌, refl, sym, subst, inl, inr, ℕ, ◌+◌, Bool, true, false, List, [], ◌∷◌, Some, arith}
 use Rattle.std.specs.Prelude.{slice_get}
 use Rattle.std.specs.List.{list_any}
 use Rattle.std.proofs.lemmas.Option.{same_Some}
 use Rattle.go_tree.specs.Tree.{NameAt, ident, int_lit, rune_lit, str_lit, composite, selector, index, slice, call, func_lit, type_operand, unary, binary, star}
 use Rattle.go_tree.specs.File.{ImportSpec, Decl}
-use Rattle.go_tree.specs.GoTypes.Agreement.{In}
 use Rattle.go_tree.specs.GoTypes.Answers.{given}
 use Rattle.go_tree.specs.ScopeNames.Means.{means, is_blank}
 use Rattle.pkg_graph.specs.Package.{Package, import_specs}
@@ -23,8 +22,8 @@ use Rattle.printed_constants.proofs.UsedImports.Looked.{any_among, among_nth}
 use Rattle.put_nodes.specs.Swapped.{FormedDecl}
 use Rattle.run_rules.specs.Programs.{linked, top_env, decl_seen}
 use Rattle.run_rules.specs.Respanned.{decl_with}
-use Rattle.run_rules.specs.Sites.{Where, imported_by, named_by_import}
-use Rattle.run_rules.specs.Steps.{At, means_import, uses_import, is_import_used}
+use Rattle.run_rules.specs.Sites.{Where, imported_by}
+use Rattle.run_rules.specs.Steps.{At, means_import, named_by_import, uses_import, is_import_used}
 use Rattle.run_rules.specs.Surroundings.{Use, other, Place, is_local, Seen, seen, seen_type, seen_stmt, inner_slot, in_slot}
 use Rattle.typed_in_place.specs.ImportRule.{declarations_ok}
 use Rattle.constant_modules.specs.CountedUses.Typed.{IsFileOf}

@@ -1,6 +1,5 @@
 -- A step that puts a constant's name leaves a declaration of the same names in the place of the use's.
-use Rattle.std.proofs.Common.{◌≡◌, refl, sym, subst, ℕ, List, Option, Some, None}
-use Rattle.std.specs.Prelude.{slice_get}
+use Rattle.std.proofs.Common.{refl, sym, subst, List, Option, Some, None}
 use Rattle.go_tree.specs.Tree.{NameAt, Expr}
 use Rattle.go_tree.specs.File.{Receiver, Decl, values, types, func}
 use Rattle.pkg_graph.specs.Package.{Package}

@@ -6,7 +6,7 @@ use Rattle.order_runs.specs.CycleRuns.OrderCycles.NewNames.{AvoidsFew}
 use Rattle.order_runs.specs.CycleRuns.OrderCycles.Orders.{AllOrdered}
 use Rattle.order_runs.specs.CycleRuns.ImportCycles.ImportSteps.{packages_added}
 use Rattle.order_runs.proofs.CycleRuns.OrderCycles.NamesAdded.{adds-new-names}
-use Rattle.order_runs.proofs.CycleRuns.Runs.{linked-names, written-so, both-written}
+use Rattle.order_runs.proofs.CycleRuns.Runs.{linked-names, both-written}
 use Rattle.printed_constants.specs.TypedParts.MarkedRuns.SettledConstants.Laws.{ConstantsWrite}
 use Rattle.printed_constants.proofs.TypedParts.MarkedRuns.NamedMarks.Used.{named-used}
 use Rattle.run_rules.specs.Run.{Standing, Logged, Next}

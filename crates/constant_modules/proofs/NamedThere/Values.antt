@@ -1,5 +1,4 @@
--- What a constant is declared as stands in its declaration: its identifiers are among those of the declaration. And in a
--- declaration each of whose specs has one name, a constant that is declared with its type is no named one.
+-- What a constant is declared as stands in its declaration: its identifiers are among those of the declaration.
 use Rattle.std.proofs.Common.{◌≡◌, sym, subst, ◌⊎◌, inl, inr, ℕ, zero, suc, List, [], ◌∷◌, ◌++◌, Option, Some}
 use Rattle.std.specs.Prelude.{slice_get}
 use Rattle.std.proofs.lemmas.Option.{same_Some}

@@ -1,6 +1,5 @@
 -- In a program whose declarations are typed the name of an import is none of a type alone at a part.
 use Rattle.std.proofs.Common.{◌≡◌, sym, subst, ℕ, true, List, [], ◌∷◌}
-use Rattle.std.specs.Prelude.{slice_get}
 use Rattle.go_tree.specs.GoTypes.Agreement.{In}
 use Rattle.go_tree.specs.GoTypes.Entities.{Env}
 use Rattle.pkg_graph.specs.Package.{Package}

@@ -8,7 +8,7 @@ use Rattle.go_tree.specs.ScopeNames.Means.{Environment, is_blank}
 use Rattle.go_tree.specs.GoTypes.Agreement.{In}
 use Rattle.go_tree.specs.GoTypes.Answers.{is_among}
 use Rattle.go_tree.specs.GoTypes.Collect.{types_declared, collected, file_env}
-use Rattle.go_tree.specs.GoTypes.Entities.{Entity, World, Env}
+use Rattle.go_tree.specs.GoTypes.Entities.{Entity, World}
 use Rattle.go_tree.specs.GoTypes.Programs.{Header, Program, Headed, headers, all_headers, names_in, file_block, block_names, header_names, header_sound, headed, headed_file, headed_files, headed_package}
 use Rattle.go_tree.specs.GoTypes.WellTyped.{header_uses, is_used_in, well_typed}
 use Rattle.go_translation.specs.Packages.{sources, are_distinct, are_linked, are_well_typed}
@@ -31,9 +31,9 @@ use Rattle.put_nodes.proofs.ReadFiles.{decl_formed}
 use Rattle.run_rules.specs.Programs.{in_dependency_order, linked_file, linked_imports, linked_package, linked_packages, linked, world, top_env, imports_mean, decl_seen}
 use Rattle.run_rules.specs.Respanned.{decl_with}
 use Rattle.run_rules.specs.Run.{here_of}
-use Rattle.run_rules.specs.Sites.{Where, named_in}
+use Rattle.run_rules.specs.Sites.{Where}
 use Rattle.run_rules.specs.Steps.{At, uses_import, is_import_used}
-use Rattle.run_rules.specs.Surroundings.{Seen, seen, seen_type, seen_stmt}
+use Rattle.run_rules.specs.Surroundings.{Seen}
 use Rattle.splice_laws.specs.RunLaws.Reading.{FileReads}
 use Rattle.typed_in_place.specs.ImportRule.{declarations_ok, imports_ok}
 use Rattle.typed_in_place.specs.ProgramReplaced.{All}
@@ -49,14 +49,14 @@ use Rattle.constant_modules.proofs.LookUps.Uses.{its_meaning}
 use Rattle.constant_modules.proofs.CountedUses.Declared.{headers_typed}
 use Rattle.constant_modules.proofs.CountedUses.Imports.{linked_distinct, import_themselves, others_behind}
 use Rattle.constant_modules.proofs.CountedUses.Known.{put_nowhere, parts_known}
-use Rattle.constant_modules.proofs.CountedUses.Lists.{one-or, among-either}
+use Rattle.constant_modules.proofs.CountedUses.Lists.{among-either}
 use Rattle.constant_modules.proofs.CountedUses.Named.{Means}
 use Rattle.constant_modules.proofs.CountedUses.Programs.{file_is_typed}
 use Rattle.constant_modules.proofs.NamesAndKeys.NotAlone.{one_known, not_alone}
 use Rattle.constant_steps.proofs.PlainImports.{Distinct}
 use Rattle.constant_modules.proofs.NamedAnywhere.Added.{nothing-behind}
 use Rattle.constant_modules.proofs.TypedUses.Decls.{typed_known}
-use Rattle.constant_modules.proofs.TypedUses.Types.{Known, AllKnown, names_mean}
+use Rattle.constant_modules.proofs.TypedUses.Types.{Known}
 use Rattle.constant_modules.proofs.NamesAndKeys.UsedStand.{Found}
 use Rattle.constant_modules.proofs.NamesAndKeys.UsedHeaders.{decl_stand}
 

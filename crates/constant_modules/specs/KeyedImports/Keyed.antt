@@ -1,7 +1,7 @@
 -- Packages of the same declarations under other imports of their files, where a key of a composite literal may be the
 -- name of an import in one and of none in the other (Go specification, Import declarations; Composite literals;
 -- Declarations and scope).
-use Rattle.std.specs.Prelude.{◌≡◌, ◌⊎◌, ℕ, false, List, [], ◌++◌, map, Option, Some, None, slice_get}
+use Rattle.std.specs.Prelude.{◌≡◌, ◌⊎◌, ℕ, false, List, [], ◌++◌, map, Some, None, slice_get}
 use Rattle.go_tree.specs.Tree.{const_decl, var_decl, ValueSpecs, no_specs, spec}
 use Rattle.go_tree.specs.File.{Decl, values, types, func}
 use Rattle.go_tree.specs.ScopeNames.FreeNames.{free_type_option, free_params}

@@ -1,7 +1,7 @@
 -- What a step is asked that adds imports to the file of its use, puts its form there and removes imports, where keys of
 -- composite literals are told apart from names (Go specification, Import declarations; Composite literals; Declarations
 -- and scope).
-use Rattle.std.specs.Prelude.{◌≡◌, ◌⊎◌, ℕ, true, false, List, [], map, None, Some, slice_get}
+use Rattle.std.specs.Prelude.{◌≡◌, ◌⊎◌, ℕ, true, false, List, map, None, Some, slice_get}
 use Rattle.std.specs.List.{list_any}
 use Rattle.go_tree.specs.File.{ImportSpec, Decl}
 use Rattle.go_tree.specs.ScopeNames.Means.{means, is_blank}

@@ -17,8 +17,8 @@ use Rattle.constant_modules.specs.NamedAnywhere.Taken.{TakesNameAnywhere}
 use Rattle.constant_modules.specs.NamedThere.There.{AllUntyped}
 
 -- A program that is ready and well typed, whose packages have files and names of their own, whose texts are within the
--- limit of a run, and whose marks are all of constants that are declared without a type as names of constants; no
--- import has a predeclared identifier for its name that is a key in its file. Whatever else it declares.
+-- limit of a run, whose marks are all of constants that are declared without a type as names of constants, and no import
+-- of which has a predeclared identifier for its name that is a key in its file: whatever else it declares.
 pub record IsOfConstants (marks : List MarkRef) (st : Standing) : Type 0 where
   pub ready : IsReady st
   pub files : HaveFiles st.packages

@@ -30,8 +30,8 @@ pub fn constants_are_untyped()
 
 /// So a module that reads, is well typed and within the limits, and all of whose marks are of constants, is a program of
 /// constants as named_there has it (`IsOfConstants`), where no call hands on a slice, and no import has a predeclared
-/// identifier for its name that is a key in its file: whatever else it declares (Go specification, Constant declarations;
-/// Packages; Composite literals; Predeclared identifiers).
+/// identifier for its name that is a key in its file: whatever else it declares (Go specification, Constant
+/// declarations; Packages; Composite literals; Predeclared identifiers).
 pub fn constant_programs_are_read()
     ensures { law.ReadModulesAreOfConstants }
 {
