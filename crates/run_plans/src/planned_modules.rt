@@ -5,6 +5,7 @@ mod dots;
 mod faults;
 mod laws;
 mod modules;
+mod names;
 mod places;
 mod plan;
 mod runs;

@@ -54,8 +54,7 @@ module _ (law : FilesWithoutDots) (ps : List (Package Span)) (texts : List (List
   packages_from : (j : ℕ) (qs : List (Package Span)) → ((i n : ℕ) (p : Package Span) → slice_get qs i ≡ Some p → n ≡ j + i → slice_get ps n ≡ Some p) → UnspreadPackages qs
   packages_from j [] a = tt
   packages_from j (p ∷ qs) a =
-      let n : j ≡ j + 0 = omega arith in
-      (
+      let n : j ≡ j + 0 = omega arith in (
         files_from j p (a 0 j p refl n) 0 p.files (λ i m f q s. let same : m ≡ i = omega (arith, s) in subst (λ (x : ℕ). slice_get p.files x ≡ Some f) (sym same) q),
         packages_from (suc j) qs (λ i m q g s. a (suc i) m q g (omega (arith, s))),
       )

@@ -31,7 +31,7 @@ use Rattle.run_plans.specs.InlinedPrograms.Beginnings.{BeginsRun}
 use Rattle.run_plans.specs.InlinedPrograms.Laws.{LoadedProgramsBeginRuns}
 use Rattle.run_plans.specs.PlannedModules.Folders.{AreFolder, AreOfFolder, size_of}
 use Rattle.run_plans.specs.PlannedModules.Loaded.{IsLoadedOf}
-use Rattle.run_plans.specs.PlannedModules.Modules.{IsRead, IsTaken, has_form, module_size, without_dots}
+use Rattle.run_plans.specs.PlannedModules.Modules.{IsRead, IsTaken, has_form, is_formed, module_size}
 use Rattle.run_plans.specs.PlannedModules.Places.{IsTypingOf}
 use Rattle.run_plans.specs.PlannedModules.Planned.{IsModulePlan}
 use Rattle.run_plans.specs.PlannedModules.Runs.{IsRunFault, IsRunPlan, StartsRun, StartsSomeRun, beginning_of}
@@ -70,11 +70,11 @@ module _ (files : List SourceFile) (m : ReadModule) (r : IsReadFrom files m) (on
 
     -- ---- what is refused
 
-    pub dotted : without_dots (texts_in m) ≡ false → IsUnplanned folder files only (told_whole detail.NotYet)
-    dotted e = not_built (packages_in m) (texts_in m) is_read (not_both_left (without_dots (texts_in m)) (marks_constants (packages_in m) (texts_in m)) e)
+    pub formless : is_formed (packages_in m) (texts_in m) ≡ false → IsUnplanned folder files only (told_whole detail.NotYet)
+    formless e = not_built (packages_in m) (texts_in m) is_read (not_both_left (is_formed (packages_in m) (texts_in m)) (marks_constants (packages_in m) (texts_in m)) e)
 
     pub unmarked : marks_constants (packages_in m) (texts_in m) ≡ false → IsUnplanned folder files only (told_whole detail.NotYet)
-    unmarked e = not_built (packages_in m) (texts_in m) is_read (not_both_right (without_dots (texts_in m)) (marks_constants (packages_in m) (texts_in m)) e)
+    unmarked e = not_built (packages_in m) (texts_in m) is_read (not_both_right (is_formed (packages_in m) (texts_in m)) (marks_constants (packages_in m) (texts_in m)) e)
 
     module _ (form : has_form (packages_in m) (texts_in m) ≡ true) where
       pub mistyped : (x : Refusal) → IsTypingOf files (packages_in m) (Some x) → IsUnplanned folder files only x
@@ -119,8 +119,8 @@ LoadsFrom m only bytes p =
     (folder : List Source) (files : List SourceFile) → IsReadIn folder files m → bytes ≡ module_file_size folder + texts_size (texts_in m) → IsLoaded folder m only p
 
 module _ (files : List SourceFile) (m : ReadModule) (r : IsReadFrom files m) (only : List ℕ) (read : ModulesAreRead) where
-  pub refused_dotted : (e : ModuleFault) (b : Bool) → e ≡ Refused (told_whole detail.NotYet) → b ≡ without_dots (texts_in m) → b ≡ false → IsModuleFault files only e
-  refused_dotted e b is tested none = subst (IsModuleFault files only) (sym is) (λ folder o. dotted files m r only read folder o (sym tested ∙ none))
+  pub refused_formless : (e : ModuleFault) (b : Bool) → e ≡ Refused (told_whole detail.NotYet) → b ≡ is_formed (packages_in m) (texts_in m) → b ≡ false → IsModuleFault files only e
+  refused_formless e b is tested none = subst (IsModuleFault files only) (sym is) (λ folder o. formless files m r only read folder o (sym tested ∙ none))
 
   pub refused_unmarked : (e : ModuleFault) → e ≡ Refused (told_whole detail.NotYet) → false ≡ marks_constants (packages_in m) (texts_in m) → IsModuleFault files only e
   refused_unmarked e is none = subst (IsModuleFault files only) (sym is) (λ folder o. unmarked files m r only read folder o (sym none))
@@ -130,11 +130,11 @@ module _ (files : List SourceFile) (m : ReadModule) (r : IsReadFrom files m) (on
     bytes_as : size ≤ the_limits.total → (folder : List Source) (f : AreOfFolder folder files) → bytes ≡ module_file_size folder + texts_size (texts_in m)
     bytes_as small folder f = is small ∙ sum ∙ size_is files m r only read folder f
 
-    pub loaded_of : without_dots (texts_in m) ≡ true → (l : Option Program) (p : Program) → l ≡ Some p → (types : LiteralTypes) → HasTypes (world (packages_in m)) types → IfSome l (λ q. q.types ≡ types) → is_some l ≡ marks_constants (packages_in m) (texts_in m) → IfSome l (LoadsFrom m only bytes) → IsLoadedOf files m only o size p
-    loaded_of dots l p e types has told marks loads =
+    pub loaded_of : is_formed (packages_in m) (texts_in m) ≡ true → (l : Option Program) (p : Program) → l ≡ Some p → (types : LiteralTypes) → HasTypes (world (packages_in m)) types → IfSome l (λ q. q.types ≡ types) → is_some l ≡ marks_constants (packages_in m) (texts_in m) → IfSome l (LoadsFrom m only bytes) → IsLoadedOf files m only o size p
+    loaded_of formed_ l p e types has told marks loads =
         record {
           read = r;
-          form = and_both (without_dots (texts_in m)) (marks_constants (packages_in m) (texts_in m)) dots (sym marks ∙ ap is_some e);
+          form = and_both (is_formed (packages_in m) (texts_in m)) (marks_constants (packages_in m) (texts_in m)) formed_ (sym marks ∙ ap is_some e);
           typing = h;
           size_is = sum;
           types = subst (HasTypes (world (packages_in m))) (sym (subst (λ (x : Option Program). IfSome x (λ q. q.types ≡ types)) e told)) has;

@@ -3,9 +3,12 @@
 use Rattle.std.specs.Prelude.{◌≡◌, ◌≤◌, ℕ, ◌+◌, Bool, true, not, ◌&&◌, List}
 use Rattle.std.specs.List.{list_all, list_any}
 use Rattle.go_tree.specs.declared.spans.Span.{Span}
+use Rattle.go_tree.specs.File.{ImportSpec}
+use Rattle.go_tree.specs.GoTypes.Answers.{unless_missing}
 use Rattle.go_tree.specs.GoTypes.WellTyped.{well_typed}
+use Rattle.constant_modules.specs.ApartKeys.Files.{is_predeclared}
 use Rattle.module_refusals.specs.Refused.{AreModule}
-use Rattle.pkg_graph.specs.Package.{Package}
+use Rattle.pkg_graph.specs.Package.{Package, import_specs}
 use Rattle.pkg_graph.specs.Reads.{Source}
 use Rattle.run_rules.specs.Inlining.{ModuleReads}
 use Rattle.run_rules.specs.Programs.{linked}
@@ -27,9 +30,22 @@ pub record IsRead (folder : List Source) (files : List SourceFile) (ps : List (P
 abbrev pub without_dots : List (List ℕ × FileText) → Bool
 without_dots texts = list_all (λ t. not (list_any is_dots t.1.tokens)) texts
 
--- The form that is built: no file has variadic syntax, and each mark that means something is one of a constant.
+-- the import's spec writes no predeclared identifier for its name
+abbrev pub named_apart : ImportSpec Span → Bool
+named_apart s = unless_missing s.name (λ n. not (is_predeclared n.name))
+
+-- neither the package nor an import of its files is named as a predeclared identifier
+abbrev pub package_apart : Package Span → Bool
+package_apart p =
+    not (is_predeclared p.name) && list_all (λ f. list_all named_apart (import_specs f.tree)) p.files
+
+-- no file has variadic syntax, and no package or import is named as a predeclared identifier
+abbrev pub is_formed : List (Package Span) → List (List ℕ × FileText) → Bool
+is_formed ps texts = without_dots texts && list_all package_apart ps
+
+-- The form that is built: besides, each mark that means something is one of a constant.
 abbrev pub has_form : List (Package Span) → List (List ℕ × FileText) → Bool
-has_form ps texts = without_dots texts && marks_constants ps texts
+has_form ps texts = is_formed ps texts && marks_constants ps texts
 
 -- the bytes of `go.mod` and of the files of Go source
 abbrev pub module_size : List Source → List (List ℕ × FileText) → ℕ

@@ -7,7 +7,7 @@ ghost use Rattle.pkg_graph.specs.Reads.{Source};
 ghost use Rattle.read_modules.specs.Modules.{packages_in, texts_in};
 ghost use Rattle.run_plans.specs.PlannedModules.Folders.{AreFolder, AreOfFolder};
 ghost use Rattle.run_plans.specs.PlannedModules.Loaded.{IsLoadedOf, IsLoadedOfSome};
-ghost use Rattle.run_plans.specs.PlannedModules.Modules.{without_dots as spec_without_dots};
+ghost use Rattle.run_plans.specs.PlannedModules.Modules.{is_formed};
 ghost use Rattle.run_plans.specs.PlannedModules.Places.{IsTypingOf};
 ghost use Rattle.run_plans.specs.PlannedModules.Planned.{IsModulePlan};
 ghost use Rattle.run_plans.specs.PlannedModules.Unplanned.{IsModuleFault};
@@ -15,6 +15,7 @@ ghost use Rattle.run_plans.specs.PlannedModules.Unplanned.{IsModuleFault};
 use crate::inlined_programs::loaded_programs_begin_runs;
 use crate::planned_modules::dots::without_dots;
 use crate::planned_modules::faults::ModuleFault;
+use crate::planned_modules::names::names_apart;
 use crate::planned_modules::places::typing_fault;
 use crate::planned_modules::plan::Plan;
 use crate::planned_modules::runs::plan_run;
@@ -47,7 +48,8 @@ fn no_module(alloc: Global, files: &[SourceFile]) -> ModuleFault
 }
 
 /// The place of the first fault of the module that was read from these files, as it is told; None where it is well
-/// typed. An error where a file has variadic syntax; also where memory is refused, as `typing_fault` says.
+/// typed. An error where a file has variadic syntax, or a
+/// package or an import is named as a predeclared identifier; also where memory is refused, as `typing_fault` says.
 fn form_fault(
     alloc: Global,
     files: &[SourceFile],
@@ -56,12 +58,12 @@ fn form_fault(
     requires count { length files.now < 2 ^ 32 }
     requires small { All (λ f. length f.bytes ≤ MAX_FILE_BYTES) files.now }
     requires read { IsReadFrom files.now read.now }
-    ensures dots { OnOk result (spec_without_dots (texts_in read.now) ≡ true) }
+    ensures formed { OnOk result (is_formed (packages_in read.now) (texts_in read.now) ≡ true) }
     ensures typing { IfOk result (IsTypingOf files.now (packages_in read.now)) }
     ensures refused { IfErr result (λ e. (only : List ℕ) → IsModuleFault files.now only e) }
 {
     modules_are_read();
-    if !without_dots(&read.files) {
+    if !without_dots(&read.files) || !names_apart(read.graph.packages()) {
         return Err(not_built());
     }
     Ok(typing_fault(alloc, files, read)?)

@@ -8,6 +8,7 @@ use Rattle.run_rules.specs.Programs.{in_dependency_order}
 use Rattle.run_rules.specs.Run.{Standing}
 use Rattle.run_rules.specs.Sites.{MarkRef}
 use Rattle.run_rules.specs.Steps.{At}
+use Rattle.stepped_programs.specs.SearchedSites.Fields.{TellsFields}
 use Rattle.stepped_programs.specs.declared.package_search.looks.ProgramSources.{ProgramSources}
 use Rattle.programs.specs.declared.state.PackageFiles.{PackageFiles}
 use Rattle.programs.specs.declared.state.Program.{Program}

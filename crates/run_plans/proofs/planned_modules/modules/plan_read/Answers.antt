@@ -39,7 +39,7 @@ plan_loaded-plan-requires-clause-loaded c =
       only = c.args.only.now;
       is =
           loaded_of c.args.files.now c.args.read c.requires.read c.args.only.now c.modules_are_read.ensures c.in_ok-fault.fault c.in_ok-fault.ensures.typing c.total_bytes-size.result c.total_bytes-size.ensures
-          c.within_limit.result c.within_limit.ensures c.in_ok-fault.ensures.dots c.in-Ok-Some.field-0 c.in-Ok-Some.program c.in-Ok-Some.field-0-is c.in_ok-types.types (subst (λ (cs : List Package). HasTypes (world (views cs)) c.in_ok-types.types) c.packages.ensures c.in_ok-types.ensures) c.in-Ok-Some.ensures.types c.in-Ok-Some.ensures.constants c.in-Ok-Some.ensures.loaded;
+          c.within_limit.result c.within_limit.ensures c.in_ok-fault.ensures.formed c.in-Ok-Some.field-0 c.in-Ok-Some.program c.in-Ok-Some.field-0-is c.in_ok-types.types (subst (λ (cs : List Package). HasTypes (world (views cs)) c.in_ok-types.types) c.packages.ensures c.in_ok-types.ensures) c.in-Ok-Some.ensures.types c.in-Ok-Some.ensures.constants c.in-Ok-Some.ensures.loaded;
     }
 
 pub returns-in-Ok-Some-clause-planned : goal.returns-in-Ok-Some-clause-planned
@@ -48,7 +48,7 @@ returns-in-Ok-Some-clause-planned c =
     (λ plan is.
     is c.args.read c.args.only.now
     (loaded_of c.args.files.now c.args.read c.requires.read c.args.only.now c.modules_are_read.ensures c.in_ok-fault.fault c.in_ok-fault.ensures.typing c.total_bytes-size.result c.total_bytes-size.ensures
-    c.within_limit.result c.within_limit.ensures c.in_ok-fault.ensures.dots c.in-Ok-Some.field-0 c.in-Ok-Some.program c.in-Ok-Some.field-0-is c.in_ok-types.types (subst (λ (cs : List Package). HasTypes (world (views cs)) c.in_ok-types.types) c.packages.ensures c.in_ok-types.ensures) c.in-Ok-Some.ensures.types c.in-Ok-Some.ensures.constants c.in-Ok-Some.ensures.loaded))
+    c.within_limit.result c.within_limit.ensures c.in_ok-fault.ensures.formed c.in-Ok-Some.field-0 c.in-Ok-Some.program c.in-Ok-Some.field-0-is c.in_ok-types.types (subst (λ (cs : List Package). HasTypes (world (views cs)) c.in_ok-types.types) c.packages.ensures c.in_ok-types.ensures) c.in-Ok-Some.ensures.types c.in-Ok-Some.ensures.constants c.in-Ok-Some.ensures.loaded))
     c.plan_loaded-plan.ensures.planned
 
 pub returns-in-Ok-Some-clause-refused : goal.returns-in-Ok-Some-clause-refused
@@ -57,7 +57,7 @@ returns-in-Ok-Some-clause-refused c =
     (λ e is.
     is c.args.read c.args.only.now
     (loaded_of c.args.files.now c.args.read c.requires.read c.args.only.now c.modules_are_read.ensures c.in_ok-fault.fault c.in_ok-fault.ensures.typing c.total_bytes-size.result c.total_bytes-size.ensures
-    c.within_limit.result c.within_limit.ensures c.in_ok-fault.ensures.dots c.in-Ok-Some.field-0 c.in-Ok-Some.program c.in-Ok-Some.field-0-is c.in_ok-types.types (subst (λ (cs : List Package). HasTypes (world (views cs)) c.in_ok-types.types) c.packages.ensures c.in_ok-types.ensures) c.in-Ok-Some.ensures.types c.in-Ok-Some.ensures.constants c.in-Ok-Some.ensures.loaded))
+    c.within_limit.result c.within_limit.ensures c.in_ok-fault.ensures.formed c.in-Ok-Some.field-0 c.in-Ok-Some.program c.in-Ok-Some.field-0-is c.in_ok-types.types (subst (λ (cs : List Package). HasTypes (world (views cs)) c.in_ok-types.types) c.packages.ensures c.in_ok-types.ensures) c.in-Ok-Some.ensures.types c.in-Ok-Some.ensures.constants c.in-Ok-Some.ensures.loaded))
     c.plan_loaded-plan.ensures.refused
 
 pub returns-in_err-fault-clause-refused : goal.returns-in_err-fault-clause-refused
