@@ -67,7 +67,7 @@ module _ (b : Beginning) (done : List Logged) (st : Standing) (p : Program) (s :
       subst (λ (t : FileText). Passes progress t None) (sym n.text_is) made.within b.files done l n.after.texts next in
       let program : IsConstantProgram b.files (marks_in b) n.after = keep b.files (marks_in b) done st l n.after n.next o.constants fits in
       let small : length step.file.text ≤ the_limits.bytes = subst (λ (t : FileText). length t.text ≤ the_limits.bytes) n.text_is (total b.files done l n.next.new n.after.texts fits).0 in
-      put b.files (marks_in b) st l n.after n.next (place_of u.home u.found) step.file p o.kept.is_program (its_place b done st p s c u a o h _ _ n) (sym n.tree_is) program.ready.links
+      put b.files (marks_in b) st l n.after n.next (place_of u.home u.found) step.file p o.kept.is_program (its_place b done st p s c u a o h _ _ n) (sym n.tree_is) program.constants.ready.links
       (few_bytes p.bytes (module_file_size b.files) (texts_size st.texts) (length step.file.text) o.kept.is_program.bytes_are o.constants.small small)
 
 pub may_take : StepsAreLogged → FirstUsesStayOnTheWay → FirstUsesAreFound → FoundUsesComeNext → ProgramsMayBeTold → FoundFilesStand → FoundUsesMayStep → UseStepsGoOn → UseStepsAreRead → StepsMayBePut

@@ -27,16 +27,16 @@ not_set true h = absurd cc
 not_set false h = refl
 
 -- so in each text
+text_of : (x : List ℕ × FileText) (xs : List (List ℕ × FileText)) (path : List ℕ) (t : FileText) (b : Bool) → list_any is_dots x.1.tokens ≡ false → (text_at path xs ≡ Some t → list_any is_dots t.tokens ≡ false)
+    → (if b then Some x.1 else text_at path xs) ≡ Some t → list_any is_dots t.tokens ≡ false
+text_of x xs path t true h f g = subst (λ (z : FileText). list_any is_dots z.tokens ≡ false) (same_Some x.1 t g) h
+text_of x xs path t false h f g = f g
+
 text_without : (texts : List (List ℕ × FileText)) (path : List ℕ) (t : FileText) → without_dots texts ≡ true → text_at path texts ≡ Some t → list_any is_dots t.tokens ≡ false
 text_without [] path t h e = absurd cc
-text_without (x ∷ xs) path t h e = by (bytes_eq path x.0) e
-  where
-    first : (not (list_any is_dots x.1.tokens) ≡ true) × (without_dots xs ≡ true)
-    first = both (not (list_any is_dots x.1.tokens)) (without_dots xs) h
-
-    by : (b : Bool) → (if b then Some x.1 else text_at path xs) ≡ Some t → list_any is_dots t.tokens ≡ false
-    by true g = subst (λ (z : FileText). list_any is_dots z.tokens ≡ false) (same_Some x.1 t g) (not_set (list_any is_dots x.1.tokens) first.0)
-    by false g = text_without xs path t first.1 g
+text_without (x ∷ xs) path t h e =
+    let first : (not (list_any is_dots x.1.tokens) ≡ true) × (without_dots xs ≡ true) = both (not (list_any is_dots x.1.tokens)) (without_dots xs) h in
+    text_of x xs path t (bytes_eq path x.0) (not_set (list_any is_dots x.1.tokens) first.0) (λ g. text_without xs path t first.1 g) e
 
 module _ (law : FilesWithoutDots) (ps : List (Package Span)) (texts : List (List ℕ × FileText)) (reads : ProgramReads (standing_as_read ps texts)) (none : without_dots texts ≡ true) where
   file_unspread : (k i : ℕ) (p : Package Span) (f : SourceTree Span) → slice_get ps k ≡ Some p → slice_get p.files i ≡ Some f → UnspreadFile f.tree

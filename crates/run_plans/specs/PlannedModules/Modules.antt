@@ -3,12 +3,12 @@
 use Rattle.std.specs.Prelude.{◌≡◌, ◌≤◌, ℕ, ◌+◌, Bool, true, not, ◌&&◌, List}
 use Rattle.std.specs.List.{list_all, list_any}
 use Rattle.go_tree.specs.declared.spans.Span.{Span}
-use Rattle.go_tree.specs.File.{ImportSpec}
+use Rattle.go_tree.specs.File.{ImportSpec, File}
 use Rattle.go_tree.specs.GoTypes.Answers.{unless_missing}
 use Rattle.go_tree.specs.GoTypes.WellTyped.{well_typed}
 use Rattle.constant_modules.specs.ApartKeys.Files.{is_predeclared}
 use Rattle.module_refusals.specs.Refused.{AreModule}
-use Rattle.pkg_graph.specs.Package.{Package, import_specs}
+use Rattle.pkg_graph.specs.Package.{Package}
 use Rattle.pkg_graph.specs.Reads.{Source}
 use Rattle.run_rules.specs.Inlining.{ModuleReads}
 use Rattle.run_rules.specs.Programs.{linked}
@@ -34,10 +34,13 @@ without_dots texts = list_all (λ t. not (list_any is_dots t.1.tokens)) texts
 abbrev pub named_apart : ImportSpec Span → Bool
 named_apart s = unless_missing s.name (λ n. not (is_predeclared n.name))
 
+-- nor does any other of the file
+abbrev pub imports_apart : File Span → Bool
+imports_apart f = list_all (λ d. list_all named_apart d.specs) f.imports
+
 -- neither the package nor an import of its files is named as a predeclared identifier
 abbrev pub package_apart : Package Span → Bool
-package_apart p =
-    not (is_predeclared p.name) && list_all (λ f. list_all named_apart (import_specs f.tree)) p.files
+package_apart p = not (is_predeclared p.name) && list_all (λ f. imports_apart f.tree) p.files
 
 -- no file has variadic syntax, and no package or import is named as a predeclared identifier
 abbrev pub is_formed : List (Package Span) → List (List ℕ × FileText) → Bool

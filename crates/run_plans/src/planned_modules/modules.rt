@@ -7,15 +7,14 @@ ghost use Rattle.pkg_graph.specs.Reads.{Source};
 ghost use Rattle.read_modules.specs.Modules.{packages_in, texts_in};
 ghost use Rattle.run_plans.specs.PlannedModules.Folders.{AreFolder, AreOfFolder};
 ghost use Rattle.run_plans.specs.PlannedModules.Loaded.{IsLoadedOf, IsLoadedOfSome};
-ghost use Rattle.run_plans.specs.PlannedModules.Modules.{is_formed};
+ghost use Rattle.run_plans.specs.PlannedModules.Modules.{is_formed as spec_is_formed};
 ghost use Rattle.run_plans.specs.PlannedModules.Places.{IsTypingOf};
 ghost use Rattle.run_plans.specs.PlannedModules.Planned.{IsModulePlan};
 ghost use Rattle.run_plans.specs.PlannedModules.Unplanned.{IsModuleFault};
 
 use crate::inlined_programs::loaded_programs_begin_runs;
-use crate::planned_modules::dots::without_dots;
 use crate::planned_modules::faults::ModuleFault;
-use crate::planned_modules::names::names_apart;
+use crate::planned_modules::names::is_formed;
 use crate::planned_modules::places::typing_fault;
 use crate::planned_modules::plan::Plan;
 use crate::planned_modules::runs::plan_run;
@@ -58,12 +57,12 @@ fn form_fault(
     requires count { length files.now < 2 ^ 32 }
     requires small { All (λ f. length f.bytes ≤ MAX_FILE_BYTES) files.now }
     requires read { IsReadFrom files.now read.now }
-    ensures formed { OnOk result (is_formed (packages_in read.now) (texts_in read.now) ≡ true) }
+    ensures formed { OnOk result (spec_is_formed (packages_in read.now) (texts_in read.now) ≡ true) }
     ensures typing { IfOk result (IsTypingOf files.now (packages_in read.now)) }
     ensures refused { IfErr result (λ e. (only : List ℕ) → IsModuleFault files.now only e) }
 {
     modules_are_read();
-    if !without_dots(&read.files) || !names_apart(read.graph.packages()) {
+    if !is_formed(&read.files, read.graph.packages()) {
         return Err(not_built());
     }
     Ok(typing_fault(alloc, files, read)?)

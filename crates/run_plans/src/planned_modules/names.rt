@@ -3,11 +3,13 @@
 ghost use Rattle.std.specs.Prelude.{◌≡◌, map};
 ghost use Rattle.std.specs.List.{list_all};
 ghost use Rattle.go_tree.specs.FileView.{file_of, import_spec_of};
-ghost use Rattle.pkg_graph.specs.Package.{import_specs};
+ghost use Rattle.module_marks.specs.Views.{texts_of};
 ghost use Rattle.pkg_graph.specs.Views.{package_view};
-ghost use Rattle.run_plans.specs.PlannedModules.Modules.{named_apart, package_apart};
+ghost use Rattle.run_plans.specs.PlannedModules.Modules.{imports_apart, is_formed, named_apart, package_apart};
 
+use crate::planned_modules::dots::without_dots;
 use go_tree::{FileTree, ImportSpec};
+use module_reading::ScannedFile;
 use pkg_graph::Package;
 use universe_block::predeclared;
 
@@ -35,7 +37,7 @@ fn specs_apart(specs: &[ImportSpec]) -> bool
 
 /// Whether no import of the file does.
 fn imports_apart(tree: &FileTree) -> bool
-    ensures { result ≡ list_all named_apart (import_specs (file_of tree.now)) }
+    ensures { result ≡ imports_apart (file_of tree.now) }
 {
     for decl in tree.imports.items() {
         if !specs_apart(decl.specs.items()) {
@@ -46,13 +48,13 @@ fn imports_apart(tree: &FileTree) -> bool
 }
 
 /// Whether neither the package nor an import of its files is named as a predeclared identifier.
-fn package_apart(package: &Package) -> bool
-    ensures { result ≡ package_apart (package_view package.now) }
+fn package_apart(home: &Package) -> bool
+    ensures { result ≡ package_apart (package_view home.now) }
 {
-    if predeclared(package.name.items()).is_some() {
+    if predeclared(home.name.items()).is_some() {
         return false;
     }
-    for file in package.files.items() {
+    for file in home.files.items() {
         if !imports_apart(&file.tree) {
             return false;
         }
@@ -62,13 +64,20 @@ fn package_apart(package: &Package) -> bool
 
 /// Whether no package and no import is named as a predeclared identifier (Go specification, Predeclared identifiers;
 /// Import declarations; Package clause).
-pub(crate) fn names_apart(packages: &[Package]) -> bool
+fn names_apart(packages: &[Package]) -> bool
     ensures { result ≡ list_all package_apart (map package_view packages.now) }
 {
-    for package in packages {
-        if !package_apart(package) {
+    for home in packages {
+        if !package_apart(home) {
             return false;
         }
     }
     true
+}
+
+/// Whether no file has variadic syntax, and no package or import is named as a predeclared identifier.
+pub(crate) fn is_formed(files: &[ScannedFile], packages: &[Package]) -> bool
+    ensures { result ≡ is_formed (map package_view packages.now) (texts_of files.now) }
+{
+    without_dots(files) && names_apart(packages)
 }

@@ -62,7 +62,7 @@ returns-in-Ok-Some-clause-refused c =
 
 pub returns-in_err-fault-clause-refused : goal.returns-in_err-fault-clause-refused
 returns-in_err-fault-clause-refused c =
-    let p = err_from_is_err_and c.from_residual.result c.from_residual.ensures.1 in
+    let p = err_from_is_err_and c.from_residual-in_err-fault.result c.from_residual-in_err-fault.ensures.1 in
     rw (p.1, p.2) (c.in_err-fault.ensures.refused c.args.only.now)
 
 pub returns-in_err-types-clause-refused : goal.returns-in_err-types-clause-refused
