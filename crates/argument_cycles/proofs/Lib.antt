@@ -31,6 +31,7 @@ pub mod FreeSteps
 pub mod TypedBodies
 pub mod ImportingSteps
 pub mod TypedMethods
+pub mod FoundThere
 pub mod ArgumentRuns
 mod MethodExample
 mod TailExample

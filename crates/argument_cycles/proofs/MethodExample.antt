@@ -191,6 +191,10 @@ apart_so i g q =
 unused_calls_nothing : UnusedCallNothing no_comments packages marks use_of_add add_use
 unused_calls_nothing i g q e at = of_each (λ j h. called_among packages marks here at (expr_seen there other h.arg) ≡ []) refl i g q
 
+-- both are this
+both_are : {A : Type 0} {a b : A} (c : A) → a ≡ c → b ≡ c → a ≡ b
+both_are c p q = p ∙ sym q
+
 add_placed : PlacedArguments no_comments packages marks use_of_add add_use
 unfolding add_use
 add_placed = record {
@@ -200,7 +204,7 @@ add_placed = record {
   one = refl;
   flat = ((tt, (tt, tt)), (tt, tt));
   conversion = converts_nothing;
-  callees = λ w. (tt, (tt, ((refl, λ e i. absurd (grind (arith, e))), (tt, (tt, ((λ k e. absurd (grind (arith, ap is_some e)), λ e. refl), (tt, tt)))))));
+  callees = λ w. (tt, (tt, ((refl, λ e i. absurd (grind (arith, e))), (tt, (tt, ((λ k e. absurd (grind (arith, ap is_some e)), λ e. both_are (Some (mark 0 0 3 0)) refl refl), (tt, tt)))))));
   types = types_call_nothing;
   span = node 43;
   called = selector (node 44) (ident (node 45) (codes "v")) (name_of (node 46) (codes "add"));
@@ -209,7 +213,7 @@ add_placed = record {
   tree_is = refl;
   names_it = refl;
   receiver = tt;
-  each_given = refl;
+  each_given = both_are 1 refl refl;
   apart = apart_so;
   unused = unused_calls_nothing;
 }

@@ -5,16 +5,24 @@
 --   func H() int { return v.F() }
 --   var v C
 -- after the step: func H() int { { c := v; c = C{ }; return G(c) } }
-use Rattle.std.proofs.Common.{◌≡◌, refl, ℕ, Bool, true, false, List, [], ◌∷◌, Option, Some, None, codes}
+use Rattle.std.proofs.Common.{◌≡◌, refl, sym, ap, ◌∙◌, ℕ, Bool, true, false, List, [], ◌∷◌, Option, Some, None, codes}
 use Rattle.go_tree.specs.declared.exprs.Rest.TheVariants.{Plain}
 use Rattle.go_tree.specs.declared.const_eval.kinds.Kind.TheVariants as kind
 use Rattle.go_tree.specs.Tree.{NameAt, TypeExpr, named, struct_type, no_fields, Param, Expr, ident, int_lit, composite, selector, call, no_exprs, expr_and, no_elems, Stmt, return_, assign, var_decl, define, inner, Stmts, no_stmts, stmt_and, no_specs, spec}
 use Rattle.go_tree.specs.File.{Receiver, Func, values, types, func, File}
-use Rattle.go_tree.specs.GoTypes.Types.{basic}
+use Rattle.go_tree.specs.GoTypes.Answers.{given, otherwise}
+use Rattle.go_tree.specs.ScopeNames.FreeNames.{declared}
+use Rattle.go_tree.specs.GoTypes.Bodies.{body_binds}
+use Rattle.go_tree.specs.GoTypes.Declarations.{binds_of}
+use Rattle.go_tree.specs.GoTypes.Typing.{declares}
+use Rattle.go_tree.specs.GoTypes.Entities.{Binds, Env, variable, extend, in_block}
+use Rattle.go_tree.specs.GoTypes.TypeNames.{func_type}
+use Rattle.go_tree.specs.GoTypes.Types.{basic, named_type}
+use Rattle.go_tree.specs.GoTypes.WellTyped.{receiver_of}
 use Rattle.pkg_graph.specs.Package.{SourceTree, Package}
 use Rattle.run_rules.specs.Surroundings.{returned, Place, at_stmt, block, after_stmt}
 use Rattle.run_rules.specs.Places.{stmt_seen}
-use Rattle.run_rules.specs.Programs.{body_place}
+use Rattle.run_rules.specs.Programs.{body_place, headed_func, top_env, world}
 use Rattle.run_rules.specs.Sites.{MarkRef, Where, Site, an_expr}
 use Rattle.run_rules.specs.FormTrees.{TailForm, as_block}
 use Rattle.run_rules.specs.Reduced.{becomes, reduced}
@@ -22,6 +30,7 @@ use Rattle.run_rules.specs.Steps.{At, same_here}
 use Rattle.run_rules.proofs.CaseTools.{mark, param, sig, tspec, recv}
 use Rattle.order_runs.specs.CycleLaws.PutCalls.{called_among}
 use Rattle.order_runs.proofs.CycleLaws.ConstantCycles.Examples.{node}
+use Rattle.order_runs.specs.CycleRuns.BodiesThere.There.{PlaceThere}
 use Rattle.literal_cycles.specs.FormCycles.Puts.{StatementCallsThrough}
 use Rattle.literal_cycles.specs.FormCycles.Blocks.{to_new_names, bound_by, returns_it, IsBlockOf}
 use Rattle.literal_cycles.proofs.FormCycles.BlockCalls.{block-through}
@@ -119,6 +128,42 @@ there = refl
 abbrev home : Place At
 home = body_place packages 0 package_ tree method
 
+-- ---- the names in the braces: those of the method, with `c` of the receiver's type
+
+abbrev c_declared : Binds
+c_declared = (codes "c", variable (named_type 0 (codes "C"))) ∷ []
+
+abbrev outside : Env
+outside = in_block (top_env packages 0 package_ tree)
+
+abbrev declared_in : Func At → Binds
+declared_in g = otherwise (given (func_type outside g.sig) (body_binds (receiver_of (world packages) (headed_func packages 0 package_ tree g) g.receiver) g.sig)) []
+
+abbrev in_braces : Binds
+in_braces = binds_of (declared binding) (declares (block q).env binding)
+
+by_binding : in_braces ≡ c_declared
+by_binding = refl
+
+by_method : declared_in method ≡ c_declared
+by_method = refl
+
+by_caller : declared_in caller ≡ []
+by_caller = refl
+
+-- in a new block of a function without names
+abbrev within : Env → Binds → Binds → Env
+within e bs cs = extend bs (in_block (extend cs e))
+
+none_between : (e : Env) (bs : Binds) → within (in_block e) bs [] ≡ extend bs (in_block e)
+none_between e bs = refl
+
+names_there : within outside in_braces (declared_in caller) ≡ extend (declared_in method) outside
+names_there = ap (λ b. within outside b (declared_in caller)) by_binding ∙ ap (within outside c_declared) by_caller ∙ none_between (top_env packages 0 package_ tree) c_declared ∙ ap (λ b. extend b outside) (sym by_method)
+
+stands_there : PlaceThere home (after_stmt (block q) binding) home.env.names []
+stands_there = record { env = names_there; bound = refl; agrees = record { bound = λ n e. refl; here = λ n e. refl; blank = λ n e. refl } }
+
 is_block : IsBlockOf packages marks w f q block_ use_
 is_block = record {
   called = call_;
@@ -140,7 +185,7 @@ is_block = record {
     same_body = refl;
     meanings = home.env.names;
     extra = [];
-    place = record { env = refl; bound = refl; agrees = record { bound = λ n e. refl; here = λ n e. refl; blank = λ n e. refl } };
+    place = stands_there;
     identifiers = λ n i. (refl, record { function = refl; qualifier = refl });
   };
 }

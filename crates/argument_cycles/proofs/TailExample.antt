@@ -4,16 +4,21 @@
 --   func both() (int, int) { return one(), 2 }      (marked)
 --   func pair() (int, int) { return both() }
 -- after the step: func pair() (int, int) { { return one(), 2 } }
-use Rattle.std.proofs.Common.{◌≡◌, refl, ℕ, Bool, false, List, [], ◌∷◌, None, codes}
+use Rattle.std.proofs.Common.{◌≡◌, refl, ℕ, Bool, false, List, [], ◌∷◌, ◌++◌, Option, Some, None, ap, ◌∙◌, codes}
 use Rattle.go_tree.specs.declared.exprs.Rest.TheVariants.{Plain}
 use Rattle.go_tree.specs.declared.const_eval.kinds.Kind.TheVariants as kind
 use Rattle.go_tree.specs.Tree.{NameAt, named, Param, Expr, ident, int_lit, call, no_exprs, expr_and, Stmt, return_, Stmts, no_stmts, stmt_and}
 use Rattle.go_tree.specs.File.{Func, func}
 use Rattle.pkg_graph.specs.Package.{SourceTree, Package}
-use Rattle.go_tree.specs.GoTypes.Types.{basic}
+use Rattle.go_tree.specs.GoTypes.Answers.{given, otherwise}
+use Rattle.go_tree.specs.GoTypes.Bodies.{body_binds}
+use Rattle.go_tree.specs.GoTypes.Entities.{Entity, Env, in_block}
+use Rattle.go_tree.specs.GoTypes.TypeNames.{func_type}
+use Rattle.go_tree.specs.GoTypes.Types.{basic, FuncType}
+use Rattle.go_tree.specs.ScopeNames.Means.{Environment, means}
 use Rattle.run_rules.specs.Surroundings.{returned, Place, at_stmt, block}
 use Rattle.run_rules.specs.Places.{stmts_seen}
-use Rattle.run_rules.specs.Programs.{body_place}
+use Rattle.run_rules.specs.Programs.{body_place, top_env}
 use Rattle.run_rules.specs.Sites.{MarkRef, Where, Site, an_expr, called_mark}
 use Rattle.run_rules.specs.Calls.{body_seen}
 use Rattle.run_rules.specs.FormTrees.{TailForm, as_block, type_expr}
@@ -106,8 +111,29 @@ both_linked : LinkedUse same_here no_comments rs marks paired both_use
 unfolding both_use
 both_linked = record { typed = refl; package_there = refl; named_at = node 1; nth = 0; stands = this_package; home_stands = file_stands; there_stands = file_stands }
 
+-- the results have types and no names, so outside names mean in the body what they do outside
+abbrev outside : Env
+outside = in_block (top_env rs 0 pk source.tree)
+
+abbrev with_results : Environment Entity → Option FuncType → Environment Entity
+with_results m o = otherwise (given o (body_binds [] pair.sig)) [] ++ m
+
+results : FuncType
+results = record { params = []; results = basic kind.Int ∷ basic kind.Int ∷ [] }
+
+results_typed : func_type outside pair.sig ≡ Some results
+unfolding results
+results_typed = refl
+
+no_names : (m : Environment Entity) → with_results m (Some results) ≡ m
+unfolding results
+no_names m = refl
+
+names_outside : with_results outside.names (func_type outside pair.sig) ≡ outside.names
+names_outside = ap (with_results outside.names) results_typed ∙ no_names outside.names
+
 both_called : CalledAt rs [] paired (place_of_use [] paired)
-both_called = record { world_is = refl; home_is = refl; no_constant = refl; paths_are = refl; outer = λ n e. refl; blank = λ n e. refl; locals = λ n e. refl }
+both_called = record { world_is = refl; home_is = refl; no_constant = refl; paths_are = refl; outer = λ n e. ap (λ m. means m n) names_outside; blank = λ n e. refl; locals = λ n e. refl }
 
 both_served : BodyServed same_here no_comments rs marks paired both_use TailForm (place_of_use [] paired)
 unfolding both_use

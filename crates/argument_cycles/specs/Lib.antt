@@ -11,4 +11,5 @@ pub mod FreeSteps
 pub mod TypedBodies
 pub mod ImportingSteps
 pub mod TypedMethods
+pub mod FoundThere
 pub mod ArgumentRuns

@@ -6,6 +6,7 @@
 #![tactic(auto)]
 
 pub mod argument_runs;
+pub mod found_there;
 pub mod importing_steps;
 mod laws;
 pub mod typed_bodies;

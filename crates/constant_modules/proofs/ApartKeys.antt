@@ -1,5 +1,4 @@
 -- Keys of composite literals that no import of their file has for its name.
-pub mod Walk
 pub mod Spans
 pub mod Names
 pub mod Put

@@ -7,5 +7,4 @@ pub mod Predeclared
 pub mod Steps
 pub mod FirstUses
 pub mod Runs
-pub mod Apart
 mod Example

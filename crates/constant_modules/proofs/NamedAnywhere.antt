@@ -3,6 +3,7 @@ pub mod FormsNamed
 pub mod NewDeclared
 pub mod OwnExpressions
 pub mod UsesKnown
+pub mod UsesAfter
 pub mod Swaps
 pub mod Rehomed
 pub mod TypesFree
@@ -14,6 +15,7 @@ pub mod NamedLinked
 pub mod StepsAnywhere
 pub mod Puts
 pub mod Added
+pub mod NamesDeclared
 pub mod Nexts
 pub mod Steps
 pub mod TakenRuns

@@ -5,7 +5,6 @@ pub mod Decls
 pub mod Values
 pub mod Served
 pub mod Listed
-pub mod Plain
 pub mod Meanings
 pub mod Becomes
 pub mod Stand

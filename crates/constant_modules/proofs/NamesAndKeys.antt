@@ -8,4 +8,5 @@ pub mod AroundMarked
 pub mod Functions
 pub mod UsedStand
 pub mod UsedHeaders
+pub mod NotAlone
 pub mod UsedImports

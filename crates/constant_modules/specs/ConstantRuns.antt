@@ -1,5 +1,3 @@
-pub mod Types
 pub mod Laws
 pub mod FirstUses
 pub mod Runs
-pub mod Apart

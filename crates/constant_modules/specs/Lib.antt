@@ -1,9 +1,11 @@
 pub mod ApartKeys
 pub mod ConstantNames
 pub mod ConstantRuns
+pub mod ConstantsOfGroups
 pub mod CountedUses
 pub mod FewNames
 pub mod KeptUses
+pub mod KeyedImports
 pub mod LookUps
 pub mod NamedAnywhere
 pub mod NamedThere

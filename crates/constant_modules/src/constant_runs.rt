@@ -4,6 +4,6 @@
 mod laws;
 
 pub use laws::{
-    apart_runs_inline, constant_programs_are_read, constant_runs_inline, constant_steps_stay,
-    constants_are_untyped, first_uses_are_of_constants,
+    constant_programs_are_read, constant_runs_inline, constant_steps_stay, constants_are_untyped,
+    first_uses_are_of_constants,
 };

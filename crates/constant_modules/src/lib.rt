@@ -6,9 +6,11 @@
 pub mod apart_keys;
 pub mod constant_names;
 pub mod constant_runs;
+pub mod constants_of_groups;
 pub mod counted_uses;
 pub mod few_names;
 pub mod kept_uses;
+pub mod keyed_imports;
 pub mod look_ups;
 pub mod named_anywhere;
 pub mod named_there;

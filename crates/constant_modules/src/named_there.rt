@@ -4,5 +4,5 @@
 mod laws;
 
 pub use laws::{
-    constant_steps_take_names, constant_uses_are_there, steps_list_the_same, steps_stay_plain,
+    constant_steps_take_names, constant_uses_are_there, constants_stay_untyped, steps_list_the_same,
 };

@@ -688,7 +688,7 @@ module _ {S : Type 0} (ps more : Program S) (itself : imports_itself ps ≡ true
 
       names_within : AllOf (HeaderWithin r) (by_names hs)
       names_within =
-          of_names (HeaderWithin r) (λ h x k. record { home = k.home; imports = k.imports }) hs headers_within
+          of_names (HeaderWithin r) (λ h x k. record { home = k.home; fields = k.fields; imports = k.imports }) hs headers_within
 
       names_elsewhere : AllElsewhere (by_names ms)
       names_elsewhere k e =

@@ -24,5 +24,6 @@ pub mod FurtherPlaces
 pub mod PartsStand
 pub mod FurtherLiterals
 pub mod StepsInBodies
+pub mod TypedSteps
 pub mod Example
 mod CircleExample

@@ -11,5 +11,13 @@ pub mod Packages
 pub mod TypedPackages
 pub mod Ranks
 pub mod Shows
+pub mod Numbered
+pub mod Rises
+pub mod KeptImports
+pub mod KeptUses
+pub mod Members
+pub mod Led
+pub mod Imports
+pub mod Around
 pub mod FoundOnce
-mod Example
+pub mod Example

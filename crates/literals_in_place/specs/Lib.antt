@@ -4,3 +4,4 @@ pub mod Reached
 pub mod Parts
 pub mod Steps
 pub mod StepsInBodies
+pub mod TypedSteps

@@ -5,6 +5,7 @@
 
 mod laws;
 mod steps_in_bodies;
+mod typed_steps;
 
 pub use laws::{
     bodies_stay_with_imports, facts_stay_beside_others, literal_steps_show_the_same,
@@ -15,3 +16,4 @@ pub use laws::{
 pub use steps_in_bodies::{
     found_uses_stand_once, steps_in_bodies_show_the_same, steps_put_literals_in_bodies,
 };
+pub use typed_steps::{typed_steps_show_the_same, typing_clears_uses};

@@ -1,7 +1,8 @@
 //! Laws of steps in the bodies of functions, as a run makes them.
 
 ghost use Rattle.literals_in_place.specs.StepsInBodies.Laws.{BodiesWithForms, BodiesWithFormsAreTyped};
-ghost use Rattle.literals_in_place.specs.StepsInBodies.Laws.{FoundUsesStandOnce, PackagesWithForms};
+ghost use Rattle.literals_in_place.specs.StepsInBodies.Laws.{FoundUsesStandOnce, FunctionsAroundLead};
+ghost use Rattle.literals_in_place.specs.StepsInBodies.Laws.{ImportsStayUsed, PackagesWithForms};
 ghost use Rattle.literals_in_place.specs.StepsInBodies.Laws.{StepsInBodiesShowTheSame};
 
 /// What a run makes of a body, with the form of a call in its place, is a body in which the form stands in the
@@ -14,10 +15,13 @@ pub fn steps_put_literals_in_bodies()
     ensures typed { BodiesWithFormsAreTyped }
 {}
 
-/// So a step of a run that puts a literal in the place of its call, in the body of a function, leaves packages that
-/// show the same, beside all further packages, where each import is used.
+/// Where the function around is marked, and the one that is called, it leads to that one. After a step of a run that
+/// puts a literal in the place of its call, in the body of a function, each import is used, where the one is that the
+/// call may name its function by. So the step leaves packages that show the same, beside all further packages.
 pub fn steps_in_bodies_show_the_same()
-    ensures { StepsInBodiesShowTheSame }
+    ensures led { FunctionsAroundLead }
+    ensures imports { ImportsStayUsed }
+    ensures shown { StepsInBodiesShowTheSame }
 {}
 
 /// The use that a step of a run takes stands once in the body of the function around it, where the files of the

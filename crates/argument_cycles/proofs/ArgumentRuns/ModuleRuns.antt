@@ -26,7 +26,7 @@ use Rattle.literal_cycles.proofs.BodyForms.StepsPut.{body_step}
 use Rattle.literal_cycles.proofs.BodyForms.StepsBound.{block_step}
 use Rattle.literal_cycles.proofs.BodyForms.StepsExpressions.{expression_step}
 use Rattle.literal_cycles.specs.FormCycles.Bodies.{StandsInFunction}
-use Rattle.argument_cycles.specs.ArgumentRuns.Runs.{PutsArgumentsPlaced, an_expression, a_block, a_literal, a_free_block, a_free_literal, a_typed_block, a_typed_literal, a_block_with_methods, a_literal_with_methods, an_added_expression, an_added_block, an_added_literal, KeepsCallCycles, keeps_cycles, puts_arguments, AllKeepCallCycles}
+use Rattle.argument_cycles.specs.ArgumentRuns.Runs.{PutsArgumentsPlaced, an_expression, a_block, a_literal, a_free_block, a_free_literal, a_typed_block, a_typed_literal, a_block_with_methods, a_literal_with_methods, an_added_expression, an_added_block, an_added_literal, a_found_expression, a_found_block, a_found_literal, KeepsCallCycles, keeps_cycles, puts_arguments, AllKeepCallCycles}
 use Rattle.argument_cycles.proofs.BraceSteps.{placed_block_step}
 use Rattle.argument_cycles.proofs.LiteralSteps.{placed_literal_step}
 use Rattle.argument_cycles.proofs.Steps.{placed_step}
@@ -34,6 +34,7 @@ use Rattle.argument_cycles.proofs.FreeSteps.{free_block_step, free_literal_step}
 use Rattle.argument_cycles.proofs.TypedBodies.TypedSteps.{typed_block_step, typed_literal_step}
 use Rattle.argument_cycles.proofs.TypedMethods.MethodSteps.{methods_block_step, methods_literal_step}
 use Rattle.argument_cycles.proofs.ImportingSteps.AddedSteps as added
+use Rattle.argument_cycles.proofs.FoundThere.Becoming as becoming
 
 -- ---- files by their numbers, as a module is read
 
@@ -77,6 +78,9 @@ arguments_way marks st l after n h reads s b (a_literal_with_methods k) m = meth
 arguments_way marks st l after n h reads s b (an_added_expression k) m = added.expression_step marks st l after n k h reads s b m
 arguments_way marks st l after n h reads s b (an_added_block k) m = added.block_step marks st l after n k h reads s b m
 arguments_way marks st l after n h reads s b (an_added_literal k) m = added.literal_step marks st l after n k h reads s b m
+arguments_way marks st l after n h reads s b (a_found_expression k) m = added.expression_step marks st l after n (becoming.expression_added marks st l after n h s k) h reads s b m
+arguments_way marks st l after n h reads s b (a_found_block k) m = added.block_step marks st l after n (becoming.block_added marks st l after n h s k) h reads s b m
+arguments_way marks st l after n h reads s b (a_found_literal k) m = added.literal_step marks st l after n (becoming.literal_added marks st l after n h s k) h reads s b m
 
 one_way : (marks : List MarkRef) (st : Standing) (l : Logged) (after : Standing) (n : Next marks st l after) → Linked st.packages → ProgramReads st → SettlesFile n → KeepsCallCycles n → (m : MarkRef) → is_recursive st.packages marks m ≡ is_recursive after.packages marks m
 one_way marks st l after n h reads s (keeps_cycles k) m = literal_way marks st l after n h reads s k m

@@ -8,6 +8,7 @@ use Rattle.order_runs.specs.CycleRuns.Linked.{SettlesFile}
 use Rattle.literal_cycles.specs.FormCycles.Bodies.{StandsInFunction}
 use Rattle.literal_cycles.specs.Runs.{KeepsCycles}
 use Rattle.argument_cycles.specs.Braces.{PutsPlacedBlock}
+use Rattle.argument_cycles.specs.FoundThere.Steps.{PutsFoundBlock, PutsFoundLiteral, PutsFoundExpression}
 use Rattle.argument_cycles.specs.FreeSteps.{PutsFreeBlock, PutsFreeLiteral}
 use Rattle.argument_cycles.specs.ImportingSteps.Puts.{PutsAddedBlock, PutsAddedLiteral, PutsAddedExpression}
 use Rattle.argument_cycles.specs.Literals.{PutsPlacedLiteral}
@@ -17,7 +18,7 @@ use Rattle.argument_cycles.specs.Uses.{PutsPlaced}
 
 -- A step over a call puts an expression, statements in braces or a literal with arguments in the places of parameters:
 -- of a body whose callees are asked for, or known by names, in well-typed packages or by the types of methods; or it
--- adds imports besides.
+-- adds imports besides, and the form that the use becomes with them is asked for, or found.
 pub data PutsArgumentsPlaced {marks : List MarkRef} {st : Standing} {l : Logged} {after : Standing}
     (n : Next marks st l after) : Type 0 where
   an_expression : PutsPlaced n → PutsArgumentsPlaced n
@@ -32,6 +33,9 @@ pub data PutsArgumentsPlaced {marks : List MarkRef} {st : Standing} {l : Logged}
   an_added_expression : PutsAddedExpression n → PutsArgumentsPlaced n
   an_added_block : PutsAddedBlock n → PutsArgumentsPlaced n
   an_added_literal : PutsAddedLiteral n → PutsArgumentsPlaced n
+  a_found_expression : PutsFoundExpression n → PutsArgumentsPlaced n
+  a_found_block : PutsFoundBlock n → PutsArgumentsPlaced n
+  a_found_literal : PutsFoundLiteral n → PutsArgumentsPlaced n
 
 -- A step does so in a function, or keeps cycles as literal_cycles has it.
 pub data KeepsCallCycles {marks : List MarkRef} {st : Standing} {l : Logged} {after : Standing}

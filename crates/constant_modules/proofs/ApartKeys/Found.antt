@@ -14,9 +14,9 @@ use Rattle.printed_constants.proofs.UsedImports.HeaderUses.{among_in, in_among}
 use Rattle.run_rules.specs.Sites.{Where}
 use Rattle.run_rules.specs.Steps.{At}
 use Rattle.typed_in_place.proofs.Rising.{and_first, and_second}
-use Rattle.constant_modules.specs.ApartKeys.Files.{import_apart, file_apart, keys_are_apart}
+use Rattle.constant_modules.specs.ApartKeys.Files.{is_predeclared, import_apart, file_apart, keys_are_apart, KeysApart}
 use Rattle.constant_modules.specs.ApartKeys.Keys.{decl_keys}
-use Rattle.constant_modules.specs.ApartKeys.Laws.{KeysApart, FoundKeysAreApart, ApartKeysAreFound}
+use Rattle.constant_modules.specs.ApartKeys.Laws.{FoundKeysAreApart, ApartKeysAreFound}
 use Rattle.constant_modules.specs.CountedUses.Typed.{IsFileOf}
 use Rattle.constant_modules.specs.LookUps.Beside.{names_over}
 
@@ -63,29 +63,32 @@ module _ (ps : List (Package At)) where
   abbrev of_package : Package At → Bool
   of_package p = list_all (λ (f : SourceTree At). file_apart ps f.tree) p.files
 
-  clash : (b a : Bool) → (b || not a) ≡ true → b ≡ false → a ≡ true → ⊥
-  clash true a h e g = cc
-  clash false true h e g = cc
-  clash false false h e g = cc
+  clash : (b p a : Bool) → (b || not (p && a)) ≡ true → b ≡ false → p ≡ true → a ≡ true → ⊥
+  clash true p a h e f g = cc
+  clash false false a h e f g = cc
+  clash false true true h e f g = cc
+  clash false true false h e f g = cc
 
   found_one : keys_are_apart ps ≡ true → KeysApart ps
-  found_one h w there k s g b i d e q =
-      clash (is_blank (import_name ps s)) (is_among (import_name ps s) (names_over decl_keys w.source.tree.decls))
+  found_one h w there k s g b p i d e q =
+      clash (is_blank (import_name ps s)) (is_predeclared (import_name ps s)) (is_among (import_name ps s) (names_over decl_keys w.source.tree.decls))
       (all_at (import_apart ps w.source.tree) (import_specs w.source.tree) k s
       (all_at (λ (f : SourceTree At). file_apart ps f.tree) w.of.files w.file_number w.source (all_at of_package ps w.number w.of h there.0) there.1) g)
-      b (among_in (import_name ps s) (names_over decl_keys w.source.tree.decls) (over_at decl_keys (import_name ps s) w.source.tree.decls i d e q))
+      b p (among_in (import_name ps s) (names_over decl_keys w.source.tree.decls) (over_at decl_keys (import_name ps s) w.source.tree.decls i d e q))
 
   module _ (apart : KeysApart ps) where
     spec_apart : (w : Where At) → IsFileOf ps w → (k : ℕ) (s : ImportSpec At) → slice_get (import_specs w.source.tree) k ≡ Some s → import_apart ps w.source.tree s ≡ true
-    spec_apart w there k s g = by (is_blank (import_name ps s)) refl (is_among (import_name ps s) (names_over decl_keys w.source.tree.decls)) refl
+    spec_apart w there k s g = by (is_blank (import_name ps s)) refl (is_predeclared (import_name ps s)) refl (is_among (import_name ps s) (names_over decl_keys w.source.tree.decls)) refl
       where
-        none : is_blank (import_name ps s) ≡ false → In (import_name ps s) (names_over decl_keys w.source.tree.decls) → ⊥
-        none b j = let x = at_item decl_keys (import_name ps s) w.source.tree.decls j in apart w there k s g b x.nth x.item x.there x.has
+        none : is_blank (import_name ps s) ≡ false → is_predeclared (import_name ps s) ≡ true → In (import_name ps s) (names_over decl_keys w.source.tree.decls) → ⊥
+        none b c j = let x = at_item decl_keys (import_name ps s) w.source.tree.decls j in apart w there k s g b c x.nth x.item x.there x.has
 
-        by : (b : Bool) → is_blank (import_name ps s) ≡ b → (a : Bool) → is_among (import_name ps s) (names_over decl_keys w.source.tree.decls) ≡ a → (is_blank (import_name ps s) || not (is_among (import_name ps s) (names_over decl_keys w.source.tree.decls))) ≡ true
-        by true p a q = λ z. p z || not (is_among (import_name ps s) (names_over decl_keys w.source.tree.decls))
-        by false p false q = λ z. p z || not (q z)
-        by false p true q = absurd (none p (in_among (import_name ps s) (names_over decl_keys w.source.tree.decls) q))
+        by : (b : Bool) → is_blank (import_name ps s) ≡ b → (c : Bool) → is_predeclared (import_name ps s) ≡ c → (a : Bool) → is_among (import_name ps s) (names_over decl_keys w.source.tree.decls) ≡ a
+            → (is_blank (import_name ps s) || not (is_predeclared (import_name ps s) && is_among (import_name ps s) (names_over decl_keys w.source.tree.decls))) ≡ true
+        by true p c r a q = λ z. p z || not (is_predeclared (import_name ps s) && is_among (import_name ps s) (names_over decl_keys w.source.tree.decls))
+        by false p false r a q = λ z. p z || not (r z && is_among (import_name ps s) (names_over decl_keys w.source.tree.decls))
+        by false p true r false q = λ z. p z || not (r z && q z)
+        by false p true r true q = absurd (none p r (in_among (import_name ps s) (names_over decl_keys w.source.tree.decls) q))
 
     file_so : (w : Where At) → IsFileOf ps w → file_apart ps w.source.tree ≡ true
     file_so w there = all_of (import_apart ps w.source.tree) (import_specs w.source.tree) (spec_apart w there)

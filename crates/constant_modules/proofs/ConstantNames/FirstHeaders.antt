@@ -1,7 +1,7 @@
 -- A name that means a declaration among packages is declared by one of the declaration's headers, the first of its package with the name.
 use Rattle.std.specs.Prelude.{◌≡◌, refl, ℕ, suc, ◌+◌, Bool, true, false, ◌&&◌, ◌||◌, List, [], ◌∷◌, ◌++◌, map, Option, Some, None, if◌then◌else◌, bytes_eq, nat_eq, is_some, slice_get}
 use mathlib.Core.Path.{ap, sym, ◌∙◌, subst}
-use Rattle.std.proofs.Common.{arith, inl, inr}
+use Rattle.std.proofs.Common.{arith}
 use Rattle.std.proofs.lemmas.Slice.Eq.{bytes_eq-Decides}
 use Rattle.go_tree.specs.Tree.{NameAt, TypeExpr, Exprs, no_exprs, const_decl, var_decl, empty, eval, step, assign, define, return_, break_, continue_, inner, if_, for_, range_, switch, defer, label, ValueSpecs, no_specs, spec}
 use Rattle.go_tree.specs.File.{TypeSpec, Receiver, Decl, values, types, func}
@@ -12,12 +12,12 @@ use Rattle.go_tree.specs.GoTypes.Answers.{is_among}
 use Rattle.go_tree.specs.GoTypes.Entities.{Entity}
 use Rattle.go_tree.specs.GoTypes.Bodies.{no_values}
 use Rattle.go_tree.specs.GoTypes.Programs as source
-use Rattle.go_tree.specs.GoTypes.Programs.{Header, constants, variables, a_type_spec, a_func, Headed, SourceFile, SourcePackage, Program, headers, all_headers, constant_headers, variable_headers, header_names, header_sound, names_in, headed, headed_file, headed_files, headed_package, file_block, at_member, is_main}
+use Rattle.go_tree.specs.GoTypes.Programs.{Header, constants, a_type_spec, Headed, SourceFile, SourcePackage, Program, headers, all_headers, constant_headers, variable_headers, header_names, header_sound, names_in, headed, headed_file, headed_files, headed_package, file_block, at_member, is_main}
 use Rattle.go_tree.proofs.GoTypes.Agreeing.{some_same}
 use Rattle.typed_in_place.specs.Declared.{FirstWith, this_one, a_later_one}
 use Rattle.constant_steps.proofs.WrittenLiteral.NamesMeant.{means_join}
 use Rattle.constant_steps.specs.Alone.{block_from, PackageAt, this_package, a_later_package}
-use Rattle.constant_modules.proofs.ConstantNames.Headers.{HasHeader, FirstOf}
+use Rattle.constant_modules.proofs.ConstantNames.Headers.{FirstNamed, this_named, a_later_named, FirstOf}
 
 in_turn : {A : Type 0} (xs ys zs : List A) → (xs ++ ys) ++ zs ≡ xs ++ (ys ++ zs)
 in_turn [] ys zs = refl
@@ -89,7 +89,8 @@ module _ {S : Type 0} where
   func_names n None = refl
   func_names n (Some r) = refl
 
-  decl_names : (x : Decl S) → names_in (headers x) ≡ names_of (block_names x)
+  -- those of a declaration are the names that it adds to the package block
+  pub decl_names : (x : Decl S) → names_in (headers x) ≡ names_of (block_names x)
   decl_names (values (const_decl s g ss)) = constants_names (at_member g s) None no_exprs 0 ss
   decl_names (values (var_decl s g ss)) = variables_names (at_member g s) ss
   decl_names (values (empty s)) = refl
@@ -211,28 +212,28 @@ module _ {S : Type 0} (n : List ℕ) (spelled : is_blank n ≡ false) where
   -- ---- the declaration that a name means
 
   -- the first of some headers of the declaration that has the name
-  in_headers : (home : ℕ) (main : Bool) (file : ℕ) (is : Environment Entity) (x : Decl S) (rest : List (Headed S)) (hs ys : List (S × Header S)) → ((h : Header S) → HasHeader h hs → HasHeader h (headers x)) → is_among n (names_in hs) ≡ true → (b : List (List ℕ))
+  in_headers : (home : ℕ) (main : Bool) (file : ℕ) (is : Environment Entity) (x : Decl S) (rest : List (Headed S)) (hs ys : List (S × Header S)) → ((h : Header S) → FirstNamed n h hs → FirstNamed n h (headers x)) → is_among n (names_in hs) ≡ true → (b : List (List ℕ))
       → FirstOf n home is x (headed_file home main file is b (hs ++ ys) ++ rest)
   in_headers home main file is x rest [] ys f e b = absurd (grind (arith, e))
-  in_headers home main file is x rest (h ∷ hs) ys f e b = by (is_among n (header_names h.1)) refl (λ q. in_headers home main file is x rest hs ys (λ k o. f k (inr o)) q (header_names h.1 ++ b))
+  in_headers home main file is x rest (h ∷ hs) ys f e b = by (is_among n (header_names h.1)) refl (λ c q. in_headers home main file is x rest hs ys (λ k o. f k (a_later_named c o)) q (header_names h.1 ++ b))
     where
       first_or : (c d : Bool) → c ≡ false → (c || d) ≡ true → d ≡ true
       first_or true d q k = absurd (grind (arith, q))
       first_or false d q k = k
 
-      by : (c : Bool) → is_among n (header_names h.1) ≡ c → (is_among n (names_in hs) ≡ true → FirstOf n home is x (headed_file home main file is (header_names h.1 ++ b) (hs ++ ys) ++ rest))
+      by : (c : Bool) → is_among n (header_names h.1) ≡ c → (is_among n (header_names h.1) ≡ false → is_among n (names_in hs) ≡ true → FirstOf n home is x (headed_file home main file is (header_names h.1 ++ b) (hs ++ ys) ++ rest))
           → FirstOf n home is x (headed_file home main file is b ((h ∷ hs) ++ ys) ++ rest)
       by true q k = record {
         header = record { home = home; in_main = main; file = file; imports = is; at = h.0; sound = header_sound b h.1; header = h.1 };
         first = this_one;
         home_is = refl;
         imports_are = refl;
-        one = f h.1 (inl refl);
+        one = f h.1 (this_named q refl);
         named = q;
       }
       by false q k =
           one_past _ home is x (headed_file home main file is (header_names h.1 ++ b) (hs ++ ys) ++ rest) q
-          (k (first_or (is_among n (header_names h.1)) (is_among n (names_in hs)) q (sym (among_append n (header_names h.1) (names_in hs)) ∙ e)))
+          (k q (first_or (is_among n (header_names h.1)) (is_among n (names_in hs)) q (sym (among_append n (header_names h.1) (names_in hs)) ∙ e)))
 
   module _ (home : ℕ) (main : Bool) (file : ℕ) (is : Environment Entity) where
     record DeclFound (t : Target) (p f d : ℕ) (xs : List (Decl S)) : Type 0 where
@@ -241,6 +242,7 @@ module _ {S : Type 0} (n : List ℕ) (spelled : is_blank n ≡ false) where
       is_item : t ≡ member p f (d + decl) item
       tree : Decl S
       nth : slice_get xs decl ≡ Some tree
+      own : means (items_from p f (d + decl) 0 (block_names tree)) n ≡ Some t
       found : (rest : List (Headed S)) (b : List (List ℕ)) → FirstOf n home is tree (headed_file home main file is b (all_headers xs) ++ rest)
 
     decl_found : (t : Target) (p f d : ℕ) (xs : List (Decl S)) → means (decls_from p f d xs) n ≡ Some t → DeclFound t p f d xs
@@ -260,6 +262,7 @@ module _ {S : Type 0} (n : List ℕ) (spelled : is_blank n ≡ false) where
               is_item = y.1 ∙ (let z : d ≡ d + 0 = omega arith in ap (λ c. member p f c y.0) z);
               tree = x;
               nth = refl;
+              own = (let z : d ≡ d + 0 = omega arith in ap (λ c. means (items_from p f c 0 (block_names x)) n) (sym z)) ∙ e ∙ q;
               found = here u e;
             }
         go k None e q =
@@ -269,6 +272,7 @@ module _ {S : Type 0} (n : List ℕ) (spelled : is_blank n ≡ false) where
               is_item = y.is_item ∙ (let z : suc d + y.decl ≡ d + suc y.decl = omega arith in ap (λ c. member p f c y.item) z);
               tree = y.tree;
               nth = y.nth;
+              own = (let z : suc d + y.decl ≡ d + suc y.decl = omega arith in ap (λ c. means (items_from p f c 0 (block_names y.tree)) n) (sym z)) ∙ y.own;
               found = λ rest. past home main file is is y.tree rest (headers x) (all_headers xs) (decl_past p f d x e) (y.found rest);
             }
 
@@ -282,6 +286,7 @@ module _ {S : Type 0} (n : List ℕ) (spelled : is_blank n ≡ false) where
       nth_file : slice_get fs file ≡ Some source
       tree : Decl S
       nth : slice_get source.decls decl ≡ Some tree
+      own : means (items_from p (f + file) decl 0 (block_names tree)) n ≡ Some t
       found : (b : List (List ℕ)) → FirstOf n home (file_block members [] source.imports) tree (headed_files home main members i b fs)
 
     file_found : (t : Target) (p f i : ℕ) (fs : List (SourceFile S)) → means (block_from p f fs) n ≡ Some t → FileFound t p f i fs
@@ -303,6 +308,7 @@ module _ {S : Type 0} (n : List ℕ) (spelled : is_blank n ≡ false) where
               nth_file = refl;
               tree = y.tree;
               nth = y.nth;
+              own = (let z : f ≡ f + 0 = omega arith in let w : 0 + y.decl ≡ y.decl = omega arith in λ j. means (items_from p (sym z j) (sym w j) 0 (block_names y.tree)) n) ∙ y.own;
               found = λ b. y.found (headed_files home main members (suc i) (names_in (all_headers x.decls) ++ b) fs) b;
             }
         go k None e q =
@@ -315,6 +321,7 @@ module _ {S : Type 0} (n : List ℕ) (spelled : is_blank n ≡ false) where
               nth_file = y.nth_file;
               tree = y.tree;
               nth = y.nth;
+              own = (let z : suc f + y.file ≡ f + suc y.file = omega arith in ap (λ c. means (items_from p c y.decl 0 (block_names y.tree)) n) (sym z)) ∙ y.own;
               found = λ b.
                   all_past home main i here (file_block members [] y.source.imports) y.tree (headed_files home main members (suc i) (names_in (all_headers x.decls) ++ b) fs) (all_headers x.decls) (decls_past p f 0 x.decls e)
                   (y.found (names_in (all_headers x.decls) ++ b)) b;
@@ -368,3 +375,13 @@ module _ {S : Type 0} (n : List ℕ) (spelled : is_blank n ≡ false) where
       let same_decl : y.tree ≡ x = some_same y.tree x (sym y.nth ∙ (λ j. slice_get (same_file j).decls (sym (ap decl_of y.is_item) j)) ∙ nd) in
       subst (λ s. FirstOf n p.number (file_block members [] s.imports) x (headed ps)) same_file
       (subst (λ (z : Decl S). FirstOf n p.number (file_block members [] y.source.imports) z (headed ps)) same_decl (program_first (file_block members [] y.source.imports) y.tree p k at (y.found [])))
+
+  -- it means an item of the declaration's own names
+  pub own_item : (p : SourcePackage S) (a f d i : ℕ) (file : SourceFile S) (x : Decl S) → means (block_from p.number 0 p.files) n ≡ Some (member a f d i) → slice_get p.files f ≡ Some file → slice_get file.decls d ≡ Some x
+      → (g : ℕ) × (means (items_from p.number g d 0 (block_names x)) n ≡ Some (member a f d i))
+  own_item p a f d i file x q nf nd =
+      let y : FileFound p.number (is_main p) (source.block_names p.files) (member a f d i) p.number 0 0 p.files = file_found p.number (is_main p) (source.block_names p.files) (member a f d i) p.number 0 0 p.files q in
+      let zero_more : 0 + y.file ≡ y.file = omega arith in
+      let same_file : y.source ≡ file = some_same y.source file (sym y.nth_file ∙ ap (slice_get p.files) (sym (ap file_of y.is_item ∙ zero_more)) ∙ nf) in
+      let same_decl : y.tree ≡ x = some_same y.tree x (sym y.nth ∙ (λ j. slice_get (same_file j).decls (sym (ap decl_of y.is_item) j)) ∙ nd) in
+      (0 + y.file, (λ j. means (items_from p.number (0 + y.file) (ap decl_of y.is_item j) 0 (block_names (sym same_decl j))) n) ∙ y.own)

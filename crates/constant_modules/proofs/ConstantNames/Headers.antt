@@ -1,5 +1,5 @@
 -- The first header of its package with a name, as one of the headers of a declaration.
-use Rattle.std.proofs.Common.{◌≡◌, ◌⊎◌, ℕ, true, List, [], ◌∷◌}
+use Rattle.std.proofs.Common.{◌≡◌, ◌⊎◌, inl, inr, ℕ, true, false, List, [], ◌∷◌}
 use Rattle.go_tree.specs.File.{Decl}
 use Rattle.go_tree.specs.ScopeNames.Means.{Environment}
 use Rattle.go_tree.specs.GoTypes.Answers.{is_among}
@@ -13,12 +13,26 @@ module _ {S : Type 0} where
   HasHeader y [] = ⊥
   HasHeader y (h ∷ hs) = (y ≡ h.1) ⊎ HasHeader y hs
 
-  -- The first header with the name n of a package with this number is one of those of the declaration; its file has
+  -- it is the first of them with the name
+  pub data FirstNamed (n : List ℕ) (y : Header S) : List (S × Header S) → Type 0 where
+    this_named :
+        {h : S × Header S} {hs : List (S × Header S)} → is_among n (header_names h.1) ≡ true → y ≡ h.1 →
+        FirstNamed n y (h ∷ hs)
+    a_later_named :
+        {h : S × Header S} {hs : List (S × Header S)} → is_among n (header_names h.1) ≡ false → FirstNamed n y hs →
+        FirstNamed n y (h ∷ hs)
+
+  -- so it is one of them
+  pub has_header : {n : List ℕ} {y : Header S} {hs : List (S × Header S)} → FirstNamed n y hs → HasHeader y hs
+  has_header (this_named a e) = inl e
+  has_header (a_later_named e f) = inr (has_header f)
+
+  -- The first header with the name n of a package with this number is the first with it of the declaration; its file has
   -- these imports.
   pub record FirstOf (n : List ℕ) (home : ℕ) (imports : Environment Entity) (d : Decl S) (hs : List (Headed S)) : Type 0 where
     pub header : Headed S
     pub first : FirstWith n header hs
     pub home_is : header.home ≡ home
     pub imports_are : header.imports ≡ imports
-    pub one : HasHeader header.header (headers d)
+    pub one : FirstNamed n header.header (headers d)
     pub named : is_among n (header_names header.header) ≡ true

@@ -27,7 +27,7 @@ use Rattle.printed_constants.proofs.DeclaredConstants.Members.{stands_at}
 use Rattle.run_rules.specs.Programs.{linked, linked_file, world}
 use Rattle.run_rules.specs.Sites.{Where}
 use Rattle.run_rules.specs.Steps.{At}
-use Rattle.constant_modules.proofs.ConstantNames.Headers.{HasHeader, FirstOf}
+use Rattle.constant_modules.proofs.ConstantNames.Headers.{HasHeader, has_header, FirstOf}
 use Rattle.constant_modules.proofs.ConstantNames.FirstHeaders.{first_header}
 use Rattle.constant_modules.proofs.ConstantNames.Kinds.{MeansOne, IsKind, IsConstants, IsVariables, IsTypeSpec, are_constants, are_variables, are_types, kind_meant}
 
@@ -116,7 +116,7 @@ program_constant n p k ps w ended f d i file s g ss at e nf nd =
     let number : HasNumber first.header.home ps = subst (λ (j : ℕ). HasNumber j ps) (sym first.home_is) (has_number p k at) in
     let m : MeansOne (λ (e : Entity). IsKind e first.header.header) (means (block_of w.blocks first.header.home) n) = kind_meant ps w ended first.header n spelled first.first number first.named in
     subst (λ (j : ℕ). ConstantOrRefused (means (block_of w.blocks j) n)) first.home_is
-    (subst ConstantOrRefused (sym m.is) (constant_kind m.entity first.header.header m.kind (are_constants (at_member g s) None no_exprs 0 ss first.header.header first.one)))
+    (subst ConstantOrRefused (sym m.is) (constant_kind m.entity first.header.header m.kind (are_constants (at_member g s) None no_exprs 0 ss first.header.header (has_header first.one))))
 
 -- ---- packages
 
@@ -143,7 +143,7 @@ module _ (ps : List (Package At)) (ordered : AllOrdered ps) (own_typed : are_wel
       let m : MeansOne (λ (e : Entity). IsKind e first.header.header) (means (block_of (world ps).blocks first.header.home) n) = kind_meant (linked ps) (world ps) at_last first.header n spelled first.first number first.named in
       record {
         header = first.header;
-        one = first.one;
+        one = has_header first.one;
         entity = m.entity;
         meant = subst (λ (k : ℕ). means (block_of (world ps).blocks k) n ≡ Some m.entity) first.home_is m.is;
         kind = m.kind;

@@ -1,11 +1,11 @@
 -- Where a spec has two names, the number of a constant isn't that of its spec: no type is written for B, but for the spec
--- with B's number one is. So declarations have to be plain where the type is told by specs.
+-- with B's number one is. So the type is told by names.
 --   const ( A, B = D, D; C int = D )
 use Rattle.std.proofs.Common.{◌≡◌, refl, ℕ, true, [], ◌∷◌, None, Some, codes}
 use Rattle.go_tree.specs.Tree.{NameAt, TypeExpr, named, Expr, ident, no_exprs, expr_and, const_decl, no_specs, spec}
 use Rattle.go_tree.specs.File.{Decl, values}
 use Rattle.constant_steps.specs.Alone.{type_in}
-use Rattle.constant_modules.specs.ConstantRuns.Types.{written_type}
+use Rattle.constant_modules.specs.ConstantsOfGroups.Groups.{written_type}
 
 abbrev name : ℕ → NameAt ℕ
 name n = record { span = n; name = codes "X" }

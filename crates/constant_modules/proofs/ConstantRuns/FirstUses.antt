@@ -11,9 +11,10 @@ use Rattle.printed_constants.proofs.TypedParts.MarkedRuns.PutForms.FirstUses.{pl
 use Rattle.run_rules.specs.Sites.{an_expr}
 use Rattle.run_rules.specs.Steps.{At}
 use Rattle.splice_laws.specs.ImportSplices.FormSplices.Laws.{MakesForm}
+use Rattle.constant_modules.specs.ApartKeys.Laws.{StepsPutNames, StepsRemoveNoPredeclaredKeys}
 use Rattle.constant_modules.specs.ConstantRuns.FirstUses.{ConstantStepsTakeNamesThere, FirstUsesAreOfConstants, FirstUsesOfConstantsAreTyped}
-use Rattle.constant_modules.specs.FewNames.Laws.{SmallTextsTakeFewNames, ConstantStepsKeepLookUps}
-use Rattle.constant_modules.specs.NamedAnywhere.MarkedLaws.{StepsOverMarksTakeThere}
+use Rattle.constant_modules.specs.FewNames.Laws.{SmallTextsTakeFewNames}
+use Rattle.constant_modules.specs.KeyedImports.StepLaws.{StepsKeepUses}
 use Rattle.constant_modules.specs.NamedThere.Laws.{ConstantUsesStandThere}
 use Rattle.constant_modules.specs.TypedForms.Laws.{FirstUsesAreTyped}
 use Rattle.constant_modules.specs.TypedUses.Laws.{StepsUseExpressions, FirstUsesUseConstants}
@@ -21,8 +22,8 @@ use Rattle.constant_modules.proofs.FewNames.Few.{few-of}
 use Rattle.constant_modules.proofs.NamedThere.Steps.{there}
 use Rattle.constant_modules.proofs.TypedUses.NoTypes.{uses_expressions}
 
-pub steps_take_there : StepsUseExpressions → SmallTextsTakeFewNames → ConstantsWrite → ConstantStepsKeepLookUps → ConstantUsesStandThere → StepsOverMarksTakeThere → ConstantStepsTakeNamesThere
-steps_take_there use_them take_few write keep stand take marks st l after n is removed = there use_them take_few write keep stand take marks st l after n is removed
+pub steps_take_there : StepsUseExpressions → SmallTextsTakeFewNames → ConstantsWrite → ConstantUsesStandThere → StepsPutNames → StepsRemoveNoPredeclaredKeys → StepsKeepUses → ConstantStepsTakeNamesThere
+steps_take_there use_them take_few write stand put remove keep marks st l after n is = there use_them take_few write stand put remove keep marks st l after n is
 
 pub uses_constants : FirstUsesUseConstants → FirstUsesAreOfConstants
 uses_constants first marks st f old is u =
@@ -34,5 +35,5 @@ uses_constants first marks st f old is u =
     first marks st f old is.ready is.typed is.named u few
 
 pub uses_typed : ConstantStepsTakeNamesThere → FirstUsesAreOfConstants → FirstUsesAreTyped → FirstUsesOfConstantsAreTyped
-uses_typed take uses typed marks st f old form is u becomes removes =
-    typed marks st f old form is.ready is.typed u (uses marks st f old is u) becomes (λ new tree x. take marks st _ x.after x.next is (removes new tree x))
+uses_typed take uses typed marks st f old form is u becomes =
+    typed marks st f old form is.ready is.typed u (uses marks st f old is u) becomes (λ new tree x. take marks st _ x.after x.next is)

@@ -18,11 +18,11 @@ use Rattle.constant_steps.proofs.NamesOutside.{linked_block}
 use Rattle.constant_steps.proofs.QualifiedSteps.MembersNamed.{OwnName, own_name, OfPackage, of_package}
 use Rattle.constant_steps.proofs.QualifiedSteps.Targets.{number_in, by_number, numbered_by}
 use Rattle.constant_steps.proofs.WrittenLiteral.NamesMeant.{means_join}
-use Rattle.order_runs.specs.CycleRuns.ImportCycles.ImportSteps.{file_added, packages_added, where_added, decl_put, DeclaresAlike}
+use Rattle.order_runs.specs.CycleRuns.ImportCycles.ImportSteps.{file_added, packages_added, where_added, decl_put}
 use Rattle.order_runs.specs.CycleRuns.StepCycles.PackagesAlike.{DeclAlike}
 use Rattle.order_runs.proofs.CycleRuns.ImportCycles.ImportStep.{placed, decls-are}
 use Rattle.order_runs.proofs.CycleRuns.OrderedSteps.Members.{changed-one}
-use Rattle.order_runs.proofs.CycleRuns.StepCycles.StepAlike.{new-alike, changed-alike}
+use Rattle.order_runs.proofs.CycleRuns.StepCycles.StepAlike.{changed-alike}
 use Rattle.printed_constants.specs.DeclaredConstants.Predeclared.{NoneArePredeclared}
 use Rattle.printed_constants.specs.TypedParts.MarkedRuns.NamedMarks.Named.{IsNamedConstant, AllNamed}
 use Rattle.printed_constants.proofs.NamedUses.Middle.{Beside, beside, files_same}
@@ -33,19 +33,20 @@ use Rattle.printed_constants.proofs.TypedParts.MarkedRuns.KeptMarks.Shapes.{Shap
 use Rattle.printed_constants.proofs.TypedParts.MarkedRuns.NamedMarks.Declared.{inlinable-with}
 use Rattle.put_names.specs.Uses.{IsDeclaredAsName, as_name, as_member}
 use Rattle.run_rules.specs.Forms.{is_at}
-use Rattle.run_rules.specs.FormTrees.{Form, as_expr}
-use Rattle.run_rules.specs.Programs.{top_place, decl_seen}
+use Rattle.run_rules.specs.FormTrees.{as_expr}
+use Rattle.run_rules.specs.Programs.{decl_seen}
 use Rattle.run_rules.specs.Respanned.{name_with, expr_with, decl_with}
 use Rattle.run_rules.specs.Rewriting.{Changes, new_expr}
 use Rattle.run_rules.specs.Run.{Standing, Logged, Next, here_of, origin_of, is_commented}
 use Rattle.run_rules.specs.Sites.{MarkRef, Where, Inlinable, Site, a_constant, is_among_marks, part_span, where_is, inlinable, inlinable_in, outer}
-use Rattle.run_rules.specs.Steps.{At, same_here, change_nth, changes_for, new_decl, with_file}
+use Rattle.run_rules.specs.Steps.{At, same_here, change_nth, changes_for, with_file}
 use Rattle.run_rules.specs.Surroundings.{Use, Place, other, inner_slot, in_slot}
 use Rattle.splice_laws.proofs.RunLaws.FoundSpans.{Placed}
 use Rattle.constant_modules.specs.ConstantNames.Members.{IsConstantMember, AllNameConstants}
 use Rattle.constant_modules.specs.ConstantRuns.Laws.{StepsLeaveNoPredeclared}
 use Rattle.constant_modules.specs.NamedAnywhere.Taken.{TakesNameThere, site_there}
-use Rattle.constant_modules.proofs.CountedUses.After.{stays}
+use Rattle.constant_modules.proofs.NamedAnywhere.NamesDeclared.{declares_alike}
+use Rattle.constant_modules.proofs.NamedAnywhere.Puts.{puts_of}
 use Rattle.constant_modules.proofs.NamedAnywhere.FormsNamed.{NewNamed, new_named}
 
 -- ---- names alone
@@ -162,13 +163,8 @@ module _ (marks : List MarkRef) (st : Standing) (l : Logged) (after : Standing) 
   here : Placed here_of (λ (s : Span). Unit {0}) st.packages marks x
   here = placed marks st l after n
 
-  declares_alike : DeclaresAlike n
-  declares_alike d i =
-      subst (λ (f : Form At). DeclAlike d (new_decl same_here st.packages (changes_for same_here z f) w.number w.of w.source.tree d)) (sym h.form)
-      (new-alike same_here st.packages (changes_for same_here z (as_expr h.use_.new)) w.number w.of w.source.tree d (stays st.packages z h.use_.new (top_place st.packages w.number w.of w.source.tree) d))
-
   blocks : (k f : ℕ) → decls_from k f 0 n.tree.decls ≡ decls_from k f 0 w.source.tree.decls
-  blocks k f = decls_by k f 0 n.tree.decls w.source.tree.decls (all_named (changed-alike put x.decl w.source.tree.decls n.tree.decls (decls-are marks st l after n) declares_alike))
+  blocks k f = decls_by k f 0 n.tree.decls w.source.tree.decls (all_named (changed-alike put x.decl w.source.tree.decls n.tree.decls (decls-are marks st l after n) (declares_alike marks st l after n (puts_of marks st l after n h))))
 
   abbrev BesideNow : MarkRef → Where At → Type 0
   BesideNow = Beside st.packages w n.tree here.package_is here.file_is blocks

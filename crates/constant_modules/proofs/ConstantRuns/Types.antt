@@ -19,7 +19,7 @@ use Rattle.directive_scan.specs.Marked.{mark_by, is_marked, good_marks}
 use Rattle.order_runs.proofs.RunSteps.SeatedUses.{Among, first, later}
 use Rattle.pkg_graph.specs.Members.{specs_names, decl_names}
 use Rattle.run_rules.specs.Sites.{less}
-use Rattle.constant_modules.specs.ConstantRuns.Types.{spec_type_or, nth_type, written_type}
+use Rattle.constant_modules.specs.ConstantsOfGroups.Groups.{spec_type_or, nth_type, written_type}
 use Rattle.constant_modules.proofs.ConstantRuns.Entries.{entries, all_entries}
 use Rattle.constant_modules.proofs.LookUps.Walk.{among-front, among-back}
 

@@ -1,17 +1,14 @@
--- In a module that reads no type is written for a marked constant; where all declarations are plain, it is declared
--- without one.
-use Rattle.std.proofs.Common.{◌≡◌, ◌∙◌, refl, sym, ap, subst, ℕ, zero, suc, true, List, [], ◌∷◌, map, Option, Some, None}
+-- In a module that reads no type is written for a marked constant.
+use Rattle.std.proofs.Common.{◌≡◌, ◌∙◌, refl, sym, ap, subst, ℕ, true, List, [], map, Option, Some, None}
 use Rattle.std.specs.Prelude.{slice_get}
 use Rattle.std.proofs.lemmas.Option.{same_Some}
 use Rattle.go_tree.specs.declared.spans.Span.{Span}
-use Rattle.go_tree.specs.Tree.{NameAt, TypeExpr, const_decl, var_decl, empty, eval, step, assign, define, return_, break_, continue_, inner, if_, for_, range_, switch, defer, label, ValueSpecs, no_specs, spec}
-use Rattle.go_tree.specs.File.{Decl, values, types, func}
+use Rattle.go_tree.specs.File.{Decl}
 use Rattle.go_tree.specs.GoTypes.Answers.{given}
 use Rattle.directive_scan.specs.declared.mark_types.Mark.{Mark}
 use Rattle.directive_scan.specs.Marked.{good_marks}
 use Rattle.pkg_graph.specs.Package.{SourceTree, Package}
 use Rattle.pkg_graph.specs.Members.{names_of_file}
-use Rattle.constant_steps.specs.Alone.{SingleSpecs, no_constants, and_constant, and_typed, and_repeated, PlainDecl, constants_alone, variables_alone, some_types, a_function, PlainDecls, spec_type, type_in}
 use Rattle.constant_steps.proofs.MarksFound.{StandsThere, stands_there}
 use Rattle.order_runs.proofs.RunSteps.TokenPlaces.{tokens-rise}
 use Rattle.printed_constants.proofs.Steps.{mapped_nth}
@@ -20,18 +17,18 @@ use Rattle.printed_constants.proofs.TypedParts.MarkedRuns.NamedMarks.ReadMarks.{
 use Rattle.run_rules.specs.Inlining.{ReadsAs}
 use Rattle.run_rules.specs.Marks.{text_at, declaration_at, found_in, marks_by_number, marks_of}
 use Rattle.run_rules.specs.Programs.{numbered}
-use Rattle.run_rules.specs.Respanned.{name_with, type_option_with, specs_with, decl_with, source_with, package_with, packages_with}
+use Rattle.run_rules.specs.Respanned.{decl_with, source_with, package_with, packages_with}
 use Rattle.run_rules.specs.Run.{as_read}
-use Rattle.run_rules.specs.Sites.{MarkRef, Where, is_among_marks, less, where_is}
+use Rattle.run_rules.specs.Sites.{MarkRef, Where, is_among_marks, where_is}
 use Rattle.run_rules.specs.Steps.{At}
 use Rattle.run_rules.specs.Texts.{FileText}
 use Rattle.splice_laws.proofs.RunLaws.PathsOwn.{HasText, its_text}
-use Rattle.constant_modules.specs.ConstantRuns.Laws.{ReadConstantsHaveNoTypes, PlainConstantsAreUntyped}
-use Rattle.constant_modules.specs.ConstantRuns.Types.{spec_type_or, nth_type, written_type}
+use Rattle.constant_modules.specs.ConstantRuns.Laws.{ReadConstantsHaveNoTypes}
+use Rattle.constant_modules.specs.ConstantsOfGroups.Groups.{written_type}
 use Rattle.constant_modules.proofs.ConstantRuns.Entries.{IsMarkOf, mark_of_entry, all_entries}
 use Rattle.constant_modules.proofs.ConstantRuns.Marks.{EachIs, no_more, one_more, both_are, each_mark}
 use Rattle.constant_modules.proofs.ConstantRuns.Types.{NoneOfMarks, one_mark, good_untyped}
-use Rattle.constant_modules.proofs.NamedThere.Kept.{nth_plain, file_plain}
+use Rattle.constant_modules.proofs.NamedThere.Kept.{written_with}
 
 -- ---- a module as read
 
@@ -69,88 +66,26 @@ module _ (ps : List (Package Span)) where
 
 -- ---- with the places of a run
 
-module _ {S T : Type 0} (to : S → T) where
-  none_with : (o : Option (TypeExpr S)) → o ≡ None → type_option_with to o ≡ None
-  none_with None e = refl
-  none_with (Some t) e = absurd cc
-
-  spec_with : (i : ℕ) (ns : List (NameAt S)) (t rest : Option (TypeExpr S)) (rest' : Option (TypeExpr T)) → (rest ≡ None → rest' ≡ None) → spec_type_or i ns t rest ≡ None → spec_type_or i (map (name_with to) ns) (type_option_with to t) rest' ≡ None
-  spec_with i [] t rest rest' k e = k e
-  spec_with zero (n ∷ ns) t rest rest' k e = none_with t e
-  spec_with (suc i) (n ∷ ns) t rest rest' k e = spec_with i ns t rest rest' k e
-
-  less_with : (i : ℕ) (ns : List (NameAt S)) → less i (map (name_with to) ns) ≡ less i ns
-  less_with i [] = refl
-  less_with zero (n ∷ ns) = refl
-  less_with (suc i) (n ∷ ns) = less_with i ns
-
-  nth_with : (i : ℕ) (ss : ValueSpecs S) → nth_type i ss ≡ None → nth_type i (specs_with to ss) ≡ None
-  nth_with i no_specs e = refl
-  nth_with i (spec s ns t es ss) e =
-      spec_with i ns t (nth_type (less i ns) ss) (nth_type (less i (map (name_with to) ns)) (specs_with to ss))
-      (λ g. (λ v. nth_type (less_with i ns v) (specs_with to ss)) ∙ nth_with (less i ns) ss g) e
-
-  written_with : (d : Decl S) (i : ℕ) → written_type d i ≡ None → written_type (decl_with to d) i ≡ None
-  written_with (values (const_decl s g ss)) i e = nth_with i ss e
-  written_with (values (var_decl s g ss)) i e = refl
-  written_with (values (empty _)) i e = refl
-  written_with (values (eval _ _)) i e = refl
-  written_with (values (step _ _ _)) i e = refl
-  written_with (values (assign _ _ _ _)) i e = refl
-  written_with (values (define _ _ _)) i e = refl
-  written_with (values (return_ _ _)) i e = refl
-  written_with (values (break_ _ _)) i e = refl
-  written_with (values (continue_ _ _)) i e = refl
-  written_with (values (inner _ _)) i e = refl
-  written_with (values (if_ _ _ _)) i e = refl
-  written_with (values (for_ _ _ _ _ _ _)) i e = refl
-  written_with (values (range_ _ _ _ _ _)) i e = refl
-  written_with (values (switch _ _ _ _)) i e = refl
-  written_with (values (defer _ _)) i e = refl
-  written_with (values (label _ _ _)) i e = refl
-  written_with (types s g ts) i e = refl
-  written_with (func f) i e = refl
-
 pub none_written : ReadConstantsHaveNoTypes
-none_written files ps texts only r m among home d home_is d_is =
-    let there : StandsThere (packages_with as_read ps) m home = stands_there (packages_with as_read ps) m home home_is in
-    let p = mapped_nth (package_with as_read) ps m.«package» home.of there.package_there in
-    let g = mapped_nth (source_with as_read) p.0.files m.file home.source (ap (λ (q : Package At). slice_get q.files m.file) p.2 ∙ there.file_there) in
-    let x = mapped_nth (decl_with as_read) g.0.tree.decls m.decl d (ap (λ (s : SourceTree At). slice_get s.tree.decls m.decl) g.2 ∙ d_is) in
-    ap (λ (y : Decl At). written_type y m.item) (sym x.2) ∙ written_with as_read x.0 m.item (marks_untyped ps texts read only m among p.0 g.0 x.0 p.1 g.1 x.1)
+none_written files ps texts only r m among = by (where_is (packages_with as_read ps) m) refl
   where
     read : TextsRead ps texts
     read k i p g t pe ge te =
         let h : HasText texts g = its_text files ps texts r k i g (record { of = p; package_is = pe; file_is = ge }) in
         subst (λ (x : FileText). ReadsAs x g.tree) (same_Some h.text t (sym h.there ∙ te)) h.reads
 
--- ---- plain declarations
+    of_decl : (home : Where At) (d : Decl At) → where_is (packages_with as_read ps) m ≡ Some home → slice_get home.source.tree.decls m.decl ≡ Some d → written_type d m.item ≡ None
+    of_decl home d home_is d_is =
+        let there : StandsThere (packages_with as_read ps) m home = stands_there (packages_with as_read ps) m home home_is in
+        let p = mapped_nth (package_with as_read) ps m.«package» home.of there.package_there in
+        let g = mapped_nth (source_with as_read) p.0.files m.file home.source (ap (λ (q : Package At). slice_get q.files m.file) p.2 ∙ there.file_there) in
+        let x = mapped_nth (decl_with as_read) g.0.tree.decls m.decl d (ap (λ (s : SourceTree At). slice_get s.tree.decls m.decl) g.2 ∙ d_is) in
+        ap (λ (y : Decl At). written_type y m.item) (sym x.2) ∙ written_with as_read x.0 m.item (marks_untyped ps texts read only m among p.0 g.0 x.0 p.1 g.1 x.1)
 
-single_type : {S : Type 0} (i : ℕ) {ss : ValueSpecs S} → SingleSpecs ss → spec_type i ss ≡ nth_type i ss
-single_type i no_constants = refl
-single_type zero (and_constant h) = refl
-single_type (suc i) (and_constant h) = single_type i h
-single_type zero (and_typed h) = refl
-single_type (suc i) (and_typed h) = single_type i h
-single_type zero (and_repeated h) = refl
-single_type (suc i) (and_repeated h) = single_type i h
-
-plain_type : {S : Type 0} (i : ℕ) {d : Decl S} → PlainDecl d → type_in d i ≡ written_type d i
-plain_type i (constants_alone h) = single_type i h
-plain_type i (variables_alone h) = refl
-plain_type i some_types = refl
-plain_type i a_function = refl
-
-pub plain_untyped : PlainConstantsAreUntyped
-plain_untyped ps marks plain none m among = by (where_is ps m) refl
-  where
-    in_file : (home : Where At) → where_is ps m ≡ Some home → (o : Option (Decl At)) → slice_get home.source.tree.decls m.decl ≡ o → given o (λ (d : Decl At). type_in d m.item) ≡ None
+    in_file : (home : Where At) → where_is (packages_with as_read ps) m ≡ Some home → (o : Option (Decl At)) → slice_get home.source.tree.decls m.decl ≡ o → given o (λ (d : Decl At). written_type d m.item) ≡ None
     in_file home e None g = refl
-    in_file home e (Some d) g =
-        let there : StandsThere ps m home = stands_there ps m home e in
-        let decls : PlainDecls home.source.tree.decls = file_plain ps plain (record home { number = m.«package»; file_number = m.file }) (there.package_there, there.file_there) in
-        plain_type m.item (nth_plain m.decl d decls g) ∙ none m among home d e g
+    in_file home e (Some d) g = of_decl home d e g
 
-    by : (o : Option (Where At)) → where_is ps m ≡ o → given (given o (λ (w : Where At). slice_get w.source.tree.decls m.decl)) (λ (d : Decl At). type_in d m.item) ≡ None
+    by : (o : Option (Where At)) → where_is (packages_with as_read ps) m ≡ o → given (given o (λ (w : Where At). slice_get w.source.tree.decls m.decl)) (λ (d : Decl At). written_type d m.item) ≡ None
     by None e = refl
     by (Some home) e = in_file home e (slice_get home.source.tree.decls m.decl) refl

@@ -56,7 +56,7 @@ module _ {S : Type 0} where
   one_literal (seen p u (func_lit s g z b)) h = h.0
   one_literal x h = tt
 
-  each_literal : (xs : List (Seen S)) → AllTyped xs → EachSeen LiteralTyped xs
+  pub each_literal : (xs : List (Seen S)) → AllTyped xs → EachSeen LiteralTyped xs
   each_literal [] h = tt
   each_literal (x ∷ xs) h = (one_literal x (h.0, tt), each_literal xs h.1)
 

@@ -39,7 +39,7 @@ module _ (ps : List (Package At)) (w : Where At) (k : ℕ) where
     pub stands : StandsAt name x
     pub means_it : Means name
 
-  by_name : (p : Place At) (n : List ℕ) → named_by_import ps w k p n ≡ true → (is_local p n ≡ false) × Means n
+  pub by_name : (p : Place At) (n : List ℕ) → named_by_import ps w k p n ≡ true → (is_local p n ≡ false) × Means n
   by_name p n e = by (is_local p n) e
     where
       by : (b : Bool) → means_import k (given (if b then None else means (outer ps w) n) imported_by) ≡ true → (b ≡ false) × Means n

@@ -17,15 +17,15 @@ module _ {S : Type 0} where
   specs-bare no_specs = refl
   specs-bare (spec s ns t es ss) = λ v. (free_type_option-bare [] t v ++ free_exprs-bare [] es v) ++ specs-bare ss v
 
-  types-bare : (ts : List (TypeSpec S)) → types_looked_up (map bare_type_spec ts) ≡ types_looked_up ts
+  pub types-bare : (ts : List (TypeSpec S)) → types_looked_up (map bare_type_spec ts) ≡ types_looked_up ts
   types-bare [] = refl
   types-bare (t ∷ ts) = λ v. free_type-bare [] t.of v ++ types-bare ts v
 
-  receiver-bare : (r : Option (Receiver S)) → receiver_looked_up (option_map bare_receiver r) ≡ receiver_looked_up r
+  pub receiver-bare : (r : Option (Receiver S)) → receiver_looked_up (option_map bare_receiver r) ≡ receiver_looked_up r
   receiver-bare None = refl
   receiver-bare (Some r) = refl
 
-  named-bare : (r : Option (Receiver S)) → receiver_names (option_map bare_receiver r) ≡ receiver_names r
+  pub named-bare : (r : Option (Receiver S)) → receiver_names (option_map bare_receiver r) ≡ receiver_names r
   named-bare None = refl
   named-bare (Some r) = by r.name
     where

@@ -5,8 +5,8 @@ use Rattle.std.specs.Prelude.{◌≡◌, refl, ℕ, suc, Bool, true, false, ◌|
 use mathlib.Core.Path.{ap, sym, ◌∙◌, subst}
 use Rattle.std.proofs.Common.{arith}
 use Rattle.std.proofs.lemmas.Slice.Eq.{bytes_eq-Decides}
-use Rattle.go_tree.specs.Tree.{TypeExpr, Expr, Exprs, no_exprs, expr_and, Stmts, ValueSpecs}
-use Rattle.go_tree.specs.File.{TypeSpec, Receiver, Func, Decl, func, File}
+use Rattle.go_tree.specs.Tree.{TypeExpr, Expr, Exprs, no_exprs, expr_and, Stmts, const_decl, var_decl, empty, eval, step, assign, define, return_, break_, continue_, inner, if_, for_, range_, switch, defer, label, ValueSpecs, no_specs, spec}
+use Rattle.go_tree.specs.File.{TypeSpec, Receiver, Func, Decl, values, types, func, File}
 use Rattle.go_tree.specs.ScopeNames.Means.{Environment}
 use Rattle.go_tree.specs.ScopeNames.FreeNames.{sig_names, free_params, free_type_option}
 use Rattle.pkg_graph.specs.Package.{Package}
@@ -42,8 +42,6 @@ use Rattle.constant_steps.proofs.StepLaws.Standing.{all-stands, stmts-stands}
 use Rattle.constant_steps.proofs.StepLaws.Swapping.{written-same, sig-same}
 use Rattle.constant_steps.proofs.StepLaws.UsesAnswered.{NamedThere, named-there, put-there, stmt-stays, group-stays}
 use Rattle.constant_steps.proofs.StepLaws.Walking.{all-walk, stmts-walk}
-use Rattle.constant_steps.specs.Alone.{SingleSpecs, no_constants, and_constant, and_typed, and_repeated, SingleVariables, no_variables, and_variable, PlainDecl, constants_alone, variables_alone, some_types}
-use Rattle.constant_steps.specs.Alone as alone
 use Rattle.constant_steps.specs.PlainUse.{AllTheUse}
 use Rattle.constant_steps.proofs.OneMore.{WithOne, one_holds}
 use Rattle.constant_steps.proofs.SimpleUses.{of_use}
@@ -139,38 +137,35 @@ module _ {S : Type 0} (same : S → S → Bool) (rs : List (Package S)) (x : Sit
     abbrev Again : Option (TypeExpr S) → Exprs S → Option (TypeExpr S) → Exprs S → Type 0
     Again t es t' es' = (m : List ℕ) → Kept m → (j : ℕ) → is_among m (free_type_option [] t ++ used_all (at (Some j)) es) ≡ is_among m (free_type_option [] t' ++ used_all (at (Some j)) es')
 
-    group_uses : (at' : S → S) (t t' : Option (TypeExpr S)) (es es' : Exprs S) → Again t es t' es' → (j : ℕ) {ss : ValueSpecs S} → SingleSpecs ss → AllKnown same z e top (constants_at_top rs q j ss) → AllTheUse same x use_ (constants_at_top rs q j ss)
+    group_uses : (at' : S → S) (t t' : Option (TypeExpr S)) (es es' : Exprs S) → Again t es t' es' → (j : ℕ) (ss : ValueSpecs S) → AllKnown same z e top (constants_at_top rs q j ss) → AllTheUse same x use_ (constants_at_top rs q j ss)
         → OneByOne {A = S × Header S} {B = S × Header S} (λ h k. Alike h.1 k.1) (constant_headers at' t es j ss) (constant_headers at' t' es' j (new_constants same rs c q j ss))
-    group_uses at' t t' es es' again j no_constants si a = no_more
-    group_uses at' t t' es es' again j (and_constant {n = n} {e = v} {ss = ss} r) si a =
-        let us : List Use = alike (value_use {S = S} q.env None) (n ∷ []) in
-        let vs : List (Seen S) = all_seen (in_constant j q) us (expr_and v no_exprs) in
-        let one : Again None (expr_and v no_exprs) None (new_all c (in_constant j q) us (expr_and v no_exprs)) =
-        (λ m d i. values_use m d (Some i) (in_constant j q) us (expr_and v no_exprs) refl refl (known_front same z e top vs (constants_at_top rs q (suc j) ss) si) (use_front same x use_ vs (constants_at_top rs q (suc j) ss) a)) in
-        and_more (refl, λ m d s t b b'. one m (d refl refl) j)
-        (group_uses at' None None (expr_and v no_exprs) (new_all c (in_constant j q) us (expr_and v no_exprs)) one (suc j) r (known_behind same z e top vs (constants_at_top rs q (suc j) ss) si) (use_behind same x use_ vs (constants_at_top rs q (suc j) ss) a))
-    group_uses at' t t' es es' again j (and_typed {n = n} {t = kind} {e = v} {ss = ss} r) si a =
-        let us : List Use = alike (value_use q.env (Some kind)) (n ∷ []) in
-        let ws : List (Seen S) = written_seen (in_constant j q) (Some kind) in
-        let vs : List (Seen S) = all_seen (in_constant j q) us (expr_and v no_exprs) in
+    group_uses at' t t' es es' again j no_specs si a = no_more
+    group_uses at' t t' es es' again j (spec s ns kind no_exprs ss) si a =
+        let ws : List (Seen S) = written_seen (in_constant j q) kind in
+        let vs : List (Seen S) = all_seen (in_constant j q) (alike (value_use q.env kind) ns) no_exprs in
         let rest : List (Seen S) = constants_at_top rs q (suc j) ss in
-        let one : Again (Some kind) (expr_and v no_exprs) (new_written c (in_constant j q) (Some kind)) (new_all c (in_constant j q) us (expr_and v no_exprs)) =
+        and_more (refl, λ m d s t b b'. again m (d refl refl) j) (group_uses at' t t' es es' again (suc j) ss (known_behind same z e top (ws ++ vs) rest si) (use_behind same x use_ (ws ++ vs) rest a))
+    group_uses at' t t' es es' again j (spec s ns kind (expr_and v more) ss) si a =
+        let us : List Use = alike (value_use q.env kind) ns in
+        let xs : Exprs S = expr_and v more in
+        let ws : List (Seen S) = written_seen (in_constant j q) kind in
+        let vs : List (Seen S) = all_seen (in_constant j q) us xs in
+        let rest : List (Seen S) = constants_at_top rs q (suc j) ss in
+        let one : Again kind xs (new_written c (in_constant j q) kind) (new_all c (in_constant j q) us xs) =
         (λ m d i.
-        after_all m (free_type_option [] (Some kind)) (used_all (at (Some i)) (expr_and v no_exprs)) (used_all (at (Some i)) (new_all c (in_constant j q) us (expr_and v no_exprs)))
-        (values_use m d (Some i) (in_constant j q) us (expr_and v no_exprs) refl refl (known_behind same z e top ws vs (known_front same z e top (ws ++ vs) rest si)) (use_behind same x use_ ws vs (use_front same x use_ (ws ++ vs) rest a)))
-        ∙ ap (λ w. is_among m (free_type_option [] w ++ used_all (at (Some i)) (new_all c (in_constant j q) us (expr_and v no_exprs)))) (sym (written_uses (in_constant j q) (Some kind)))) in
+        after_all m (free_type_option [] kind) (used_all (at (Some i)) xs) (used_all (at (Some i)) (new_all c (in_constant j q) us xs))
+        (values_use m d (Some i) (in_constant j q) us xs refl refl (known_behind same z e top ws vs (known_front same z e top (ws ++ vs) rest si)) (use_behind same x use_ ws vs (use_front same x use_ (ws ++ vs) rest a)))
+        ∙ ap (λ w. is_among m (free_type_option [] w ++ used_all (at (Some i)) (new_all c (in_constant j q) us xs))) (sym (written_uses (in_constant j q) kind))) in
         and_more (refl, λ m d s t b b'. one m (d refl refl) j)
-        (group_uses at' (Some kind) (new_written c (in_constant j q) (Some kind)) (expr_and v no_exprs) (new_all c (in_constant j q) us (expr_and v no_exprs)) one (suc j) r (known_behind same z e top (ws ++ vs) rest si) (use_behind same x use_ (ws ++ vs) rest a))
-    group_uses at' t t' es es' again j (and_repeated {n = n} {ss = ss} r) si a =
-        and_more (refl, λ m d s t b b'. again m (d refl refl) j) (group_uses at' t t' es es' again (suc j) r si a)
+        (group_uses at' kind (new_written c (in_constant j q) kind) xs (new_all c (in_constant j q) us xs) one (suc j) ss (known_behind same z e top (ws ++ vs) rest si) (use_behind same x use_ (ws ++ vs) rest a))
 
     -- ---- variables and types
 
-    variables_use : (at' : S → S) {ss : ValueSpecs S} → SingleVariables ss → AllKnown same z e top (variables_at_top rs q ss) → AllTheUse same x use_ (variables_at_top rs q ss)
+    variables_use : (at' : S → S) (ss : ValueSpecs S) → AllKnown same z e top (variables_at_top rs q ss) → AllTheUse same x use_ (variables_at_top rs q ss)
         → OneByOne {A = S × Header S} {B = S × Header S} (λ h k. Alike h.1 k.1) (variable_headers at' ss) (variable_headers at' (new_variables same rs c q ss))
-    variables_use at' no_variables si a = no_more
-    variables_use at' (and_variable {n = n} {t = t} {es = es} {ss = ss} r) si a =
-        let us : List Use = alike (value_use q.env t) (n ∷ []) in
+    variables_use at' no_specs si a = no_more
+    variables_use at' (spec s ns t es ss) si a =
+        let us : List Use = alike (value_use q.env t) ns in
         let ws : List (Seen S) = written_seen q t in
         let vs : List (Seen S) = all_seen q us es in
         let rest : List (Seen S) = variables_at_top rs q ss in
@@ -180,7 +175,7 @@ module _ {S : Type 0} (same : S → S → Bool) (rs : List (Package S)) (x : Sit
               after_all m (free_type_option [] t) (used_all (at None) es) (used_all (at None) (new_all c q us es)) (values_use m (d refl refl) None q us es refl refl (known_behind same z e top ws vs (known_front same z e top (ws ++ vs) rest si)) (use_behind same x use_ ws vs (use_front same x use_ (ws ++ vs) rest a)))
               ∙ ap (λ w. is_among m (free_type_option [] w ++ used_all (at None) (new_all c q us es))) (sym (written_uses q t)),
         )
-        (variables_use at' r (known_behind same z e top (ws ++ vs) rest si) (use_behind same x use_ (ws ++ vs) rest a))
+        (variables_use at' ss (known_behind same z e top (ws ++ vs) rest si) (use_behind same x use_ (ws ++ vs) rest a))
 
     types_use : (at' : TypeSpec S → S) (ts : List (TypeSpec S)) → OneByOne {A = S × Header S} {B = S × Header S} (λ h k. Alike h.1 k.1) (map (λ t. (at' t, a_type_spec t)) ts) (map (λ t. (at' t, a_type_spec t)) (map (new_type_spec same rs c q) ts))
     types_use at' [] = no_more
@@ -219,9 +214,24 @@ module _ {S : Type 0} (same : S → S → Bool) (rs : List (Package S)) (x : Sit
               ((without_alike (bound f) (body_uses m (d refl refl) f t b (known_behind same z e top (r ++ g) bs si) (use_behind same x use_ (r ++ g) bs a))).each m (among_append m (bound f) (m ∷ []) ∙ or_right (is_among m (bound f)) (is_among m (m ∷ [])) (among_itself m))),
         )
 
-    -- the headers of a plain declaration use what they did, of the names that aren't touched
-    pub decl_uses : {d : Decl S} → PlainDecl d → AllKnown same z e top (decl_seen rs K pk tree d) → AllTheUse same x use_ (decl_seen rs K pk tree d) → OneByOne {A = S × Header S} {B = S × Header S} (λ h k. Alike h.1 k.1) (headers d) (headers (new_decl same rs c K pk tree d))
-    decl_uses (constants_alone {s = at'} {g = g} r) si a = group_uses (at_member g at') None None no_exprs no_exprs (λ m d j. refl) 0 r si a
-    decl_uses (variables_alone {s = at'} {g = g} r) si a = variables_use (at_member g at') r si a
-    decl_uses (some_types {s = at'} {g = g} {ts = ts}) si a = types_use (λ t. at_member g at' t.span) ts
-    decl_uses (alone.a_function {f = f}) si a = let y : Alike (a_func f) (a_func (record f { body = new_body f })) = func_uses f si a in and_more (subst (λ g. Alike (a_func f) (a_func g)) (func_same f) y) no_more
+    -- the headers of a declaration use what they did, of the names that aren't touched
+    pub decl_uses : (d : Decl S) → AllKnown same z e top (decl_seen rs K pk tree d) → AllTheUse same x use_ (decl_seen rs K pk tree d) → OneByOne {A = S × Header S} {B = S × Header S} (λ h k. Alike h.1 k.1) (headers d) (headers (new_decl same rs c K pk tree d))
+    decl_uses (values (const_decl at' g ss)) si a = group_uses (at_member g at') None None no_exprs no_exprs (λ m d j. refl) 0 ss si a
+    decl_uses (values (var_decl at' g ss)) si a = variables_use (at_member g at') ss si a
+    decl_uses (values (empty _)) si a = no_more
+    decl_uses (values (eval _ _)) si a = no_more
+    decl_uses (values (step _ _ _)) si a = no_more
+    decl_uses (values (assign _ _ _ _)) si a = no_more
+    decl_uses (values (define _ _ _)) si a = no_more
+    decl_uses (values (return_ _ _)) si a = no_more
+    decl_uses (values (break_ _ _)) si a = no_more
+    decl_uses (values (continue_ _ _)) si a = no_more
+    decl_uses (values (inner _ _)) si a = no_more
+    decl_uses (values (if_ _ _ _)) si a = no_more
+    decl_uses (values (for_ _ _ _ _ _ _)) si a = no_more
+    decl_uses (values (range_ _ _ _ _ _)) si a = no_more
+    decl_uses (values (switch _ _ _ _)) si a = no_more
+    decl_uses (values (defer _ _)) si a = no_more
+    decl_uses (values (label _ _ _)) si a = no_more
+    decl_uses (types at' g ts) si a = types_use (λ t. at_member g at' t.span) ts
+    decl_uses (func f) si a = let y : Alike (a_func f) (a_func (record f { body = new_body f })) = func_uses f si a in and_more (subst (λ g. Alike (a_func f) (a_func g)) (func_same f) y) no_more

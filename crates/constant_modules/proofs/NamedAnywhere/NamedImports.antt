@@ -39,10 +39,10 @@ use Rattle.constant_steps.proofs.StepLaws.FurtherApart.{further-apart}
 use Rattle.constant_steps.proofs.StepLaws.StepInPlace.{program-by}
 use Rattle.constant_steps.proofs.StepLaws.StepMeaning.{distinct-before}
 use Rattle.constant_steps.proofs.StepLaws.StepSwaps.{known-constant-means-the-same}
-use Rattle.constant_steps.proofs.StepLaws.StepUses.{step-with-uses, use-of-constant}
+use Rattle.constant_steps.proofs.StepLaws.StepUses.{step-with-uses}
 use Rattle.constant_steps.proofs.StepLaws.SwapProgram.{sources-before}
 use Rattle.constant_steps.specs.PlainUse.{linked_at}
-use Rattle.constant_steps.proofs.AfterStep.{at_package, at_nth, plain_file, plain_decl}
+use Rattle.constant_steps.proofs.AfterStep.{at_package, at_nth}
 use Rattle.constant_steps.proofs.ImportsKept.{AllDiffer, all_differ}
 use Rattle.constant_steps.proofs.MarksFound.{nth_mapped}
 use Rattle.constant_steps.proofs.PlainImports.{distinct_sources}
@@ -54,8 +54,8 @@ use Rattle.constant_steps.proofs.QualifiedSteps.MembersNamed.{OwnName, own_name}
 use Rattle.constant_steps.proofs.QualifiedSteps.Small.{or_left, or_right}
 use Rattle.constant_modules.specs.NamedAnywhere.Use.{NamedUseAnywhere, PartsStand, ConstantUse, ImportsStayAnywhere, PackagesStandAnywhere, same_before, still_used}
 use Rattle.constant_modules.proofs.NamedAnywhere.HeadersUse.{decl_uses}
-use Rattle.constant_modules.proofs.NamedAnywhere.Swaps.{not_init, all_typed, sound_there, typed_swaps}
-use Rattle.constant_modules.proofs.NamedAnywhere.UsesKnown.{put_named, use_before, stand_beside}
+use Rattle.constant_modules.proofs.NamedAnywhere.Swaps.{all_typed, known_in, sound_there, typed_swaps}
+use Rattle.constant_modules.proofs.NamedAnywhere.UsesKnown.{put_named}
 
 all_front : {S : Type 0} (f : SourcePackage S → Bool) (xs ys : Program S) → list_all f (xs ++ ys) ≡ true → list_all f xs ≡ true
 all_front f [] ys q = refl
@@ -110,8 +110,7 @@ module _ {S : Type 0} (same : S → S → Bool) (commented : ℕ → ℕ → S �
 
   use_there : UseThere top x.place u.use_ e
   use_there =
-      use-of-constant all _ u.constant u.text w top x.place u.use_ e
-      (use_before same commented rs marks x u v all (stand_beside same commented rs marks x u (sources ms) (sources Q) a) (sound_there same commented rs marks x u v (sources ms) (sources Q) a well) (not_init same commented rs marks x u v (sources ms) (sources Q) a (all_typed same commented rs marks x u v (sources ms) (sources Q) a well)) w at_last)
+      (known_in same commented rs marks x u v (sources ms) (sources Q) a (all_typed same commented rs marks x u v (sources ms) (sources Q) a well) (sound_there same commented rs marks x u v (sources ms) (sources Q) a well) w at_last).use_
 
   abbrev D : List ℕ → Type 0
   D m = Untouched u.use_ e use_there.old use_there.new m
@@ -131,7 +130,7 @@ module _ {S : Type 0} (same : S → S → Bool) (commented : ℕ → ℕ → S �
   changed_uses : (j : ℕ) → M ≡ j → DeclBy H itself change K (is_main p) j is v.decl
   changed_uses j q =
       subst (λ i. DeclBy H itself change K (is_main p) i is v.decl) q
-      (decl_uses same rs x u.use_ e K x.at.of tree w (is_main p) M is use_there (plain_decl x.decl tree.decls v.decl (plain_file M p.files (linked_file rs x.at.source) v.plain file_there) v.decl_there) (t.before w at_last) v.alone)
+      (decl_uses same rs x u.use_ e K x.at.of tree w (is_main p) M is use_there v.decl (t.before w at_last) v.alone)
 
   files_by_uses : (i j : ℕ) (fs : List (SourceFile S)) → M ≡ i + j → slice_get fs j ≡ Some (linked_file rs x.at.source) → DeclOfFilesBy H itself change K (is_main p) members i j x.decl fs
   files_by_uses i j [] q r = tt

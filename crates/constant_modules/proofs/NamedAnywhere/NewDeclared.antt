@@ -16,13 +16,14 @@ use Rattle.run_rules.specs.Rewriting.{Changes}
 use Rattle.run_rules.specs.Sites.{MarkRef, Where}
 use Rattle.run_rules.specs.Steps.{change_nth, new_constants, new_decl}
 use Rattle.constant_steps.specs.StepLaws.DeclStands.{decl_changed}
-use Rattle.constant_steps.specs.Alone.{PlainFiles, block_from, PackageAt}
+use Rattle.constant_steps.specs.Alone.{block_from, PackageAt}
 use Rattle.constant_steps.specs.PlainUse.{linked_at}
-use Rattle.constant_steps.proofs.AfterStep.{nth_changed, nth_stays, files_named}
+use Rattle.constant_steps.proofs.AfterStep.{nth_changed, nth_stays}
 use Rattle.constant_steps.proofs.MarksFound.{nth_mapped}
 use Rattle.constant_steps.proofs.NamesOutside.{equal_numbers}
 use Rattle.constant_steps.proofs.QualifiedSteps.PackagesAfter.{after}
 use Rattle.constant_modules.proofs.ConstantNames.Members.{program_constant}
+use Rattle.constant_modules.proofs.ConstantsOfGroups.NamesKept.{files_named}
 
 module _ {S : Type 0} (rs : List (Package S)) (w : Where S) (s : S) (m : MarkRef) (n : List ℕ) (z : S) (g : Bool) (ss : ValueSpecs S) (file_there : slice_get w.of.files m.file ≡ Some w.source) (declared : slice_get w.source.tree.decls m.decl ≡ Some (values (const_decl z g ss)))
     (block : means (block_from w.number 0 (map (linked_file rs) w.of.files)) n ≡ Some (member w.number m.file m.decl m.item)) where
@@ -73,8 +74,8 @@ module _ {S : Type 0} (rs : List (Package S)) (w : Where S) (s : S) (m : MarkRef
     in_package true t = in_file (equal_numbers m.file M t) (nat_eq m.decl N) refl
     in_package false t = record { file = source; file_is = nth_stays (decl_changed change N) m.file M p.files t ∙ there; specs = ss; decl_is = declared }
 
-    pub meant_after : (b : Bool) → (b ≡ true → PlainFiles p.files) → (k : ℕ) (ps : Program S) → PackageAt (after same rs changes number pk tree b M N p) k ps → Meant ps
-    meant_after true plain k ps at v ended =
+    pub meant_after : (b : Bool) (k : ℕ) (ps : Program S) → PackageAt (after same rs changes number pk tree b M N p) k ps → Meant ps
+    meant_after true k ps at v ended =
         let t : There = in_package (nat_eq m.file M) refl in
-        program_constant n (after same rs changes number pk tree true M N p) k ps v ended m.file m.decl m.item t.file z g t.specs at (ap (λ l. means l n) (files_named same rs changes number pk tree w.number 0 M N (plain refl)) ∙ block) t.file_is t.decl_is
-    meant_after false plain k ps at = meant_before k ps at
+        program_constant n (after same rs changes number pk tree true M N p) k ps v ended m.file m.decl m.item t.file z g t.specs at (ap (λ l. means l n) (files_named same rs changes number pk tree w.number 0 M N p.files) ∙ block) t.file_is t.decl_is
+    meant_after false k ps at v ended = meant_before k ps at v ended

@@ -1,6 +1,6 @@
 -- The packages that a step over a constant goes through: with its imports added, with the form put, and read again,
 -- whatever the declaration of the use holds.
-use Rattle.std.proofs.Common.{◌≡◌, refl, sym, subst, ◌∙◌, ℕ, zero, suc, Bool, true, List, [], ◌∷◌, ◌++◌, map, Some}
+use Rattle.std.proofs.Common.{◌≡◌, refl, sym, subst, ◌∙◌, ◌⊎◌, inl, inr, ℕ, zero, suc, Bool, true, List, [], ◌∷◌, ◌++◌, map, Some}
 use Rattle.std.specs.Prelude.{slice_get}
 use Rattle.go_tree.specs.declared.spans.Span.{Span}
 use Rattle.go_tree.specs.Tree.{Expr}
@@ -12,7 +12,8 @@ use Rattle.pkg_graph.specs.Package.{SourceTree, import_specs}
 use Rattle.typed_in_place.specs.ProgramsAlike.{OneByOne, no_more, and_more}
 use Rattle.typed_in_place.proofs.ProgramsReplaced.{each_one, one_by_one}
 use Rattle.go_translation.specs.Packages.{Package, sources, are_distinct}
-use Rattle.run_rules.specs.Programs.{in_dependency_order, dependency_order, numbers_of, linked}
+use Rattle.go_tree.specs.GoTypes.Programs.{block_names}
+use Rattle.run_rules.specs.Programs.{in_dependency_order, dependency_order, numbered, numbers_of, linked, linked_file}
 use Rattle.run_rules.specs.Respanned.{decls_with}
 use Rattle.run_rules.specs.Sites.{MarkRef, Where, Site, part_span, where_is}
 use Rattle.run_rules.specs.Naming.{imports_added}
@@ -23,24 +24,29 @@ use Rattle.splice_laws.proofs.RunLaws.FoundSpans.{Placed}
 use Rattle.constant_steps.specs.StepLaws.SwapPrograms.{members_put}
 use Rattle.order_runs.specs.CycleRuns.StepCycles.PackagesAlike.{import_key}
 use Rattle.order_runs.proofs.CycleRuns.StepCycles.Orders.{NumberedBy, rows-by, order-by}
-use Rattle.order_runs.proofs.CycleRuns.StepCycles.StepAlike.{both-changed}
+use Rattle.order_runs.specs.CycleRuns.StepCycles.PackagesAlike.{FileAlike}
+use Rattle.order_runs.proofs.CycleRuns.StepCycles.AlikeNames.{blocks-alike}
+use Rattle.order_runs.proofs.CycleRuns.StepCycles.StepAlike.{both-changed, changed-alike, file-itself}
 use Rattle.order_runs.proofs.CycleLaws.BareWith as spans
 use Rattle.order_runs.proofs.CycleLaws.StepsLead.{change-at}
 use Rattle.constant_steps.proofs.MarksFound.{StandsThere, stands_there}
 use Rattle.constant_steps.proofs.PlainImports.{Distinct, distinct_sources}
 use Rattle.constant_steps.specs.QualifiedSteps.NamedUse.{PackageStands}
-use Rattle.order_runs.specs.CycleRuns.ImportCycles.OtherImports.{FileUnder}
-use Rattle.order_runs.specs.CycleRuns.ImportCycles.ImportSteps.{file_added, packages_added, where_added, decl_put, KeepsLookUps}
+use Rattle.order_runs.specs.CycleRuns.ImportCycles.OtherImports.{import_path}
+use Rattle.order_runs.specs.CycleRuns.ImportCycles.ImportSteps.{file_added, packages_added, where_added, decl_put, DeclaresAlike}
 use Rattle.order_runs.proofs.CycleRuns.ImportCycles.ImportStep.{placed, twice}
+use Rattle.order_runs.proofs.CycleRuns.ImportCycles.ImportStep.{decls-are as step-decls}
 use Rattle.order_runs.specs.CycleRuns.OrderCycles.Steps.{PutsTheSame}
 use Rattle.order_runs.proofs.CycleRuns.OrderCycles.StepAdded.{puts-the-same}
 use Rattle.order_runs.specs.RunSteps.Bared.{bare_package, bare_members}
-use Rattle.order_runs.specs.RunSteps.RunPackages.{members_of}
+use Rattle.order_runs.specs.RunSteps.RunPackages.{members_among, members_of}
 use Rattle.order_runs.proofs.RunSteps.MembersViewed.{sources-linked, FileView, PackageView, file-view-itself, view-itself, path-itself, PackagePath, import-by-keys, paths-viewed, linked-viewed, zipped}
 use Rattle.order_runs.proofs.RunSteps.PackageStands.{StandsAt, package-stands}
-use Rattle.order_runs.specs.ImportRuns.PathsUnder.{PathUnder, PathsUnder}
 use Rattle.order_runs.proofs.ImportRuns.Listed.{among-order}
 use Rattle.order_runs.proofs.ImportRuns.PathsAlike.{SamePath, files-change, paths-alike}
+use Rattle.constant_modules.specs.KeyedImports.Keyed.{IsFree, PackagesKeyed}
+use Rattle.constant_modules.specs.KeyedImports.Steps.{FileUnderKeyed, PathKeyed, PathsKeyed, members_added, KeepsUses}
+use Rattle.constant_modules.proofs.KeyedImports.Paths.{numbers-keyed}
 use Rattle.constant_modules.specs.NamedAnywhere.Puts.{PutsNameThere}
 use Rattle.constant_modules.specs.NamedAnywhere.Taken.{site_there}
 use Rattle.constant_modules.proofs.NamedAnywhere.NamedLinked.{named_linked}
@@ -115,23 +121,47 @@ module _ (marks : List MarkRef) (st : Standing) (l : Logged) (after : Standing) 
   abbrev pub back : List (run.Package At)
   back = changed tree_read
 
-  last-itself : (f : SourceTree At) → FileUnder back (changed n.tree) f f
-  last-itself f = record { decls = refl; imports = λ k d e m i. paths-alike (trees-alike tree_read n.tree) (import_specs f.tree) m }
+  last-itself : (members : List (List ℕ)) (f : SourceTree At) → FileUnderKeyed back (changed n.tree) members f f
+  last-itself members f = record {
+    decls = refl;
+    used = λ k d e m i. paths-alike (trees-alike tree_read n.tree) (import_specs f.tree) m;
+    keys = λ k d e m i. inl (paths-alike (trees-alike tree_read n.tree) (import_specs f.tree) m);
+  }
 
-  pub under-last : KeepsLookUps n → PathsUnder back (changed n.tree)
-  under-last kept = both-changed (PathUnder back (changed n.tree)) (λ p. record { path = refl; name = refl; files = each_one last-itself p.files }) (in_package tree_read) (in_package n.tree) x.at.number rs x.at.of here.package_is
+  -- the file as it is read again declares what it declares with the imports added
+  members-read : DeclaresAlike n → block_names (map (linked_file back) (in_package tree_read x.at.of).files) ≡ members_added rs n.found
+  members-read alike =
+      blocks-alike mid back
+      (both-changed FileAlike file-itself (with_tree (file_added n.found)) (with_tree tree_read) x.at.file_number x.at.of.files x.at.source here.file_is
+      (record { imports = refl; decls = changed-alike (decl_put rs n.found) x.decl x.at.source.tree.decls n.tree.decls (step-decls marks st l after n) alike }))
+
+  under-last : DeclaresAlike n → KeepsUses n → PathsKeyed back (changed n.tree)
+  under-last alike kept = both-changed (PathKeyed back (changed n.tree)) (λ p. record { path = refl; name = refl; files = each_one (last-itself (block_names (map (linked_file back) p.files))) p.files }) (in_package tree_read) (in_package n.tree) x.at.number rs x.at.of here.package_is
       (record {
         path = refl;
         name = refl;
-        files = both-changed (FileUnder back (changed n.tree)) last-itself (with_tree tree_read) (with_tree n.tree) x.at.file_number x.at.of.files x.at.source here.file_is
+        files = both-changed (FileUnderKeyed back (changed n.tree) (block_names (map (linked_file back) (in_package tree_read x.at.of).files))) (last-itself (block_names (map (linked_file back) (in_package tree_read x.at.of).files))) (with_tree tree_read) (with_tree n.tree) x.at.file_number x.at.of.files x.at.source here.file_is
             (record {
               decls = refl;
-              imports = λ k d e m i.
-                  paths-alike (trees-alike (file_added n.found) n.tree) (import_specs n.tree) m
-                  ∙ kept k d e m i
-                  ∙ sym (paths-alike (trees-alike (file_added n.found) tree_read) (import_specs (file_added n.found)) m);
+              used = λ k d e m i. settled m (kept.used k d e m i);
+              keys = λ k d e m i. by m (kept.keys k d e m i);
             });
       })
+    where
+      settled : (m : List ℕ) → import_path mid (import_specs n.tree) m ≡ import_path mid (import_specs (file_added n.found)) m → import_path (changed n.tree) (import_specs n.tree) m ≡ import_path back (import_specs (file_added n.found)) m
+      settled m e =
+          paths-alike (trees-alike (file_added n.found) n.tree) (import_specs n.tree) m
+          ∙ e
+          ∙ sym (paths-alike (trees-alike (file_added n.found) tree_read) (import_specs (file_added n.found)) m)
+
+      by : (m : List ℕ) → (import_path mid (import_specs n.tree) m ≡ import_path mid (import_specs (file_added n.found)) m) ⊎ IsFree (members_added rs n.found) m
+          → (import_path (changed n.tree) (import_specs n.tree) m ≡ import_path back (import_specs (file_added n.found)) m) ⊎ IsFree (block_names (map (linked_file back) (in_package tree_read x.at.of).files)) m
+      by m (inl e) = inl (settled m e)
+      by m (inr f) = inr (subst (λ (members : List (List ℕ)). IsFree members m) (sym (members-read alike)) f)
+
+  -- packages by their numbers, before imports go and after
+  pub keyed-last : DeclaresAlike n → KeepsUses n → PackagesKeyed (members_among back (numbered back)) (members_among (changed n.tree) (numbered (changed n.tree)))
+  keyed-last alike kept = numbers-keyed back (changed n.tree) (under-last alike kept)
 
   -- ---- the form is put
 

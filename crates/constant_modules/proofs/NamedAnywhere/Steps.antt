@@ -20,20 +20,25 @@ use Rattle.order_runs.specs.RunSteps.RunPackages.{members_among, members_of, pac
 use Rattle.order_runs.proofs.RunSteps.PackageStands.{distinct-front}
 use Rattle.order_runs.proofs.RunSteps.SpansForgotten.{beside-alike}
 use Rattle.typed_in_place.proofs.ProgramsReplaced.{one_by_one}
-use Rattle.order_runs.specs.ImportCodes.PackagesMoved.{PackagesMoved, ImportsStand}
-use Rattle.order_runs.proofs.ImportCodes.PackagesCode.{beside, number-among, sources-append}
+use Rattle.order_runs.specs.ImportCodes.PackagesMoved.{ImportsStand}
+use Rattle.order_runs.proofs.ImportCodes.PackagesCode.{sources-append}
 use Rattle.order_runs.proofs.ImportCodes.LinkedBeside.{linked-beside}
 use Rattle.order_runs.proofs.ImportSteps.TypedUnder.{AllTyped}
-use Rattle.order_runs.proofs.ImportSteps.Links.{moved-link, declarations-of, bare-link, put-link, any-number}
+use Rattle.order_runs.proofs.ImportSteps.Links.{declarations-of, bare-link, put-link, any-number}
 use Rattle.order_runs.proofs.ImportSteps.ImportingSteps.{put-numbers}
 use Rattle.constant_steps.specs.Alone.{PackageAt}
 use Rattle.constant_steps.specs.PlainUse.{linked_at}
+use Rattle.typed_in_place.specs.ImportRule.{declarations_ok}
+use Rattle.constant_modules.specs.KeyedImports.Keyed.{PackagesKeyed}
+use Rattle.constant_modules.proofs.KeyedImports.Packages.{keyed-beside, keyed-link}
+use Rattle.constant_modules.proofs.KeyedImports.Packages.{number-among as keyed-number}
 use Rattle.constant_modules.specs.NamedAnywhere.Puts.{PutsNameThere}
 use Rattle.constant_modules.specs.NamedAnywhere.Taken.{TakesNameThere, TakesNameAnywhere}
 use Rattle.constant_modules.specs.NamedAnywhere.Use.{PartsStand, PackagesStandAnywhere}
 use Rattle.order_runs.proofs.RunSteps.MembersViewed.{sources-linked}
 use Rattle.constant_modules.proofs.NamedAnywhere.Added as added
-use Rattle.constant_modules.proofs.NamedAnywhere.Added.{numbers-moved, linked-of, reordered-own}
+use Rattle.constant_modules.proofs.NamedAnywhere.Added.{linked-of, reordered-own}
+use Rattle.constant_modules.proofs.NamedAnywhere.NamesDeclared.{declares_alike}
 use Rattle.constant_modules.proofs.NamedAnywhere.Nexts as next
 use Rattle.constant_modules.proofs.NamedAnywhere.Puts.{puts_of}
 use Rattle.constant_modules.proofs.NamedAnywhere.Swaps.{swaps_there}
@@ -63,7 +68,7 @@ module _ (marks : List MarkRef) (st : Standing) (l : Logged) (after : Standing) 
     d3 : are_distinct (members_of mid ++ Q) ≡ true
     d3 = added.added-distinct marks st l after n h.names Q w
 
-    own-distinct : are_distinct (members_of mid) ≡ true
+    pub own-distinct : are_distinct (members_of mid) ≡ true
     own-distinct = added.own-distinct marks st l after n h.names Q w
 
     all-typed : AllTyped (members_of mid ++ Q)
@@ -98,16 +103,16 @@ module _ (marks : List MarkRef) (st : Standing) (l : Logged) (after : Standing) 
     k5 : Likened (put ++ Q) (members_of back ++ Q)
     k5 = likened-link (bare-link (put ++ Q) (members_of back ++ Q) (beside-alike put (members_of back) Q (next.read-again marks st l after n h own-distinct)))
 
-    d5 : are_distinct (members_of back ++ Q) ≡ true
+    pub d5 : are_distinct (members_of back ++ Q) ≡ true
     d5 = sym (k4.distinct ∙ k5.distinct) ∙ d3
 
-    r6 : PackagesReordered (members_of back ++ Q) (members_among back (numbered back) ++ Q)
+    pub r6 : PackagesReordered (members_of back ++ Q) (members_among back (numbered back) ++ Q)
     r6 = to-numbers back Q ordered-back d5
 
-    k6 : Likened (members_of back ++ Q) (members_among back (numbered back) ++ Q)
+    pub k6 : Likened (members_of back ++ Q) (members_among back (numbered back) ++ Q)
     k6 = likened-reordered (members_of back ++ Q) (members_among back (numbered back) ++ Q) d5 r6
 
-    to-back : Likened (members_of rs ++ Q) (members_among back (numbered back) ++ Q)
+    pub to-back : Likened (members_of rs ++ Q) (members_among back (numbered back) ++ Q)
     to-back = likened-then (added.added-likened marks st l after n h.names Q w) (likened-then k4 (likened-then k5 k6))
 
     -- ---- with the form put
@@ -144,16 +149,29 @@ module _ (marks : List MarkRef) (st : Standing) (l : Logged) (after : Standing) 
   ordered-last = subst AllOrdered n.packages_are h.names.ordered_after
 
   module _ (Q : List (Package At)) (w : are_well_typed (members_of before ++ Q) ≡ true) where
-    m7 : PackagesMoved (members_among read (numbered read)) (members_among last (numbered last))
-    m7 = numbers-moved read last (next.under-last marks st l after n p h.names.kept_names)
+    pub m7 : PackagesKeyed (members_among read (numbered read)) (members_among last (numbered last))
+    m7 = next.keyed-last marks st l after n p (declares_alike marks st l after n p) h.names.kept
 
-    k7 : Likened (members_among read (numbered read) ++ Q) (members_among last (numbered last) ++ Q)
-    k7 = likened-link (moved-link (members_among read (numbered read) ++ Q) (members_among last (numbered last) ++ Q) (beside Q (members_among read (numbered read)) (members_among last (numbered last)) m7) (sym (to-back marks st l after n p Q w).typed ∙ declarations-of (members_of before ++ Q) w))
+    -- the packages by their numbers, beside further ones
+    abbrev by_numbers : List (Package At)
+    by_numbers = members_among read (numbered read) ++ Q
+
+    pub d6 : are_distinct by_numbers ≡ true
+    d6 = sym (k6 marks st l after n p Q w).distinct ∙ d5 marks st l after n p Q w
+
+    pub typed-back : declarations_ok (sources by_numbers) ≡ true
+    typed-back = sym (to-back marks st l after n p Q w).typed ∙ declarations-of (members_of before ++ Q) w
+
+    pub keyed : PackagesKeyed by_numbers (members_among last (numbered last) ++ Q)
+    keyed = keyed-beside Q (members_among read (numbered read)) (members_among last (numbered last)) m7
+
+    k7 : Likened by_numbers (members_among last (numbered last) ++ Q)
+    k7 = likened-link (keyed-link by_numbers (members_among last (numbered last) ++ Q) d6 keyed typed-back)
 
     d7 : are_distinct (members_among last (numbered last) ++ Q) ≡ true
     d7 = sym ((k6 marks st l after n p Q w).distinct ∙ k7.distinct) ∙ d5 marks st l after n p Q w
 
-    r8 : PackagesReordered (members_among last (numbered last) ++ Q) (members_of last ++ Q)
+    pub r8 : PackagesReordered (members_among last (numbered last) ++ Q) (members_of last ++ Q)
     r8 = from-numbers last Q ordered-last d7
 
     k8 : Likened (members_among last (numbered last) ++ Q) (members_of last ++ Q)
@@ -186,7 +204,7 @@ module _ (marks : List MarkRef) (st : Standing) (l : Logged) (after : Standing) 
         ∙ put-numbers same_here (mid marks st l after n p) (part_span use_at.part) h.use_.new use_at.at.number use_at.at.of use_at.at.source.tree (k marks st l after n p Q w) use_at.at.file_number use_at.decl x (members_of (mid marks st l after n p))
         ∙ (any-number x with_form ∙ (λ z. list_any (has_number x) (next.read-again marks st l after n p (own-distinct marks st l after n p Q w) z)) ∙ sym (any-number x (members_of read)))
         ∙ reordered-own read (ordered-back marks st l after n p) back-distinct x
-        ∙ number-among x (m7 Q w)
+        ∙ keyed-number x (m7 Q w)
         ∙ sym (reordered-own last ordered-last last-distinct x)
 
     pub numbers-after : (x : ℕ) → list_any (has_number x) (members_of before) ≡ list_any (has_number x) (members_of after.packages)

@@ -1,5 +1,5 @@
 -- What a run over constants in declarations of any form keeps, from a module that reads, and that it inlines the module.
-use Rattle.std.proofs.Common.{◌≡◌, refl, ◌∙◌, true, List}
+use Rattle.std.proofs.Common.{inl, ◌≡◌, refl, ◌∙◌, true, List}
 use Rattle.go_translation.specs.Packages.{sources, are_well_typed}
 use Rattle.run_rules.specs.Cycles.{is_recursive}
 use Rattle.run_rules.specs.Programs.{linked}
@@ -23,6 +23,8 @@ use Rattle.printed_constants.proofs.TypedParts.MarkedRuns.ReadyModules.Typed.{li
 use Rattle.constant_modules.specs.NamedAnywhere.Marked.{AllTakeAnywhere}
 use Rattle.constant_modules.specs.NamedAnywhere.MarkedLaws.{RunsAnywhereKeep, RunsAnywhereInline}
 use Rattle.constant_modules.specs.NamedAnywhere.Taken.{site_there, TakesNameAnywhere, EachTakesAnywhere}
+use Rattle.constant_modules.specs.NamesAndKeys.Marked.{used_name, key_name}
+use Rattle.constant_modules.proofs.KeyedImports.Free.{marked-looked}
 use Rattle.constant_modules.proofs.NamedAnywhere.OwnExpressions.{as_use}
 use Rattle.constant_modules.proofs.NamedAnywhere.PartsKnown.{simple_stand}
 use Rattle.constant_modules.proofs.NamedAnywhere.TakenRuns.{typed-next, module-keeps}
@@ -35,20 +37,29 @@ module _ (marks : List MarkRef) (st : Standing) (l : Logged) (after : Standing) 
     there =
         record {
           place = h.place;
-          use_ = as_use same_here (is_commented st) (packages_added st.packages n.found) marks (site_there n.found h.place) h.use_;
+          use_ = as_use same_here (is_commented st) (packages_added st.packages n.found) marks (site_there n.found h.place) h.use_ h.stands.home_plain;
           stands =
               record {
                 package_there = h.stands.package_there;
                 file_there = h.stands.file_there;
                 decl = h.stands.decl;
                 decl_there = h.stands.decl_there;
-                plain = h.stands.plain;
-                home_plain = h.stands.home_plain;
                 alone = h.stands.alone;
               };
           parts = λ Q w s k at. simple_stand same_here (packages_added st.packages n.found) (site_there n.found h.place) h.use_.new h.stands.decl k (linked (packages_added st.packages n.found)) (sources Q) h.stands.simple;
           form = h.form;
-          names = h.names;
+          names =
+              record {
+                new_names = h.names.new_names;
+                kept =
+                    record {
+                      used = λ k d e m i. h.names.kept_names k d e m (marked-looked (used_name m) d i);
+                      keys = λ k d e m i. inl (h.names.kept_names k d e m (marked-looked (key_name m) d i));
+                    };
+                ordered = h.names.ordered;
+                ordered_added = h.names.ordered_added;
+                ordered_after = h.names.ordered_after;
+              };
           file_sound = h.file_sound;
           home_sound = h.home_sound;
         };

@@ -13,7 +13,6 @@ use Rattle.run_rules.specs.Run.{Standing, Logged, Next, Run, ends, goes_on, here
 use Rattle.order_runs.specs.RunSteps.RunPackages.{members_of}
 use Rattle.printed_constants.specs.TypedParts.MarkedRuns.NamedMarks.Named.{AllNamed}
 use Rattle.printed_constants.specs.TypedParts.MarkedRuns.SettledConstants.Programs.{IsReady}
-use Rattle.order_runs.specs.CycleRuns.OrderCycles.Steps.{KeepsImportLookUps}
 use Rattle.order_runs.specs.CycleRuns.OrderCycles.NewNames.{NamesByPath, AvoidsFew}
 use Rattle.order_runs.proofs.CycleRuns.Runs.{linked-names}
 use Rattle.go_tree.specs.declared.spans.Span.{Span}
@@ -27,8 +26,6 @@ use Rattle.order_runs.specs.CycleRuns.ImportCycles.ImportSteps.{file_added, pack
 use Rattle.order_runs.proofs.CycleRuns.ImportCycles.ImportStep.{placed}
 use Rattle.printed_constants.specs.TypedParts.MarkedRuns.SoundImports.Laws.{AddedImportsMayBeDeclared}
 use Rattle.printed_constants.specs.TypedParts.MarkedRuns.SettledConstants.Laws.{ConstantsWrite}
-use Rattle.printed_constants.specs.TypedParts.MarkedRuns.KeptMarks.Laws.{StepsKeepNamed}
-use Rattle.printed_constants.proofs.TypedParts.MarkedRuns.KeptMarks.Kept.{writes, look-ups}
 use Rattle.run_rules.specs.Steps.{same_here}
 use Rattle.run_rules.specs.Run.{is_commented}
 use Rattle.order_runs.specs.CycleRuns.Linked.{WritesFile}
@@ -36,12 +33,15 @@ use Rattle.printed_constants.specs.InlinedFiles.Files.{AllWrite}
 use Rattle.printed_constants.specs.TypedParts.MarkedRuns.LinkedMembers.Laws.{HaveFiles}
 use Rattle.printed_constants.proofs.InlinedFiles.InlinedModules.Runs.{kept_inlined}
 use Rattle.printed_constants.proofs.TypedParts.MarkedRuns.LinkedMembers.Files.{read-have, step-have}
+use Rattle.constant_modules.specs.KeyedImports.StepLaws.{KeyedStepsKeepNamed}
+use Rattle.constant_modules.specs.KeyedImports.Steps.{KeepsImportUses}
 use Rattle.constant_modules.specs.NamedAnywhere.Taken.{site_there, TakesNameThere, TakesNameAnywhere, EachTakesAnywhere}
 use Rattle.constant_modules.specs.NamedAnywhere.Marked.{StandsNamedThere, StandsAnywhere, AllOverAnywhere}
 use Rattle.constant_modules.specs.NamedAnywhere.TakenLaws.{RunsAnywhereMeanTheSame}
 use Rattle.constant_modules.specs.NamedAnywhere.MarkedLaws.{StepsAnywhereStayReady, RunsOverMarksAnywhereKeep, RunsOverMarksAnywhereWrite, RunsOverMarksAnywhereInline}
 use Rattle.constant_modules.specs.NamedAnywhere.Puts.{AddsImports, PutsNameThere}
 use Rattle.constant_modules.specs.NamedAnywhere.Use.{NamedUseAnywhere}
+use Rattle.constant_modules.proofs.KeyedImports.KeptNamed.{writes, uses-kept}
 use Rattle.constant_modules.proofs.NamedAnywhere.AddedParts.{added-parts}
 use Rattle.constant_modules.proofs.NamedAnywhere.Puts.{adds_of, takes_of}
 
@@ -67,8 +67,6 @@ module _ (sound : AddedImportsMayBeDeclared) (marks : List MarkRef) (st : Standi
     file_there = change-at with_tree w.of.files w.file_number w.source here.file_is;
     decl = here.decl;
     decl_there = here.decl_is;
-    plain = h.plain;
-    home_plain = h.home_plain;
     alone = alone-there marks st l after n ready.reads h.place h.used_as h.use_.use_ h.use_.part here.decl here.decl_is (h.there here.decl here.decl_is);
   }
 
@@ -90,19 +88,19 @@ module _ (sound : AddedImportsMayBeDeclared) (marks : List MarkRef) (st : Standi
             (record { number = n.found.site.mark.«package»; of = h.use_.home.of; file_number = n.found.site.mark.file; source = h.use_.home.source }) home.package_there home.file_there;
       }
 
-pub takes-there : AddedImportsMayBeDeclared → (marks : List MarkRef) (st : Standing) (l : Logged) (after : Standing) (n : Next marks st l after) → IsReady st → HaveFiles st.packages → are_well_typed (members_of st.packages) ≡ true → AvoidsFew st.packages n.found → KeepsImportLookUps n → StandsNamedThere n → TakesNameThere n
+pub takes-there : AddedImportsMayBeDeclared → (marks : List MarkRef) (st : Standing) (l : Logged) (after : Standing) (n : Next marks st l after) → IsReady st → HaveFiles st.packages → are_well_typed (members_of st.packages) ≡ true → AvoidsFew st.packages n.found → KeepsImportUses n → StandsNamedThere n → TakesNameThere n
 takes-there sound marks st l after n ready files typed few names h = takes_of marks st l after n (puts-there sound marks st l after n ready files typed few (adds_of marks st l after n names) h) names
 
-pub takes-name : AddedImportsMayBeDeclared → (marks : List MarkRef) (st : Standing) (l : Logged) (after : Standing) (n : Next marks st l after) → IsReady st → HaveFiles st.packages → are_well_typed (members_of st.packages) ≡ true → AvoidsFew st.packages n.found → KeepsImportLookUps n → StandsAnywhere n → TakesNameAnywhere n
+pub takes-name : AddedImportsMayBeDeclared → (marks : List MarkRef) (st : Standing) (l : Logged) (after : Standing) (n : Next marks st l after) → IsReady st → HaveFiles st.packages → are_well_typed (members_of st.packages) ≡ true → AvoidsFew st.packages n.found → KeepsImportUses n → StandsAnywhere n → TakesNameAnywhere n
 takes-name sound marks st l after n ready files typed few names h = record { there = takes-there sound marks st l after n ready files typed few names h.stands; imports = h.imports }
 
-module _ (sound : AddedImportsMayBeDeclared) (write : ConstantsWrite) (step : StepsAnywhereStayReady) (keep : StepsKeepNamed) where
+module _ (sound : AddedImportsMayBeDeclared) (write : ConstantsWrite) (step : StepsAnywhereStayReady) (keep : KeyedStepsKeepNamed) where
   -- each step takes its name, and the last program is ready and well typed, its marks those of constants
   pub all-take : (marks : List MarkRef) (st last : Standing) (log : List Logged) (run : Run marks st log last) → AllOverAnywhere run → IsReady st → HaveFiles st.packages → are_well_typed (members_of st.packages) ≡ true → AllNamed st.packages marks
       → EachTakesAnywhere run × (IsReady last × ((are_well_typed (members_of last.packages) ≡ true) × AllNamed last.packages marks))
   all-take marks st _ _ (ends _ over) h ready files typed named = (tt, (ready, (typed, named)))
   all-take marks st last _ (goes_on _ next _ l log n run) h ready files typed named =
-      let takes : TakesNameAnywhere n = takes-name sound marks st l next n ready files typed h.0.few (look-ups marks st l next n h.0 write ready named) h.1.0 in
+      let takes : TakesNameAnywhere n = takes-name sound marks st l next n ready files typed h.0.few (uses-kept marks st l next n h.0 write ready named) h.1.0 in
       let r = step marks st l next n ready typed (writes marks st l next n h.0 write ready named) takes in
       let rest = all-take marks next last log run h.1.1 r.0 (step-have marks st l next n files) r.1 (keep marks st l next n ready named h.0) in
       ((takes, rest.0), rest.1)
@@ -125,7 +123,7 @@ module _ (sound : AddedImportsMayBeDeclared) (write : ConstantsWrite) (step : St
   named-write marks _ _ _ (ends st over) h ready files typed named = tt
   named-write marks _ _ _ (goes_on st next last l log n run) h ready files typed named =
       let v : WritesFile n = writes marks st l next n h.0 write ready named in
-      let takes : TakesNameAnywhere n = takes-name sound marks st l next n ready files typed h.0.few (look-ups marks st l next n h.0 write ready named) h.1.0 in
+      let takes : TakesNameAnywhere n = takes-name sound marks st l next n ready files typed h.0.few (uses-kept marks st l next n h.0 write ready named) h.1.0 in
       let r = step marks st l next n ready typed v takes in
       (v, named-write marks next last log run h.1.1 r.0 (step-have marks st l next n files) r.1 (keep marks st l next n ready named h.0))
 

@@ -13,11 +13,9 @@ use Rattle.go_tree.specs.ScopeNames.Identifiers.{expr_identifiers}
 use Rattle.pkg_graph.specs.ModuleFiles.Internal.{may_import}
 use Rattle.pkg_graph.specs.Package.{Package}
 use Rattle.go_tree.specs.GoTypes.Answers.{given, one_of, is_empty}
-use Rattle.constant_steps.specs.Alone.{type_in}
 use Rattle.constant_steps.specs.FormImports.ImportLaws.Steps.{binders_of}
 use Rattle.constant_steps.specs.FormImports.OwnNames.{AllOwn}
 use Rattle.constant_steps.specs.FormImports.Written.{NoneUnnamed}
-use Rattle.constant_steps.specs.PlainUse.{type_marked}
 use Rattle.constant_steps.specs.QualifiedSteps.MemberNames.{NamesMember}
 use Rattle.constant_steps.proofs.MarksFound.{both_none}
 use Rattle.run_rules.specs.ImportRules.Needs.{avoided}
@@ -44,6 +42,7 @@ use Rattle.printed_constants.proofs.NamedUses.Forms.{text_by, member_at}
 use Rattle.printed_constants.proofs.NamedUses.Middle.{Beside, beside, decls_now, inlinable_now}
 use Rattle.printed_constants.proofs.NamedUses.Parts.{contains_of}
 use Rattle.constant_modules.specs.ConstantNames.Members.{IsConstantMember}
+use Rattle.constant_modules.specs.ConstantsOfGroups.Groups.{written_type, marked_type}
 use Rattle.constant_modules.specs.NamedAnywhere.Taken.{site_there}
 use Rattle.constant_modules.specs.NamedAnywhere.Use.{ConstantUse}
 use Rattle.constant_modules.specs.NamedThere.There.{IsUsedThere}
@@ -69,7 +68,7 @@ nothing_again (y ∷ ys) b e = absurd (grind (arith, e))
 -- ---- a use
 
 module _ (marks : List MarkRef) (st : Standing) (l : Logged) (after : Standing) (n : Next marks st l after) (ready : IsReady st) (uses : UsesConstant n) (used_by : IsUsedByName n) (spelled : NoneUnnamed (expr_identifiers uses.value)) (few : AvoidsFew st.packages n.found) (own_names : AllOwn st.packages)
-    (use_named : NamesMember st.packages n.found.site.at n.found.site.place used_by.old n.found.site.mark) (added : AllOrdered (packages_added st.packages n.found)) (untyped : type_marked st.packages n.found.site.mark ≡ None) where
+    (use_named : NamesMember st.packages n.found.site.at n.found.site.place used_by.old n.found.site.mark) (added : AllOrdered (packages_added st.packages n.found)) (untyped : marked_type st.packages n.found.site.mark ≡ None) where
   abbrev x : Site At
   x = n.found.site
 
@@ -176,11 +175,11 @@ module _ (marks : List MarkRef) (st : Standing) (l : Logged) (after : Standing) 
       sym there.alike.again
       ∙ nothing_again x.place.again (list_any (repeats_here st.packages home w x.place) (parts_here e)) (no_obstacle (is_repeated st.packages home w x.place (parts_here e)) Repeated (clear e red).single)
 
-  untyped_mid : type_marked mid x.mark ≡ None
+  untyped_mid : marked_type mid x.mark ≡ None
   untyped_mid =
-      (λ v. given (given (b.is v) (λ (y : Where At). slice_get y.source.tree.decls x.mark.decl)) (λ (d : Decl At). type_in d x.mark.item))
-      ∙ (λ v. given (slice_get (decls_now st.packages w (file_added n.found) here.package_is here.file_is (λ k f. refl) refl x.mark home b v) x.mark.decl) (λ (d : Decl At). type_in d x.mark.item))
-      ∙ sym (λ v. given (given (uses.home_is v) (λ (y : Where At). slice_get y.source.tree.decls x.mark.decl)) (λ (d : Decl At). type_in d x.mark.item)) ∙ untyped
+      (λ v. given (given (b.is v) (λ (y : Where At). slice_get y.source.tree.decls x.mark.decl)) (λ (d : Decl At). written_type d x.mark.item))
+      ∙ (λ v. given (slice_get (decls_now st.packages w (file_added n.found) here.package_is here.file_is (λ k f. refl) refl x.mark home b v) x.mark.decl) (λ (d : Decl At). written_type d x.mark.item))
+      ∙ sym (λ v. given (given (uses.home_is v) (λ (y : Where At). slice_get y.source.tree.decls x.mark.decl)) (λ (d : Decl At). written_type d x.mark.item)) ∙ untyped
 
   module _ (e : Expr At) (declared_e : inlinable st.packages x.mark ≡ Some (a_constant uses.name e)) where
     declared_mid : inlinable mid x.mark ≡ Some (a_constant uses.name e)

@@ -18,7 +18,6 @@ use Rattle.go_tree.specs.GoTypes.Entities.{is_exported}
 use Rattle.go_tree.proofs.GoTypes.Agreeing.{from_given}
 use Rattle.constant_steps.specs.FormImports.OwnNames.{AllOwn}
 use Rattle.constant_steps.specs.FormImports.Written.{NoneUnnamed}
-use Rattle.constant_steps.specs.PlainUse.{type_marked}
 use Rattle.constant_steps.specs.QualifiedSteps.MemberNames.{NamesMember, own_member, imported_member}
 use Rattle.constant_steps.proofs.MarksFound.{member_of_mark, named_member}
 use Rattle.splice_laws.proofs.ImportSplices.FormSplices.FormsFound.{step-makes-form}
@@ -46,6 +45,7 @@ use Rattle.printed_constants.proofs.NamedUses.Forms.{text_by, member_at}
 use Rattle.printed_constants.proofs.NamedUses.Middle.{Beside, member_now}
 use Rattle.printed_constants.proofs.StandingForms.Unnamed.{behind, in_turn}
 use Rattle.constant_modules.specs.ConstantNames.Members.{IsConstantMember, NamesConstant}
+use Rattle.constant_modules.specs.ConstantsOfGroups.Groups.{marked_type}
 use Rattle.constant_modules.specs.NamedAnywhere.Taken.{site_there}
 use Rattle.constant_modules.specs.NamedThere.There.{IsUsedThere}
 use Rattle.order_runs.proofs.CycleRuns.OrderCycles.NamesAdded.{adds-new-names}
@@ -86,7 +86,7 @@ only_imports i (x ∷ xs) rest m = by (is_blank x) (only_imports (suc i) xs rest
 -- ---- a use
 
 module _ (marks : List MarkRef) (st : Standing) (l : Logged) (after : Standing) (n : Next marks st l after) (ready : IsReady st) (uses : UsesConstant n) (used_by : IsUsedByName n) (spelled : NoneUnnamed (expr_identifiers uses.value)) (few : AvoidsFew st.packages n.found) (own_names : AllOwn st.packages)
-    (use_named : NamesMember st.packages n.found.site.at n.found.site.place used_by.old n.found.site.mark) (added : AllOrdered (packages_added st.packages n.found)) (untyped : type_marked st.packages n.found.site.mark ≡ None) where
+    (use_named : NamesMember st.packages n.found.site.at n.found.site.place used_by.old n.found.site.mark) (added : AllOrdered (packages_added st.packages n.found)) (untyped : marked_type st.packages n.found.site.mark ≡ None) where
   abbrev x : Site At
   x = n.found.site
 

@@ -7,7 +7,7 @@ use Rattle.go_translation.specs.Packages.{are_well_typed}
 use Rattle.constant_steps.specs.FormImports.OwnNames.{AllOwn}
 use Rattle.constant_steps.specs.FormImports.Written.{NoneUnnamed}
 use Rattle.constant_steps.specs.QualifiedSteps.MemberNames.{NamesMember}
-use Rattle.order_runs.specs.CycleRuns.ImportCycles.ImportSteps.{packages_added, where_added}
+use Rattle.order_runs.specs.CycleRuns.ImportCycles.ImportSteps.{packages_added}
 use Rattle.order_runs.specs.CycleRuns.OrderCycles.Orders.{AllOrdered}
 use Rattle.order_runs.specs.CycleRuns.OrderedSteps.Ranks.{AddsLedTo}
 use Rattle.order_runs.specs.RunSteps.RunPackages.{members_of}
@@ -28,9 +28,8 @@ use Rattle.constant_modules.specs.ConstantNames.Members.{NamesConstant, AllNameC
 use Rattle.order_runs.specs.CycleRuns.OrderCycles.NewNames.{AvoidsFew}
 use Rattle.constant_modules.specs.NamedAnywhere.Marked.{StandsNamedThere}
 use Rattle.constant_modules.specs.NamedThere.Laws.{StepsListTheSame, ConstantUsesAreThere, ConstantUsesStandThere}
-use Rattle.constant_modules.specs.NamedThere.There.{IsUsedThere, AllUntyped, ArePlain}
+use Rattle.constant_modules.specs.NamedThere.There.{IsUsedThere, AllUntyped}
 use Rattle.constant_modules.proofs.NamedThere.Decls.{step-same}
-use Rattle.constant_modules.proofs.NamedThere.Plain.{added_plain, where_there, marked_plain}
 use Rattle.constant_modules.proofs.NamedThere.Stand.{stands_there_so}
 use Rattle.constant_modules.proofs.TypedUses.Members.{steps_name_members}
 use Rattle.constant_modules.proofs.TypedUses.NoTypes.{steps_use}
@@ -73,14 +72,12 @@ module _ (members : ConstantsNameMembers) (are_names : ConstantUsesAreNames) (ar
   pub use_there : IsUsedThere n
   use_there = stands_there_so marks st l after n ready uses used_by spelled few own use_named added (untyped n.found.site.mark is_marked) is_member is_constant
 
-  pub use_stands : ArePlain st.packages → StandsNamedThere n
-  use_stands plain = record {
+  pub use_stands : StandsNamedThere n
+  use_stands = record {
     place = use_there.place;
     use_ = use_there.use_;
     used_as = use_there.used_as;
     there = use_there.there;
-    plain = added_plain marks st l after n plain n.found.site.at.number (where_added n.found).of (where_there marks st l after n plain);
-    home_plain = marked_plain marks st l after n plain n.found.site.mark use_there.use_.home use_there.use_.home_is;
     form = use_there.form;
   }
 
@@ -88,4 +85,4 @@ pub uses_there : ConstantsNameMembers → ConstantUsesAreNames → ConstantUsesA
 uses_there members are_names are_spelled led marks st l after n ready typed own named all untyped few = use_there members are_names are_spelled led marks st l after n ready typed own named all untyped few
 
 pub uses_stand : ConstantsNameMembers → ConstantUsesAreNames → ConstantUsesAreSpelled → ConstantsAddLed → ConstantUsesStandThere
-uses_stand members are_names are_spelled led marks st l after n ready typed own named all untyped few plain = use_stands members are_names are_spelled led marks st l after n ready typed own named all untyped few plain
+uses_stand members are_names are_spelled led marks st l after n ready typed own named all untyped few = use_stands members are_names are_spelled led marks st l after n ready typed own named all untyped few

@@ -1,5 +1,4 @@
--- What a constant is declared as stands in its declaration: its identifiers are among those of the declaration. And in a
--- declaration each of whose specs has one name, a constant that is declared with its type is no named one.
+-- What a constant is declared as stands in its declaration: its identifiers are among those of the declaration.
 use Rattle.std.proofs.Common.{◌≡◌, sym, subst, ◌⊎◌, inl, inr, ℕ, zero, suc, List, [], ◌∷◌, ◌++◌, Option, Some}
 use Rattle.std.specs.Prelude.{slice_get}
 use Rattle.std.proofs.lemmas.Option.{same_Some}
@@ -10,7 +9,7 @@ use Rattle.go_tree.specs.ScopeNames.Identifiers.{type_option_identifiers, expr_i
 use Rattle.go_tree.specs.GoTypes.Agreement.{In}
 use Rattle.run_rules.specs.Sites.{Inlinable, a_constant, constant_in_spec, less, nth_constant, inlinable_in}
 use Rattle.order_runs.proofs.CycleRuns.ImportCycles.FreeIdentifiers.{in-left, in-right}
-use Rattle.constant_modules.proofs.NamedAnywhere.OwnExpressions.{no_alias}
+use Rattle.constant_modules.proofs.ConstantsOfGroups.TextsKept.{no_alias}
 
 module _ {S : Type 0} (c : NameAt S) (e : Expr S) (m : List ℕ) (among : In m (expr_identifiers e)) where
   value_is : {n : NameAt S} {y : Expr S} → a_constant n y ≡ a_constant c e → y ≡ e

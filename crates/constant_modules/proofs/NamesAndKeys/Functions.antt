@@ -194,7 +194,7 @@ bound_alike w is h r f q p s =
 
 -- ---- by the names at the top of the file
 
-module _ (w : World) (is : Environment Entity) (h : Headed Span) (r : Moved w is h) (f : Function Span) (b : BoundWith w h f f.receiver) where
+module _ {S : Type 0} (w : World) (is : Environment Entity) (h : Headed S) (r : Moved w is h) (f : Function S) (b : BoundWith w h f f.receiver) where
   abbrev top : Env
   top = env_of w h None
 
@@ -205,7 +205,7 @@ module _ (w : World) (is : Environment Entity) (h : Headed Span) (r : Moved w is
   at_top = record { bound = λ n e. apart e; here = λ n e. apart e; blank = r.blank }
 
   -- the function with a body that is this name
-  abbrev only : List ℕ → Function Span
+  abbrev only : List ℕ → Function S
   only n = record f { body = stmt_and (eval f.span (ident f.span n)) no_stmts }
 
   -- a name that the function declares around its body means the same there, and any other what it means at the top

@@ -20,7 +20,7 @@ use Rattle.go_tree.proofs.GoTypes.Agreeing.{agrees_in_block, agrees_after, decla
 use Rattle.constant_modules.proofs.NamesAndKeys.TypingMarked.{parts-alike, all_parts-alike, places-alike, declares-alike, declares_first-alike, range_declares-alike}
 use Rattle.constant_modules.proofs.NamesAndKeys.SmallMarked.{or_covers, append_in_turn, type_meant-alike, written_type-alike, func_type-alike}
 use Rattle.go_translation.specs.Mentions.{Way, Read, Stored, Deferred, Mention, variable_mention, callee_way, literal_mentions, operand_way, unary_way, beyond_names, beyond, within_names, group_mentions, own_mentions, stored_again, mentions, mentions_all, mentions_option, mentions_left, mentions_elems, mentions_key, mentions_value, mentions_stmt, mentions_stmts, mentions_first, mentions_block, mentions_range, mentions_arms, mentions_cases, mentions_specs}
-use Rattle.constant_modules.specs.NamesAndKeys.Marked.{Marked, key_name, unless_key, NoOperand, no_meaning, of_package, SameOrNone, at_head, OnMarked, marked_type, marked_type_option, marked_params, marked_expr, marked_exprs, marked_expr_option, marked_elems, marked_value, marked_value_option, marked_key, marked_stmt, marked_stmts, marked_stmt_option, marked_block_option, marked_left, marked_arms, marked_cases, marked_specs}
+use Rattle.constant_modules.specs.NamesAndKeys.Marked.{Marked, key_name, unless_key, NoOperand, no_meaning, of_package, of_refused, SameOrNone, at_head, OnMarked, marked_type, marked_type_option, marked_params, marked_expr, marked_exprs, marked_expr_option, marked_elems, marked_value, marked_value_option, marked_key, marked_stmt, marked_stmts, marked_stmt_option, marked_block_option, marked_left, marked_arms, marked_cases, marked_specs}
 use Rattle.constant_modules.proofs.NamesAndKeys.TypingMarked.{first_of, second_of, marked_alike}
 use Rattle.constant_modules.proofs.NamesAndKeys.TypingMarked.{kept}
 use Rattle.std.specs.Prelude.{Bool, true, false, ◌∷◌}
@@ -37,6 +37,11 @@ mention-key a m around n g h = by (is_among n around) refl h
     none no_meaning of_package = refl
     none of_package no_meaning = refl
     none of_package of_package = refl
+    none no_meaning of_refused = refl
+    none of_package of_refused = refl
+    none of_refused no_meaning = refl
+    none of_refused of_package = refl
+    none of_refused of_refused = refl
 
     alike : SameOrNone (means a.names n) (means m n) → variable_mention Read n (means a.names n) ≡ variable_mention Read n (means m n)
     alike (inl e) = ap (variable_mention Read n) e

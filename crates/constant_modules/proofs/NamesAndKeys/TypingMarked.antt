@@ -34,7 +34,7 @@ use Rattle.go_tree.proofs.GoTypes.Agreeing.{among_right, new_constants_cover, ne
 use Rattle.std.specs.Prelude.{bytes_eq}
 use Rattle.std.proofs.Common.{inl, inr}
 use Rattle.go_tree.specs.GoTypes.Answers.{is_among}
-use Rattle.constant_modules.specs.NamesAndKeys.Marked.{Marked, used_name, key_name, unless_marked, unless_key, NoOperand, no_meaning, of_package, SameOrNone, Within, at_head, behind, OnMarked, marked_type, marked_fields, marked_type_option, marked_params, marked_expr, marked_exprs, marked_expr_option, marked_elems, marked_value, marked_value_option, marked_key, marked_stmt, marked_stmts, marked_stmt_option, marked_block_option, marked_left, marked_arms, marked_cases, marked_specs}
+use Rattle.constant_modules.specs.NamesAndKeys.Marked.{Marked, used_name, key_name, unless_marked, unless_key, NoOperand, no_meaning, of_package, of_refused, SameOrNone, Within, at_head, behind, OnMarked, marked_type, marked_fields, marked_type_option, marked_params, marked_expr, marked_exprs, marked_expr_option, marked_elems, marked_value, marked_value_option, marked_key, marked_stmt, marked_stmts, marked_stmt_option, marked_block_option, marked_left, marked_arms, marked_cases, marked_specs}
 
 pub within-left : {x : Marked} {xs : List Marked} (ys : List Marked) → Within x xs → Within x (xs ++ ys)
 within-left ys at_head = at_head
@@ -74,6 +74,11 @@ key-operand a m around n g h = by (is_among n around) refl h
     none no_meaning of_package = refl
     none of_package no_meaning = refl
     none of_package of_package = refl
+    none no_meaning of_refused = refl
+    none of_package of_refused = refl
+    none of_refused no_meaning = refl
+    none of_refused of_package = refl
+    none of_refused of_refused = refl
 
     alike : SameOrNone (means a.names n) (means m n) → named_operand a (means a.names n) ≡ named_operand (with_names a m) (means m n)
     alike (inl e) = λ w. named_operand a (e w)

@@ -8,7 +8,7 @@ use Rattle.go_tree.specs.ScopeNames.Means.{Environment, is_blank}
 use Rattle.go_tree.specs.GoTypes.Agreement.{In}
 use Rattle.go_tree.specs.GoTypes.Answers.{is_among}
 use Rattle.go_tree.specs.GoTypes.Collect.{types_declared, collected, file_env}
-use Rattle.go_tree.specs.GoTypes.Entities.{Entity, World, Env}
+use Rattle.go_tree.specs.GoTypes.Entities.{Entity, World}
 use Rattle.go_tree.specs.GoTypes.Programs.{Header, Program, Headed, headers, all_headers, names_in, file_block, block_names, header_names, header_sound, headed, headed_file, headed_files, headed_package}
 use Rattle.go_tree.specs.GoTypes.WellTyped.{header_uses, is_used_in, well_typed}
 use Rattle.go_translation.specs.Packages.{sources, are_distinct, are_linked, are_well_typed}
@@ -31,9 +31,9 @@ use Rattle.put_nodes.proofs.ReadFiles.{decl_formed}
 use Rattle.run_rules.specs.Programs.{in_dependency_order, linked_file, linked_imports, linked_package, linked_packages, linked, world, top_env, imports_mean, decl_seen}
 use Rattle.run_rules.specs.Respanned.{decl_with}
 use Rattle.run_rules.specs.Run.{here_of}
-use Rattle.run_rules.specs.Sites.{Where, named_in}
+use Rattle.run_rules.specs.Sites.{Where}
 use Rattle.run_rules.specs.Steps.{At, uses_import, is_import_used}
-use Rattle.run_rules.specs.Surroundings.{Seen, seen, seen_type, seen_stmt}
+use Rattle.run_rules.specs.Surroundings.{Seen}
 use Rattle.splice_laws.specs.RunLaws.Reading.{FileReads}
 use Rattle.typed_in_place.specs.ImportRule.{declarations_ok, imports_ok}
 use Rattle.typed_in_place.specs.ProgramReplaced.{All}
@@ -49,13 +49,14 @@ use Rattle.constant_modules.proofs.LookUps.Uses.{its_meaning}
 use Rattle.constant_modules.proofs.CountedUses.Declared.{headers_typed}
 use Rattle.constant_modules.proofs.CountedUses.Imports.{linked_distinct, import_themselves, others_behind}
 use Rattle.constant_modules.proofs.CountedUses.Known.{put_nowhere, parts_known}
-use Rattle.constant_modules.proofs.CountedUses.Lists.{one-or, among-either}
+use Rattle.constant_modules.proofs.CountedUses.Lists.{among-either}
 use Rattle.constant_modules.proofs.CountedUses.Named.{Means}
 use Rattle.constant_modules.proofs.CountedUses.Programs.{file_is_typed}
-use Rattle.constant_modules.proofs.ApartKeys.Beside.{all_alone}
+use Rattle.constant_modules.proofs.NamesAndKeys.NotAlone.{one_known, not_alone}
+use Rattle.constant_steps.proofs.PlainImports.{Distinct}
 use Rattle.constant_modules.proofs.NamedAnywhere.Added.{nothing-behind}
 use Rattle.constant_modules.proofs.TypedUses.Decls.{typed_known}
-use Rattle.constant_modules.proofs.TypedUses.Types.{Known, AllKnown, names_mean}
+use Rattle.constant_modules.proofs.TypedUses.Types.{Known}
 use Rattle.constant_modules.proofs.NamesAndKeys.UsedStand.{Found}
 use Rattle.constant_modules.proofs.NamesAndKeys.UsedHeaders.{decl_stand}
 
@@ -156,11 +157,11 @@ module _ {S : Type 0} (ps : List (Package S)) (w : World) (v : Where S) (package
           both (inl u) = of u
           both (inr u) = r u
 
-  used_here : is_used_in w v.number v.file_number n (headed (linked ps)) ≡ true → Here
+  pub used_here : is_used_in w v.number v.file_number n (headed (linked ps)) ≡ true → Here
   used_here e = among_packages (in_dependency_order ps) (order-listed ps) e
 
 -- the declaration of a header
-of_decl : {S : Type 0} (h : S × Header S) (ds : List (Decl S)) → Among h (all_headers ds) → (i : ℕ) × (d : Decl S) × (slice_get ds i ≡ Some d) × Among h (headers d)
+pub of_decl : {S : Type 0} (h : S × Header S) (ds : List (Decl S)) → Among h (all_headers ds) → (i : ℕ) × (d : Decl S) × (slice_get ds i ≡ Some d) × Among h (headers d)
 of_decl h [] a = elim a [ ]
 of_decl {S = S} h (d ∷ ds) a = by (among-either h (headers d) (all_headers ds) a) (of_decl h ds)
   where
@@ -168,14 +169,11 @@ of_decl {S = S} h (d ∷ ds) a = by (among-either h (headers d) (all_headers ds)
     by (inl b) r = (zero, d, refl, b)
     by (inr b) r = let q = r b in (suc q.0, q.1, q.2, q.3)
 
-one_known : {S : Type 0} (top : Env) (xs : List (Seen S)) → AllKnown top xs → (x : Seen S) → Among x xs → Known top x
-one_known top [] h x i = elim i [ ]
-one_known {S = S} top (y ∷ xs) h x i = one-or i (λ e. subst (λ (z : Seen S). Known top z) (sym e) h.0) (λ j. one_known top xs h.1 x j)
+-- ---- in a program
 
--- ---- in a well-typed program
-
-module _ (ps : List (Package At)) (ordered : AllOrdered ps) (typed_so : are_well_typed (members_of ps) ≡ true) (w : Where At) (there : IsFileOf ps w) (sound : MayBeDeclared ps w)
-    (formed : (i : ℕ) (d : Decl At) → slice_get w.source.tree.decls i ≡ Some d → FormedDecl (decl_with here_of d)) (k : ℕ) (s : ImportSpec At) (g : slice_get (import_specs w.source.tree) k ≡ Some s) (named : is_blank (import_name ps s) ≡ false) where
+-- where typing counts it as used, and the declarations are typed, whatever the files import
+module _ (ps : List (Package At)) (ordered : AllOrdered ps) (ok : declarations_ok (linked ps) ≡ true) (distinct_so : are_distinct (members_of ps) ≡ true) (linked_so : are_linked [] (members_of ps) ≡ true) (w : Where At) (there : IsFileOf ps w) (sound : MayBeDeclared ps w) {B : Type 0} (to : At → B)
+    (formed : (i : ℕ) (d : Decl At) → slice_get w.source.tree.decls i ≡ Some d → FormedDecl (decl_with to d)) (k : ℕ) (s : ImportSpec At) (g : slice_get (import_specs w.source.tree) k ≡ Some s) (named : is_blank (import_name ps s) ≡ false) where
   abbrev m : List ℕ
   m = import_name ps s
 
@@ -185,67 +183,71 @@ module _ (ps : List (Package At)) (ordered : AllOrdered ps) (typed_so : are_well
   abbrev W : World
   W = collected (linked ps ++ none)
 
-  distinct : are_distinct (members_of ps) ≡ true
-  distinct = and_first (are_distinct (members_of ps)) (are_linked [] (members_of ps) && well_typed (sources (members_of ps))) typed_so
-
-  linked_so : are_linked [] (members_of ps) ≡ true
-  linked_so = and_first (are_linked [] (members_of ps)) (well_typed (sources (members_of ps))) (and_second (are_distinct (members_of ps)) (are_linked [] (members_of ps) && well_typed (sources (members_of ps))) typed_so)
+  distinct : Distinct (linked ps)
+  distinct = linked_distinct ps distinct_so
 
   distinct_more : are_distinct (members_of ps ++ []) ≡ true
-  distinct_more = (λ v. are_distinct (nothing-behind (members_of ps) v)) ∙ distinct
+  distinct_more = (λ v. are_distinct (nothing-behind (members_of ps) v)) ∙ distinct_so
 
   linked_more : are_linked [] (members_of ps ++ []) ≡ true
   linked_more = (λ v. are_linked [] (nothing-behind (members_of ps) v)) ∙ linked_so
-
-  ok : declarations_ok (linked ps) ≡ true
-  ok = and_first (declarations_ok (linked ps)) (imports_ok (linked ps)) (sym (well_typed_apart (linked ps)) ∙ linked_typed ps typed_so)
 
   typed : All (HeaderTyped (types_declared (linked ps) (headed (linked ps))) (world ps)) (headed (linked ps))
   typed = headers_typed (linked ps) ok
 
   stands : StandsAt ps w (linked ps)
-  stands = package-stands ps w w.file_number w.source there.1 (in_dependency_order ps) (among-order ps w.number w.of there.0 (ordered w.number w.of there.0)) (linked_distinct ps distinct)
-
-  used_so : is_used_in W w.number w.file_number m (headed (linked ps)) ≡ true
-  used_so = (λ v. is_used_in (collected (nothing-behind (linked ps) v)) w.number w.file_number m (headed (linked ps))) ∙ typed_used ps ordered typed_so w there.0 there.1 k s g named
-
-  found : InFile W w.number w.file_number m named w.number (imports_mean ps w.of w.source.tree) (all_headers w.source.tree.decls)
-  found = used_here ps W w there.0 there.1 m named used_so
-
-  at : (i : ℕ) × (d : Decl At) × (slice_get w.source.tree.decls i ≡ Some d) × Among found.header (headers d)
-  at = of_decl found.header w.source.tree.decls found.among
-
-  abbrev parts_there : List (Seen At)
-  parts_there = decl_seen ps w.number w.of w.source.tree at.1
-
-  part : Found m named (file_env W w.number (imports_mean ps w.of w.source.tree) None) (put_nowhere stands.at) parts_there
-  part =
-      decl_stand m named ps w W (put_nowhere stands.at) at.1
-      (parts_known ps w stands.at stands.nth none stands.there (import_themselves ps [] distinct_more linked_more) (others_behind ps [] distinct_more linked_more) typed there.1 at.0 at.1 at.2 m named)
-      found.header at.3 found.uses
+  stands = package-stands ps w w.file_number w.source there.1 (in_dependency_order ps) (among-order ps w.number w.of there.0 (ordered w.number w.of there.0)) distinct
 
   means_it : Means ps w k m
   means_it = its_meaning ps w sound k s g named
 
-  known : Known (top_env ps w.number w.of w.source.tree) part.part
-  known =
-      one_known (top_env ps w.number w.of w.source.tree) parts_there
-      (typed_known here_of ps w at.1 (formed at.0 at.1 at.2) (file_is_typed ps ordered ok (linked_distinct ps distinct) w there.0 there.1 at.0 at.1 at.2)) part.part part.among
+  -- a header of the file that uses its name
+  module _ (found : InFile W w.number w.file_number m named w.number (imports_mean ps w.of w.source.tree) (all_headers w.source.tree.decls)) where
+    at : (i : ℕ) × (d : Decl At) × (slice_get w.source.tree.decls i ≡ Some d) × Among found.header (headers d)
+    at = of_decl found.header w.source.tree.decls found.among
 
-  -- it is no name of a type alone
-  not_alone : (x : Seen At) → Known (top_env ps w.number w.of w.source.tree) x → In m (alone_part x) → ⊥
-  not_alone (seen p u e) h i = elim i [ ]
-  not_alone (seen_type p t) h i = all_alone ps ordered ok (linked_distinct ps distinct) w there.0 there.1 m k means_it p h.0.0 h.0.1 (named_in t) (names_mean p.env t h.1) i
-  not_alone (seen_stmt p t) h i = elim i [ ]
+    abbrev parts_there : List (Seen At)
+    parts_there = decl_seen ps w.number w.of w.source.tree at.1
 
-  pub used_there : is_import_used ps w w.source.tree.decls k ≡ true
-  used_there = by part.has
-    where
-      by : beside.StandsAt m part.part ⊎ In m (alone_part part.part) → is_import_used ps w w.source.tree.decls k ≡ true
-      by (inl h) =
-          any_true (λ (c : Decl At). list_any (uses_import ps w k) (decl_seen ps w.number w.of w.source.tree c)) (nth_among w.source.tree.decls at.0 at.1 at.2)
-          (any_true (uses_import ps w k) part.among (stands_uses ps w k m means_it part.part h))
-      by (inr i) = absurd (not_alone part.part known i)
+    part : Found m named (file_env W w.number (imports_mean ps w.of w.source.tree) None) (put_nowhere stands.at) parts_there
+    part =
+        decl_stand m named ps w W (put_nowhere stands.at) at.1
+        (parts_known ps w stands.at stands.nth none stands.there (import_themselves ps [] distinct_more linked_more) (others_behind ps [] distinct_more linked_more) typed there.1 at.0 at.1 at.2 m named)
+        found.header at.3 found.uses
+
+    known : Known (top_env ps w.number w.of w.source.tree) part.part
+    known =
+        one_known (top_env ps w.number w.of w.source.tree) parts_there
+        (typed_known to ps w at.1 (formed at.0 at.1 at.2) (file_is_typed ps ordered ok distinct w there.0 there.1 at.0 at.1 at.2)) part.part part.among
+
+    pub used_there : is_import_used ps w w.source.tree.decls k ≡ true
+    used_there = by part.has
+      where
+        by : beside.StandsAt m part.part ⊎ In m (alone_part part.part) → is_import_used ps w w.source.tree.decls k ≡ true
+        by (inl h) =
+            any_true (λ (c : Decl At). list_any (uses_import ps w k) (decl_seen ps w.number w.of w.source.tree c)) (nth_among w.source.tree.decls at.0 at.1 at.2)
+            (any_true (uses_import ps w k) part.among (stands_uses ps w k m means_it part.part h))
+        by (inr i) = absurd (not_alone ps ordered ok distinct w there m k means_it part.part known i)
+
+  -- so it is where typing counts it
+  pub used_by : is_used_in (collected (linked ps)) w.number w.file_number m (headed (linked ps)) ≡ true → is_import_used ps w w.source.tree.decls k ≡ true
+  used_by u = used_there (used_here ps W w there.0 there.1 m named ((λ v. is_used_in (collected (nothing-behind (linked ps) v)) w.number w.file_number m (headed (linked ps))) ∙ u))
+
+-- ---- in a well-typed program
+
+module _ (ps : List (Package At)) (ordered : AllOrdered ps) (typed_so : are_well_typed (members_of ps) ≡ true) (w : Where At) (there : IsFileOf ps w) (sound : MayBeDeclared ps w)
+    (formed : (i : ℕ) (d : Decl At) → slice_get w.source.tree.decls i ≡ Some d → FormedDecl (decl_with here_of d)) (k : ℕ) (s : ImportSpec At) (g : slice_get (import_specs w.source.tree) k ≡ Some s) (named : is_blank (import_name ps s) ≡ false) where
+  distinct_here : are_distinct (members_of ps) ≡ true
+  distinct_here = and_first (are_distinct (members_of ps)) (are_linked [] (members_of ps) && well_typed (sources (members_of ps))) typed_so
+
+  linked_here : are_linked [] (members_of ps) ≡ true
+  linked_here = and_first (are_linked [] (members_of ps)) (well_typed (sources (members_of ps))) (and_second (are_distinct (members_of ps)) (are_linked [] (members_of ps) && well_typed (sources (members_of ps))) typed_so)
+
+  ok_here : declarations_ok (linked ps) ≡ true
+  ok_here = and_first (declarations_ok (linked ps)) (imports_ok (linked ps)) (sym (well_typed_apart (linked ps)) ∙ linked_typed ps typed_so)
+
+  pub typed_stands : is_import_used ps w w.source.tree.decls k ≡ true
+  typed_stands = used_by ps ordered ok_here distinct_here linked_here w there sound here_of formed k s g named (typed_used ps ordered typed_so w there.0 there.1 k s g named)
 
 pub stays_used : ImportsThatStayStand
 stays_used marks st l after n reads ordered typed sound k s g named left =
@@ -253,4 +255,4 @@ stays_used marks st l after n reads ordered typed sound k s g named left =
     let here = placed marks st l after n in
     let f : FileReads st.texts w.source = reads w.number w.file_number w.source (record { of = w.of; package_is = here.package_is; file_is = here.file_is }) in
     stays marks st l after n reads k s g left
-    (used_there st.packages ordered typed w (here.package_is, here.file_is) sound (λ i d e. decl_formed here_of f.text w.source.tree f.reads i d e) k s g named)
+    (typed_stands st.packages ordered typed w (here.package_is, here.file_is) sound (λ i d e. decl_formed here_of f.text w.source.tree f.reads i d e) k s g named)

@@ -19,7 +19,7 @@ first_uses marks st f old ready typed all is few =
     record { home = c.home; home_is = c.home_is; name = c.name; value = c.value; declared = c.declared; as_name = c.as_name; expr = e.0; part = e.1; few = few }
 
 pub steps_over : StepsAreOverNames
-steps_over marks st l after n ready typed own all few removes =
+steps_over marks st l after n ready typed own all few kept =
     let e = steps_use marks st l after n ready typed all in
     let uses : UsesConstant n = named-used marks st l after n e.0 e.1 all in
-    record { old = e.0; part = e.1; few = few; removes = removes; spelled = form_not_blank marks st l after n own few (constant_becomes marks st l after n ready.reads uses).0 }
+    record { old = e.0; part = e.1; few = few; kept = kept; spelled = form_not_blank marks st l after n own few (constant_becomes marks st l after n ready.reads uses).0 }

@@ -18,38 +18,32 @@ use Rattle.run_rules.specs.Inlining.{ModuleReads, standing_as_read}
 use Rattle.run_rules.specs.Marks.{marks_of}
 use Rattle.run_rules.specs.Run.{Standing, Logged, Next, texts_size, the_limits}
 use Rattle.run_rules.specs.Sites.{MarkRef}
-use Rattle.run_rules.specs.Steps.{At}
 use Rattle.run_rules.specs.Texts.{FileText}
+use Rattle.constant_modules.specs.ApartKeys.Files.{keys_are_apart}
 use Rattle.constant_modules.specs.ConstantNames.Members.{AllNameConstants}
-use Rattle.constant_modules.specs.ConstantRuns.Types.{NoneHaveTypes, AreReadPlain}
 use Rattle.constant_modules.specs.NamedAnywhere.Taken.{TakesNameThere}
-use Rattle.constant_modules.specs.NamedThere.Steps.{IsOfConstants, NoneBeside}
-use Rattle.constant_modules.specs.NamedThere.There.{AllUntyped, ArePlain}
+use Rattle.constant_modules.specs.NamedThere.Steps.{IsOfConstants}
+use Rattle.constant_modules.specs.NamedThere.There.{AllUntyped}
 
 -- ---- types of marked constants
 
--- In a module that reads no type is written for a marked constant, whatever else the module declares: the mark of a
--- constant with a type is a bad one.
+-- In a module that reads no type is written for a marked constant, whatever else the module declares and whichever names
+-- share its spec: the mark of a constant with a type is a bad one.
 abbrev pub ReadConstantsHaveNoTypes : Type 0
 ReadConstantsHaveNoTypes =
     (files : List Source) (ps : List (Package Span)) (texts : List (List ℕ × FileText)) (only : List ℕ)
-    → ModuleReads files ps texts → NoneHaveTypes (standing_as_read ps texts).packages (marks_of ps texts only)
-
--- Where all declarations are plain the type that is written for a constant is that of the spec with the constant's
--- number: so marked constants for which none is written are declared without one, as named_there has it.
-abbrev pub PlainConstantsAreUntyped : Type 0
-PlainConstantsAreUntyped =
-    (ps : List (Package At)) (marks : List MarkRef) → ArePlain ps → NoneHaveTypes ps marks → AllUntyped ps marks
+    → ModuleReads files ps texts → AllUntyped (standing_as_read ps texts).packages (marks_of ps texts only)
 
 -- ---- programs of constants
 
 -- A module that reads is such a program, where the paths of its files are octets, it is well typed, no call hands on a
--- slice, all its declarations are plain, all its marks are of constants, and its texts are within the limit of a run.
+-- slice, no import has a predeclared identifier for its name that is a key in its file, all its marks are of constants,
+-- and its texts are within the limit of a run.
 abbrev pub ReadModulesAreOfConstants : Type 0
 ReadModulesAreOfConstants =
     (files : List Source) (ps : List (Package Span)) (texts : List (List ℕ × FileText)) (only : List ℕ)
     → ModuleReads files ps texts → list_all (λ f. each is_byte f.path) files ≡ true → WellTyped (packages_of ps [])
-    → UnspreadPackages ps → AreReadPlain ps → AllConstants ps (marks_of ps texts only)
+    → UnspreadPackages ps → keys_are_apart ps ≡ true → AllConstants ps (marks_of ps texts only)
     → texts_size texts ≤ the_limits.total → IsOfConstants (marks_of ps texts only) (standing_as_read ps texts)
 
 -- After a step that takes its name no marked constant is declared as a predeclared name, if each was declared as a name
@@ -60,9 +54,8 @@ StepsLeaveNoPredeclared =
     → TakesNameThere n → AllNamed st.packages marks → AllNameConstants st.packages marks
     → NoneArePredeclared after.packages marks
 
--- So a step in a program of constants leaves such a program, if no import has a name that stands beside, and the texts
--- after it are within the limit of a run.
+-- So a step in a program of constants leaves such a program, if the texts after it are within the limit of a run.
 abbrev pub StepsStayOfConstants : Type 0
 StepsStayOfConstants =
     (marks : List MarkRef) (st : Standing) (l : Logged) (after : Standing) (n : Next marks st l after)
-    → IsOfConstants marks st → NoneBeside n → texts_size after.texts ≤ the_limits.total → IsOfConstants marks after
+    → IsOfConstants marks st → texts_size after.texts ≤ the_limits.total → IsOfConstants marks after

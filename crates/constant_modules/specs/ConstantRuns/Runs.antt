@@ -1,4 +1,4 @@
--- The laws of runs over constants, in modules of any plain declarations. Each is the contract of a function of this
+-- The laws of runs over constants, in modules of any declarations. Each is the contract of a function of this
 -- crate (Go specification, Constant declarations; Import declarations; Packages; Program initialization and execution).
 use Rattle.std.specs.Prelude.{◌≡◌, ◌≤◌, true, ℕ, List, []}
 use Rattle.std.specs.List.{list_all}
@@ -17,36 +17,30 @@ use Rattle.printed_constants.specs.TypedParts.MarkedRuns.TakenNames.Laws.{KeptBy
 use Rattle.run_rules.specs.Inlining.{IsInlining}
 use Rattle.run_rules.specs.Marks.{marks_of}
 use Rattle.run_rules.specs.Respanned.{packages_with}
-use Rattle.run_rules.specs.Run.{Standing, Logged, Run, ends, goes_on, here_of, texts_size, the_limits}
+use Rattle.run_rules.specs.Run.{Standing, Logged, Run, here_of, texts_size, the_limits}
 use Rattle.run_rules.specs.Sites.{MarkRef}
 use Rattle.run_rules.specs.Texts.{FileText}
-use Rattle.constant_modules.specs.ConstantRuns.Types.{AreReadPlain}
+use Rattle.constant_modules.specs.ApartKeys.Files.{keys_are_apart}
 use Rattle.constant_modules.specs.NamedAnywhere.Marked.{AllOverAnywhere}
-use Rattle.constant_modules.specs.NamedThere.Steps.{IsOfConstants, NoneBeside}
+use Rattle.constant_modules.specs.NamedThere.Steps.{IsOfConstants}
 
--- at no step of a run an import has a name that stands beside
-abbrev pub NoneBesideAnywhere : {marks : List MarkRef} {st last : Standing} {log : List Logged}
-    → Run marks st log last → Type 0
-NoneBesideAnywhere (ends st over) = Unit {0}
-NoneBesideAnywhere (goes_on st next last l log n run) = NoneBeside n × NoneBesideAnywhere run
-
--- From a program of constants each step of such a run, whose texts stay within the limit, is over a marked constant and
+-- From a program of constants each step of a run, whose texts stay within the limit, is over a marked constant and
 -- stands as named_anywhere asks.
 abbrev pub ConstantRunsAreOver : Type 0
 ConstantRunsAreOver =
     (marks : List MarkRef) (st last : Standing) (log : List Logged) → IsOfConstants marks st
-    → (run : Run marks st log last) → StaysWithin run → NoneBesideAnywhere run → AllOverAnywhere run
+    → (run : Run marks st log last) → StaysWithin run → AllOverAnywhere run
 
--- So the inlining of a module of constants, at no step of which an import has a name that stands beside, keeps typing,
--- which marked functions lie on a cycle, and the meaning.
+-- So the inlining of a module of constants, none of whose imports has a predeclared identifier for its name that is a
+-- key in its file, keeps typing, which marked functions lie on a cycle, and the meaning: of its steps nothing is asked.
 abbrev pub ConstantInliningsKeep : Type 0
 ConstantInliningsKeep =
     (files : List Source) (ps : List (Package Span)) (texts : List (List ℕ × FileText)) (only : List ℕ)
     (after : List (List ℕ × FileText)) (report : List ℕ)
     (i : IsInlining the_limits files ps texts only after report)
     → list_all (λ f. each is_byte f.path) files ≡ true → WellTyped (packages_of ps []) → UnspreadPackages ps
-    → AreReadPlain ps → AllConstants ps (marks_of ps texts only) → texts_size texts ≤ the_limits.total
-    → NoneBesideAnywhere i.run → KeptByRun ps texts (marks_of ps texts only) i.last
+    → keys_are_apart ps ≡ true → AllConstants ps (marks_of ps texts only)
+    → texts_size texts ≤ the_limits.total → KeptByRun ps texts (marks_of ps texts only) i.last
 
 -- And it leaves files that read as a module, which is well typed and means what it meant.
 abbrev pub ConstantModulesAreInlined : Type 0
@@ -55,5 +49,6 @@ ConstantModulesAreInlined =
     (after : List (List ℕ × FileText)) (report : List ℕ)
     (i : IsInlining the_limits files ps texts only after report)
     → list_all (λ f. each is_byte f.path) files ≡ true → WellTyped (packages_of ps []) → UnspreadPackages ps
-    → AreReadPlain ps → AllConstants ps (marks_of ps texts only) → texts_size texts ≤ the_limits.total
-    → NoneBesideAnywhere i.run → IsInlinedModule files ps texts i.log after (packages_with here_of i.last.packages)
+    → keys_are_apart ps ≡ true → AllConstants ps (marks_of ps texts only)
+    → texts_size texts ≤ the_limits.total
+    → IsInlinedModule files ps texts i.log after (packages_with here_of i.last.packages)

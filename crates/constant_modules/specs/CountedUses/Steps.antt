@@ -11,14 +11,12 @@ use Rattle.order_runs.specs.RunSteps.RunPackages.{members_of, packages_of}
 use Rattle.printed_constants.specs.TypedParts.MarkedRuns.LinkedMembers.Laws.{HaveFiles, ImportsUsed}
 use Rattle.printed_constants.specs.TypedParts.MarkedRuns.NamedMarks.Named.{AllNamed}
 use Rattle.printed_constants.specs.TypedParts.MarkedRuns.SettledConstants.Programs.{IsReady}
-use Rattle.printed_constants.specs.UsedImports.Uses.{LookUpImports}
 use Rattle.run_rules.specs.Programs.{linked}
 use Rattle.run_rules.specs.Run.{Standing, Logged, Next, is_commented, texts_size, the_limits}
 use Rattle.run_rules.specs.Sites.{MarkRef, an_expr}
 use Rattle.run_rules.specs.Steps.{At, same_here, packages_between}
 use Rattle.typed_in_place.specs.ImportRule.{declarations_ok}
 use Rattle.constant_modules.specs.NamedAnywhere.Taken.{TakesNameThere, TakesNameAnywhere}
-use Rattle.constant_modules.specs.CountedUses.Typed.{NoneStandBeside}
 
 -- With the form of such a step in its place the declarations of the program are typed, whatever its files import.
 abbrev pub DeclarationsAreTypedBetween : Type 0
@@ -40,25 +38,15 @@ LiteralsStandThere =
     (marks : List MarkRef) (st : Standing) (l : Logged) (after : Standing) (n : Next marks st l after)
     → TakesNameThere n → WellTyped (packages_of st.packages []) → LiteralsStand marks st n.found
 
--- So in a ready, well-typed program whose texts are within the limit of a run the name of each import is looked up in
--- its file after a step that writes its file.
-abbrev pub ImportsStayLookedUp : Type 0
-ImportsStayLookedUp =
-    (marks : List MarkRef) (st : Standing) (l : Logged) (after : Standing) (n : Next marks st l after) (e : Expr At)
-    → n.found.site.part ≡ an_expr e → IsReady st → HaveFiles st.packages → WellTyped (packages_of st.packages [])
-    → AllNamed st.packages marks → texts_size st.texts ≤ the_limits.total → WritesFile n
-    → TakesNameThere n → LookUpImports after.packages
-
--- And each import is used as typing has it, beside all further packages, if no import of the program after the
--- step has a name that stands beside, and few names are avoided.
+-- So in a ready, well-typed program whose texts are within the limit of a run each import is used as typing has it,
+-- beside all further packages, after a step that writes its file, where few names are avoided.
 abbrev pub ImportsStayUsed : Type 0
 ImportsStayUsed =
     (marks : List MarkRef) (st : Standing) (l : Logged) (after : Standing) (n : Next marks st l after) (e : Expr At)
     → n.found.site.part ≡ an_expr e → IsReady st → HaveFiles st.packages → WellTyped (packages_of st.packages [])
     → AllNamed st.packages marks → texts_size st.texts ≤ the_limits.total → WritesFile n
-    → AvoidsFew st.packages n.found → TakesNameThere n → NoneStandBeside after.packages
-    → (more : List (translated.Package At)) → WellTyped (with_further (packages_of st.packages []) more)
-    → ImportsUsed more (members_of after.packages)
+    → AvoidsFew st.packages n.found → TakesNameThere n → (more : List (translated.Package At))
+    → WellTyped (with_further (packages_of st.packages []) more) → ImportsUsed more (members_of after.packages)
 
 -- So such a step takes its name as named_anywhere has it: that the imports are right at last isn't asked.
 abbrev pub StepsTakeNames : Type 0
@@ -66,5 +54,4 @@ StepsTakeNames =
     (marks : List MarkRef) (st : Standing) (l : Logged) (after : Standing) (n : Next marks st l after) (e : Expr At)
     → n.found.site.part ≡ an_expr e → IsReady st → HaveFiles st.packages → WellTyped (packages_of st.packages [])
     → AllNamed st.packages marks → texts_size st.texts ≤ the_limits.total → WritesFile n
-    → AvoidsFew st.packages n.found → TakesNameThere n → NoneStandBeside after.packages
-    → TakesNameAnywhere n
+    → AvoidsFew st.packages n.found → TakesNameThere n → TakesNameAnywhere n

@@ -8,7 +8,6 @@ use Rattle.pkg_graph.specs.Package.{Package, import_specs}
 use Rattle.pkg_graph.specs.Members.{import_name}
 use Rattle.run_rules.specs.Sites.{Where}
 use Rattle.run_rules.specs.Steps.{At, is_import_used}
-use Rattle.constant_modules.specs.LookUps.Laws.{NotBeside}
 
 module _ {S : Type 0} where
   -- a member of a group that has no values has no type
@@ -37,9 +36,3 @@ abbrev pub AllImportsUsed : List (Package At) → Type 0
 AllImportsUsed ps =
     (w : Where At) → IsFileOf ps w → (k : ℕ) (s : ImportSpec At) → slice_get (import_specs w.source.tree) k ≡ Some s
     → is_blank (import_name ps s) ≡ false → is_import_used ps w w.source.tree.decls k ≡ true
-
--- none but `_` has a name that stands beside
-abbrev pub NoneStandBeside : List (Package At) → Type 0
-NoneStandBeside ps =
-    (w : Where At) → IsFileOf ps w → (k : ℕ) (s : ImportSpec At) → slice_get (import_specs w.source.tree) k ≡ Some s
-    → is_blank (import_name ps s) ≡ false → NotBeside ps w (import_name ps s)

@@ -20,7 +20,6 @@ use Rattle.constant_steps.specs.WrittenLiteral.UnspreadForms.UnspreadForms.{Unsp
 use Rattle.order_runs.specs.RunSteps.RunPackages.{packages_of}
 use Rattle.order_runs.specs.CycleRuns.Linked.{WritesFile}
 use Rattle.order_runs.specs.CycleRuns.OrderCycles.NewNames.{AvoidsFew}
-use Rattle.order_runs.specs.CycleRuns.OrderCycles.Steps.{KeepsImportLookUps}
 use Rattle.printed_constants.specs.InlinedFiles.Files.{AllWrite}
 use Rattle.printed_constants.specs.InlinedFiles.InlinedModules.Modules.{IsInlinedModule}
 use Rattle.printed_constants.specs.TypedParts.MarkedRuns.LinkedMembers.Laws.{HaveFiles}
@@ -28,6 +27,7 @@ use Rattle.printed_constants.specs.TypedParts.MarkedRuns.NamedMarks.Named.{AllNa
 use Rattle.printed_constants.specs.TypedParts.MarkedRuns.SettledConstants.Programs.{IsReady}
 use Rattle.printed_constants.specs.TypedParts.MarkedRuns.TakenNames.Laws.{KeptByRun}
 use Rattle.printed_constants.specs.TypedParts.MarkedRuns.TakenNames.Taken.{TakesName}
+use Rattle.constant_modules.specs.KeyedImports.Steps.{KeepsImportUses}
 use Rattle.constant_modules.specs.NamedAnywhere.Marked.{AllTakeAnywhere, StandsNamedThere, StandsAnywhere, AllOverAnywhere}
 use Rattle.constant_modules.specs.NamedAnywhere.Taken.{TakesNameThere, TakesNameAnywhere}
 
@@ -73,14 +73,14 @@ abbrev pub StepsOverMarksTakeThere : Type 0
 StepsOverMarksTakeThere =
     (marks : List MarkRef) (st : Standing) (l : Logged) (after : Standing) (n : Next marks st l after) → IsReady st
     → HaveFiles st.packages → WellTyped (packages_of st.packages []) → AvoidsFew st.packages n.found
-    → KeepsImportLookUps n → StandsNamedThere n → TakesNameThere n
+    → KeepsImportUses n → StandsNamedThere n → TakesNameThere n
 
 -- So it takes its name, where its imports are right at last.
 abbrev pub StepsOverMarksTake : Type 0
 StepsOverMarksTake =
     (marks : List MarkRef) (st : Standing) (l : Logged) (after : Standing) (n : Next marks st l after) → IsReady st
     → HaveFiles st.packages → WellTyped (packages_of st.packages []) → AvoidsFew st.packages n.found
-    → KeepsImportLookUps n → StandsAnywhere n → TakesNameAnywhere n
+    → KeepsImportUses n → StandsAnywhere n → TakesNameAnywhere n
 
 -- A run over marked constants from a module that reads, is well typed, and whose marks are all of constants, keeps
 -- typing, which marked functions lie on a cycle, and the meaning.

@@ -14,10 +14,10 @@ use Rattle.run_rules.specs.Run.{Standing, Logged, Next, Run, ends, goes_on, is_c
 use Rattle.constant_steps.specs.Alone.{PackageAt}
 use Rattle.constant_steps.specs.PlainUse.{linked_at}
 use Rattle.order_runs.specs.CycleRuns.ImportCycles.ImportSteps.{packages_added, where_added}
-use Rattle.order_runs.specs.CycleRuns.OrderCycles.Steps.{KeepsImportLookUps}
 use Rattle.order_runs.specs.ImportCodes.PackagesMoved.{ImportsStand}
 use Rattle.order_runs.specs.ImportSteps.ImportingSteps.{MayBeDeclared}
 use Rattle.order_runs.specs.RunSteps.RunPackages.{members_of, packages_of}
+use Rattle.constant_modules.specs.KeyedImports.Steps.{KeepsImportUses}
 use Rattle.constant_modules.specs.NamedAnywhere.Use.{NamedUseAnywhere, PartsStand, ConstantUse}
 
 -- the use with the imports of its form added to its file, at a place there: what names mean at a place is told with it
@@ -43,7 +43,7 @@ pub record TakesNameThere {marks : List MarkRef} {st : Standing} {l : Logged} {a
       → PartsStand same_here (packages_added st.packages n.found) (site_there n.found place) use_.new stands.decl k
       (linked (packages_added st.packages n.found)) (sources Q)
   pub form : n.found.form ≡ as_expr use_.new
-  pub names : KeepsImportLookUps n
+  pub names : KeepsImportUses n
   pub file_sound : MayBeDeclared (packages_added st.packages n.found) (site_there n.found place).at
   pub home_sound : MayBeDeclared (packages_added st.packages n.found) use_.home
 

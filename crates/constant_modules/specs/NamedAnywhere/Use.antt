@@ -19,18 +19,18 @@ use Rattle.run_rules.specs.Surroundings.{Seen}
 use Rattle.run_rules.specs.Programs.{linked_file, linked_imports, decl_seen}
 use Rattle.run_rules.specs.Sites.{MarkRef, Where, Site, a_constant, an_expr, part_span, where_is, inlinable}
 use Rattle.constant_steps.specs.StepLaws.ConstantSteps.{constant_put}
-use Rattle.constant_steps.specs.Alone.{PlainFiles}
-use Rattle.constant_steps.specs.PlainUse.{AllTheUse, type_marked}
+use Rattle.constant_steps.specs.PlainUse.{AllTheUse}
 use Rattle.constant_steps.specs.QualifiedSteps.MemberNames.{NamesMember}
 use Rattle.constant_steps.specs.QualifiedSteps.NamedUse.{PackageStands, looked_up, SameQualifier}
 use Rattle.constants_anywhere.specs.Known.{AllKnown, AllTranslated}
+use Rattle.constant_modules.specs.ConstantsOfGroups.Groups.{marked_type}
 
 module _ {S : Type 0} (same : S → S → Bool) (commented : ℕ → ℕ → S → Bool) (rs : List (Package S))
     (marks : List MarkRef) (x : Site S) where
   -- The use is a name of the constant, and the constant is declared as a name of another constant, without a type.
-  -- Nothing is in the way: it becomes an expression, for which the file of the use has the imports. Of the other
-  -- constant this is asked, that a declaration of constants declares it: it may repeat an earlier expression, or share
-  -- its spec with others.
+  -- Nothing is in the way: it becomes an expression, for which the file of the use has the imports. Both may share
+  -- their specs with others; of the other constant this is asked, that a declaration of constants declares it: it may
+  -- repeat an earlier expression.
   pub record ConstantUse : Type 0 where
     pub use_ : Expr S
     pub part : x.part ≡ an_expr use_
@@ -40,7 +40,7 @@ module _ {S : Type 0} (same : S → S → Bool) (commented : ℕ → ℕ → S �
     pub constant : NameAt S
     pub text : Expr S
     pub declared : inlinable rs x.mark ≡ Some (a_constant constant text)
-    pub untyped : type_marked rs x.mark ≡ None
+    pub untyped : marked_type rs x.mark ≡ None
     pub new_mark : MarkRef
     pub text_names : NamesMember rs home (home_place same commented rs marks home) text new_mark
     pub new_home : Where S
@@ -57,16 +57,13 @@ module _ {S : Type 0} (same : S → S → Bool) (commented : ℕ → ℕ → S �
     pub reduces : reduced same commented rs marks x ≡ Some (becomes kind (as_expr new) range packages)
     pub none_added : imports_added packages ≡ []
 
-  -- The use stands in a declaration of its file, in which nothing else stands at its span. All declarations are plain
-  -- of the packages of the use and of the constant; of the package of what the constant is declared as, and of the
-  -- parts of the declaration of the use, nothing is asked.
+  -- The use stands in a declaration of its file, in which nothing else stands at its span. Of the parts of the
+  -- declaration, and of the other declarations of the packages, nothing is asked.
   pub record NamedUseAnywhere (u : ConstantUse) : Type 0 where
     pub package_there : slice_get rs x.at.number ≡ Some x.at.of
     pub file_there : slice_get x.at.of.files x.at.file_number ≡ Some x.at.source
     pub decl : Decl S
     pub decl_there : slice_get x.at.source.tree.decls x.decl ≡ Some decl
-    pub plain : PlainFiles (map (linked_file rs) x.at.of.files)
-    pub home_plain : PlainFiles (map (linked_file rs) u.home.of.files)
     pub alone : AllTheUse same x u.use_ (decl_seen rs x.at.number x.at.of x.at.source.tree decl)
 
   -- The packages of the use, of the constant and of what the constant is declared as stand in the program.

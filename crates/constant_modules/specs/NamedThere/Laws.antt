@@ -18,7 +18,7 @@ use Rattle.run_rules.specs.Steps.{At}
 use Rattle.constant_modules.specs.ConstantNames.Members.{AllNameConstants}
 use Rattle.constant_modules.specs.NamedAnywhere.Marked.{StandsNamedThere}
 use Rattle.constant_modules.specs.NamedThere.Alike.{SameParts}
-use Rattle.constant_modules.specs.NamedThere.There.{IsUsedThere, AllUntyped, ArePlain}
+use Rattle.constant_modules.specs.NamedThere.There.{IsUsedThere, AllUntyped}
 
 -- With the imports of a step added, which have new names and lead to no cycle of packages, the walk over a declaration
 -- of its file lists the same parts, each at a place that stands alike, whatever is declared.
@@ -40,25 +40,18 @@ ConstantUsesAreThere =
     → AllNameConstants st.packages marks → AllUntyped st.packages marks → AvoidsFew st.packages n.found
     → IsUsedThere n
 
--- So it stands as named_anywhere asks of runs over marked constants, but for its imports at last, where all declarations
--- are plain.
+-- So it stands as named_anywhere asks of runs over marked constants, but for its imports at last.
 abbrev pub ConstantUsesStandThere : Type 0
 ConstantUsesStandThere =
     (marks : List MarkRef) (st : Standing) (l : Logged) (after : Standing) (n : Next marks st l after) → IsReady st
     → WellTyped (packages_of st.packages []) → AllOwn st.packages → AllNamed st.packages marks
     → AllNameConstants st.packages marks → AllUntyped st.packages marks → AvoidsFew st.packages n.found
-    → ArePlain st.packages → StandsNamedThere n
+    → StandsNamedThere n
 
 -- ---- what steps keep
 
--- A step, over whatever it is, leaves all declarations plain.
-abbrev pub StepsStayPlain : Type 0
-StepsStayPlain =
-    (marks : List MarkRef) (st : Standing) (l : Logged) (after : Standing) (n : Next marks st l after)
-    → ArePlain st.packages → ArePlain after.packages
-
--- And in such packages marked constants that are declared without a type are so after it.
+-- After a step, over whatever it is, marked constants for which no type is written are so again.
 abbrev pub StepsStayUntyped : Type 0
 StepsStayUntyped =
     (marks : List MarkRef) (st : Standing) (l : Logged) (after : Standing) (n : Next marks st l after)
-    → ArePlain st.packages → AllUntyped st.packages marks → AllUntyped after.packages marks
+    → AllUntyped st.packages marks → AllUntyped after.packages marks

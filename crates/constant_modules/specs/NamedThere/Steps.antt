@@ -4,22 +4,21 @@ use Rattle.std.specs.Prelude.{◌≤◌, List, []}
 use Rattle.go_translation.specs.SameMeaning.{WellTyped}
 use Rattle.constant_steps.specs.FormImports.OwnNames.{AllOwn}
 use Rattle.order_runs.specs.RunSteps.RunPackages.{packages_of}
-use Rattle.printed_constants.specs.TypedParts.MarkedRuns.KeptMarks.Over.{IsOverName}
 use Rattle.printed_constants.specs.TypedParts.MarkedRuns.LinkedMembers.Laws.{HaveFiles}
 use Rattle.printed_constants.specs.TypedParts.MarkedRuns.NamedMarks.Named.{AllNamed}
 use Rattle.printed_constants.specs.TypedParts.MarkedRuns.SettledConstants.Programs.{IsReady}
 use Rattle.run_rules.specs.Run.{Standing, Logged, Next, texts_size, the_limits}
 use Rattle.run_rules.specs.Sites.{MarkRef}
+use Rattle.constant_modules.specs.ApartKeys.Files.{KeysApart}
 use Rattle.constant_modules.specs.ConstantNames.Members.{AllNameConstants}
-use Rattle.constant_modules.specs.CountedUses.Typed.{NoneStandBeside}
-use Rattle.constant_modules.specs.LookUps.Laws.{RemovesNoneBeside}
+use Rattle.constant_modules.specs.KeyedImports.Steps.{IsOverNameKeyed}
 use Rattle.constant_modules.specs.NamedAnywhere.Marked.{StandsAnywhere}
 use Rattle.constant_modules.specs.NamedAnywhere.Taken.{TakesNameAnywhere}
-use Rattle.constant_modules.specs.NamedThere.There.{AllUntyped, ArePlain}
+use Rattle.constant_modules.specs.NamedThere.There.{AllUntyped}
 
 -- A program that is ready and well typed, whose packages have files and names of their own, whose texts are within the
--- limit of a run, whose declarations are all plain, and whose marks are all of constants that are declared without a
--- type as names of constants.
+-- limit of a run, whose marks are all of constants that are declared without a type as names of constants, and no import
+-- of which has a predeclared identifier for its name that is a key in its file: whatever else it declares.
 pub record IsOfConstants (marks : List MarkRef) (st : Standing) : Type 0 where
   pub ready : IsReady st
   pub files : HaveFiles st.packages
@@ -28,18 +27,12 @@ pub record IsOfConstants (marks : List MarkRef) (st : Standing) : Type 0 where
   pub named : AllNamed st.packages marks
   pub constants : AllNameConstants st.packages marks
   pub untyped : AllUntyped st.packages marks
-  pub plain : ArePlain st.packages
+  pub apart : KeysApart st.packages
   pub small : texts_size st.texts ≤ the_limits.total
 
--- No import of the file of a step has a name that stands beside: none that goes, and none of the program after it.
-pub record NoneBeside {marks : List MarkRef} {st : Standing} {l : Logged} {after : Standing}
-    (n : Next marks st l after) : Type 0 where
-  pub removed : RemovesNoneBeside n
-  pub stand : NoneStandBeside after.packages
-
--- Each step in such a program, no import of which has a name that stands beside, takes its name as named_anywhere has
--- it, and stands as that asks of runs over marked constants.
+-- Each step in such a program takes its name as named_anywhere has it, and stands as that asks of runs over marked
+-- constants.
 abbrev pub ConstantStepsTakeNames : Type 0
 ConstantStepsTakeNames =
     (marks : List MarkRef) (st : Standing) (l : Logged) (after : Standing) (n : Next marks st l after)
-    → IsOfConstants marks st → NoneBeside n → TakesNameAnywhere n × (IsOverName n × StandsAnywhere n)
+    → IsOfConstants marks st → TakesNameAnywhere n × (IsOverNameKeyed n × StandsAnywhere n)

@@ -1,18 +1,16 @@
 -- A use with the imports of its form added to its file, in a program of any declarations (Go specification, Constant
 -- declarations; Qualified identifiers; Import declarations; Blocks).
-use Rattle.std.specs.Prelude.{◌≡◌, true, None, ℕ, List, Some, Contains, map, slice_get}
+use Rattle.std.specs.Prelude.{◌≡◌, true, None, List, Some, Contains, slice_get}
 use Rattle.go_tree.specs.File.{Decl}
 use Rattle.pkg_graph.specs.Package.{Package}
-use Rattle.constant_steps.specs.Alone.{PlainFiles}
-use Rattle.constant_steps.specs.PlainUse.{type_marked}
 use Rattle.order_runs.specs.CycleRuns.ImportCycles.ImportSteps.{packages_added}
 use Rattle.printed_constants.specs.TypedParts.MarkedRuns.Marked.{decl_there}
 use Rattle.run_rules.specs.FormTrees.{as_expr}
-use Rattle.run_rules.specs.Programs.{linked_file}
 use Rattle.run_rules.specs.Run.{Standing, Logged, Next, is_commented}
 use Rattle.run_rules.specs.Sites.{MarkRef, is_among_marks}
 use Rattle.run_rules.specs.Steps.{At, same_here}
 use Rattle.run_rules.specs.Surroundings.{Use, Place, seen}
+use Rattle.constant_modules.specs.ConstantsOfGroups.Groups.{marked_type}
 use Rattle.constant_modules.specs.NamedAnywhere.Taken.{site_there}
 use Rattle.constant_modules.specs.NamedAnywhere.Use.{ConstantUse}
 use Rattle.constant_modules.specs.NamedThere.Alike.{StandsAlike}
@@ -31,11 +29,6 @@ pub record IsUsedThere {marks : List MarkRef} {st : Standing} {l : Logged} {afte
       → Contains (decl_there n d) (seen place used_as use_.use_)
   pub form : n.found.form ≡ as_expr use_.new
 
--- each marked constant is declared without a type, as each is that a mark can hold for
+-- no type is written for a marked constant, whichever names share its spec: as for each that a mark can hold for
 abbrev pub AllUntyped : List (Package At) → List MarkRef → Type 0
-AllUntyped ps marks = (m : MarkRef) → is_among_marks marks m ≡ true → type_marked ps m ≡ None
-
--- All declarations of the packages are plain, as constant_steps has it: each spec of constants or variables has one
--- name.
-abbrev pub ArePlain : List (Package At) → Type 0
-ArePlain ps = (k : ℕ) (p : Package At) → slice_get ps k ≡ Some p → PlainFiles (map (linked_file ps) p.files)
+AllUntyped ps marks = (m : MarkRef) → is_among_marks marks m ≡ true → marked_type ps m ≡ None

@@ -14,7 +14,7 @@ use Rattle.go_tree.specs.ScopeNames.FreeNames.{names_of, declared, declared_opti
 use Rattle.go_tree.specs.ScopeNames.FreeNames.{named_use, sig_names}
 use Rattle.go_tree.specs.ScopeNames.Means.{Environment, means}
 use Rattle.go_tree.specs.GoTypes.Answers.{is_among}
-use Rattle.go_tree.specs.GoTypes.Entities.{Entity, package_name, Env}
+use Rattle.go_tree.specs.GoTypes.Entities.{Entity, package_name, refused, Env}
 use Rattle.go_tree.specs.GoTypes.Agreement.{Same}
 use Rattle.go_translation.specs.Agreement.{SameVariable}
 use Rattle.go_translation.specs.Here.{Location, Here}
@@ -32,10 +32,11 @@ unless_marked around n = if is_among n around then [] else used_name n ∷ []
 abbrev pub unless_key : List (List ℕ) → List ℕ → List Marked
 unless_key around n = if is_among n around then [] else key_name n ∷ []
 
--- a name of a package alone, and one that means nothing, is no operand
+-- a name of a package alone, one that is refused, and one that means nothing, is no operand
 pub data NoOperand : Option Entity → Type 0 where
   no_meaning : NoOperand None
   of_package : {p : ℕ} → NoOperand (Some (package_name p))
+  of_refused : NoOperand (Some refused)
 
 -- both mean the same, or no operand
 abbrev pub SameOrNone : Option Entity → Option Entity → Type 0

@@ -5,10 +5,8 @@ use Rattle.go_tree.specs.Tree.{Expr}
 use Rattle.go_translation.specs.SameMeaning.{WellTyped}
 use Rattle.constant_steps.specs.FormImports.OwnNames.{AllOwn}
 use Rattle.constant_steps.specs.QualifiedSteps.MemberNames.{NamesMember}
-use Rattle.order_runs.specs.CycleRuns.KeptImports.Files.{RemovesNoLookUps}
 use Rattle.order_runs.specs.CycleRuns.OrderCycles.NewNames.{AvoidsFew}
 use Rattle.order_runs.specs.RunSteps.RunPackages.{packages_of}
-use Rattle.printed_constants.specs.TypedParts.MarkedRuns.KeptMarks.Over.{IsOverName}
 use Rattle.printed_constants.specs.TypedParts.MarkedRuns.NamedMarks.Named.{AllNamed}
 use Rattle.printed_constants.specs.TypedParts.MarkedRuns.PutForms.Uses.{IsFirstUse, UsesNamedConstant}
 use Rattle.printed_constants.specs.TypedParts.MarkedRuns.SettledConstants.Programs.{IsReady}
@@ -20,6 +18,7 @@ use Rattle.run_rules.specs.Run.{Standing, Logged, Next, is_commented}
 use Rattle.run_rules.specs.Sites.{MarkRef, Site, an_expr, sites}
 use Rattle.run_rules.specs.Steps.{At, Found, same_here, new_decls, packages_between, where_between}
 use Rattle.run_rules.specs.Texts.{FileText}
+use Rattle.constant_modules.specs.KeyedImports.Steps.{KeepsUses, IsOverNameKeyed}
 
 -- In a ready, well-typed program whose marks are all of constants that are declared as names each use is an expression:
 -- a written type that names a constant isn't typed.
@@ -44,13 +43,13 @@ FirstUsesUseConstants =
     → WellTyped (packages_of st.packages []) → AllNamed st.packages marks → IsFirstUse marks st f old
     → AvoidsFew st.packages f → UsesNamedConstant st f old
 
--- And a step is over a marked constant as kept_marks asks, where besides no import that goes has a name that is looked
--- up in the file as it is read again, and each package has a name of its own.
+-- And a step is over a marked constant as keyed_imports asks, where besides what names and keys mean is kept, and each
+-- package has a name of its own.
 abbrev pub StepsAreOverNames : Type 0
 StepsAreOverNames =
     (marks : List MarkRef) (st : Standing) (l : Logged) (after : Standing) (n : Next marks st l after) → IsReady st
     → WellTyped (packages_of st.packages []) → AllOwn st.packages → AllNamed st.packages marks
-    → AvoidsFew st.packages n.found → RemovesNoLookUps n → IsOverName n
+    → AvoidsFew st.packages n.found → KeepsUses n → IsOverNameKeyed n
 
 -- And the use of a step is, at its place, a name of the marked constant, exported where the name of a package stands
 -- before it, as qualified_steps asks of uses.

@@ -4,7 +4,6 @@ ghost use Rattle.constant_modules.specs.CountedUses.Laws as law;
 ghost use Rattle.constant_modules.specs.CountedUses.Steps as of_steps;
 
 use crate::kept_uses::imports_read_again_are_used;
-use crate::look_ups::typed_imports_are_looked_up;
 use printed_constants::typed_parts::marked_runs::{
     members_are_linked, settled_imports_may_be_declared,
 };
@@ -31,16 +30,14 @@ pub fn declarations_stay_typed()
     ensures literals { of_steps.LiteralsStandThere }
 {}
 
-/// So after such a step each import is looked up in its file (`looked`) and used as typing has it, beside all further
-/// packages (`used`), if none has a name that stands beside then; so the step takes its name as named_anywhere has it, where
-/// that the imports are right at last is asked no more (`takes`) (Go specification, Import declarations).
+/// So after such a step each import is used as typing has it, beside all further packages (`used`), whatever keys have
+/// its name; so the step takes its name as named_anywhere has it, where that the imports are right at last is asked no
+/// more (`takes`) (Go specification, Import declarations; Composite literals).
 pub fn imports_stay_used()
-    ensures looked { of_steps.ImportsStayLookedUp }
     ensures used { of_steps.ImportsStayUsed }
     ensures takes { of_steps.StepsTakeNames }
 {
     imports_read_again_are_used();
-    typed_imports_are_looked_up();
     settled_imports_may_be_declared();
     members_are_linked();
     used_imports_are_counted();

@@ -2,10 +2,11 @@
 
 ghost use Rattle.constant_modules.specs.NamedAnywhere.MarkedLaws as law;
 
+use crate::keyed_imports::keyed_marks_stay_named;
 use crate::named_anywhere::taken::names_are_taken_anywhere;
 use printed_constants::typed_parts::marked_runs::{
-    added_imports_may_be_declared, constants_keep_cycles, constants_settle, marks_stay_named,
-    read_marks_are_named, read_modules_are_ready,
+    added_imports_may_be_declared, constants_keep_cycles, constants_settle, read_marks_are_named,
+    read_modules_are_ready,
 };
 
 /// A step that taken_names speaks of is such a step: its parts are simple. A step that takes its name and writes its
@@ -34,7 +35,7 @@ pub fn runs_over_marks_anywhere_keep()
     constants_settle();
     read_modules_are_ready();
     read_marks_are_named();
-    marks_stay_named();
+    keyed_marks_stay_named();
     names_are_taken_anywhere();
     runs_anywhere_keep();
 }
@@ -47,7 +48,7 @@ pub fn runs_over_marks_anywhere_inline()
 {
     added_imports_may_be_declared();
     constants_settle();
-    marks_stay_named();
+    keyed_marks_stay_named();
     read_marks_are_named();
     read_modules_are_ready();
     runs_anywhere_keep();

@@ -3,10 +3,10 @@
 ghost use Rattle.constant_modules.specs.NamedThere.Laws as law;
 ghost use Rattle.constant_modules.specs.NamedThere.Steps as of_steps;
 
+use crate::apart_keys::steps_put_names;
 use crate::counted_uses::imports_stay_used;
-use crate::few_names::{steps_avoid_few_names, steps_keep_look_ups};
-use crate::look_ups::steps_remove_no_look_ups;
-use crate::named_anywhere::runs_over_marks_anywhere_keep;
+use crate::few_names::steps_avoid_few_names;
+use crate::keyed_imports::steps_keep_uses;
 use crate::typed_uses::{steps_are_over_names, steps_use_expressions};
 use printed_constants::constants_name_members;
 use printed_constants::typed_parts::marked_runs::constants_settle;
@@ -20,8 +20,8 @@ pub fn steps_list_the_same()
 
 /// So in a well-typed program whose marks are all of constants that are declared as names of constants, the use of a
 /// step is, with the imports of its form added, a name of the marked constant where the walk lists it, and becomes the
-/// same form (`there`). So it stands as named_anywhere asks, but for its imports at last, where all declarations are
-/// plain (`stand`) (Go specification, Constant declarations; Iota; Qualified identifiers; Import declarations).
+/// same form (`there`). So it stands as named_anywhere asks, but for its imports at last, whatever else the program
+/// declares (`stand`) (Go specification, Constant declarations; Iota; Qualified identifiers; Import declarations).
 pub fn constant_uses_are_there()
     ensures there { law.ConstantUsesAreThere }
     ensures stand { law.ConstantUsesStandThere }
@@ -30,27 +30,24 @@ pub fn constant_uses_are_there()
     constants_settle();
 }
 
-/// A step leaves all declarations plain (`plain`), and then marked constants without a type are so after it (`untyped`)
-/// (Go specification, Constant declarations; Variable declarations).
-pub fn steps_stay_plain()
-    ensures plain { law.StepsStayPlain }
-    ensures untyped { law.StepsStayUntyped }
+/// After a step no type is written for a marked constant, if none was, whichever names share its spec (Go specification,
+/// Constant declarations).
+pub fn constants_stay_untyped()
+    ensures { law.StepsStayUntyped }
 {}
 
 /// So a step in a ready, well-typed program of constants (`IsOfConstants`) takes its name as named_anywhere has it, and
-/// stands as that asks of runs over marked constants, if no import has a name that stands beside (`NoneBeside`): of the
-/// use, of its place and of the imports at last nothing is asked any more (Go specification, Constant declarations;
-/// Qualified identifiers; Import declarations).
+/// stands as that asks of runs over marked constants: of the use, of its place and of the imports nothing is asked any
+/// more (Go specification, Constant declarations; Qualified identifiers; Import declarations).
 pub fn constant_steps_take_names()
     ensures { of_steps.ConstantStepsTakeNames }
 {
     steps_use_expressions();
     steps_avoid_few_names();
     constants_settle();
-    steps_keep_look_ups();
-    steps_remove_no_look_ups();
+    steps_put_names();
+    steps_keep_uses();
     steps_are_over_names();
     constant_uses_are_there();
-    runs_over_marks_anywhere_keep();
     imports_stay_used();
 }

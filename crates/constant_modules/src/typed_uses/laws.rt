@@ -23,8 +23,8 @@ pub fn first_uses_use_constants()
     ensures { law.FirstUsesUseConstants }
 {}
 
-/// And each step is over a marked constant as kept_marks asks, where besides no import that goes has a name that is
-/// looked up in the file as it is read again (Go specification, Import declarations; Package clause).
+/// And each step is over a marked constant as keyed_imports asks, where besides what names and keys mean is kept in the
+/// file as it is read again (Go specification, Import declarations; Package clause).
 pub fn steps_are_over_names()
     ensures { law.StepsAreOverNames }
 {}

@@ -1,8 +1,9 @@
 -- The step of a run over the call `add(2)` in `main`, as Example has it: the walk puts the literal in the call's place, and by the law alone both packages show the same. A part that a list has twice doesn't stand there once.
-use Rattle.std.proofs.Common.{◌≡◌, refl, inl, inr, true, ◌&&◌, [], ◌∷◌, subst, sym}
+use Rattle.std.proofs.Common.{◌≡◌, refl, ap, inl, inr, ℕ, true, ◌&&◌, [], ◌∷◌, subst, sym, arith}
 use Rattle.std.proofs.lemmas.Slice.Eq.{bytes_eq-Decides}
 use Rattle.std.specs.Prelude.{codes}
 use Rattle.go_tree.specs.declared.spans.Span.{Span}
+use Rattle.go_tree.specs.Tree.{Expr, ident, selector}
 use Rattle.go_tree.specs.GoTypes.Answers.{is_among}
 use Rattle.go_tree.specs.GoTypes.Typing.{used}
 use Rattle.imported_typing.proofs.ProgramsAlike.{nat_itself}
@@ -13,16 +14,15 @@ use Rattle.run_rules.specs.Surroundings.{whole, seen}
 use Rattle.literal_steps.proofs.AddedImports.FilesBeside.{called_beside}
 use Rattle.literal_steps.specs.RankedMarks.Free.{is_free}
 use Rattle.meaning_in_place.specs.Runs.{ShowTheSame}
-use Rattle.literals_in_place.specs.Steps.{function_called}
-use Rattle.literals_in_place.specs.StepsInBodies.Functions.{BlankAlike, LedFrom, StandsInFunction, with_form}
+use Rattle.literals_in_place.specs.StepsInBodies.Functions.{BlankAlike, StandsInFunction, with_form, Anywhere, ImportStaysUsed}
 use Rattle.literals_in_place.specs.StepsInBodies.Once.{StandsOnce}
 use Rattle.literals_in_place.proofs.Example.{at, adding, main, literal, rs, use_of_add, no_comments, marks, packages, packages_after, is_literal_use, is_plain_call, is_linked, is_called, no_packages, is_translated, no_groups}
-use Rattle.literals_in_place.proofs.StepsInBodies.Shows.{shows}
+use Rattle.literals_in_place.proofs.StepsInBodies.Around.{step_shows}
 
-itself : (s : Span) → same_span s s ≡ true
+pub itself : (s : Span) → same_span s s ≡ true
 itself s = λ i. nat_itself s.start i && nat_itself s.end i
 
-in_main_function : StandsInFunction same_span rs use_of_add adding literal (LedFrom rs marks packages (function_called same_span no_comments rs marks use_of_add is_literal_use is_plain_call packages)) packages
+in_main_function : StandsInFunction same_span rs use_of_add adding literal Anywhere packages
 in_main_function =
     record {
       nth = 0;
@@ -42,18 +42,25 @@ in_main_function =
     }
 
 -- what the walk makes of the packages
-packages_are : with_form same_span rs use_of_add adding literal (LedFrom rs marks packages (function_called same_span no_comments rs marks use_of_add is_literal_use is_plain_call packages)) packages in_main_function ≡ packages_after
+packages_are : with_form same_span rs use_of_add adding literal Anywhere packages in_main_function ≡ packages_after
 unfolding in_main_function
 packages_are = refl
 
 -- neither uses `_`
-blank_alike : BlankAlike use_of_add.place.env adding literal
+pub blank_alike : BlankAlike use_of_add.place.env adding literal
 blank_alike n b = subst (λ m. is_among m (used use_of_add.place.env adding) ≡ is_among m (used use_of_add.place.env literal)) (sym ((bytes_eq-Decides n (codes "_")).0 b)) refl
 
-step_shows : ShowTheSame (is_free rs marks (paths_in packages)) 1 packages
-    (with_form same_span rs use_of_add adding literal (LedFrom rs marks packages (function_called same_span no_comments rs marks use_of_add is_literal_use is_plain_call packages)) packages in_main_function)
+abbrev is_dotted : Expr Span → ℕ
+is_dotted (selector s e n) = 1
+is_dotted e = 0
+
+-- the call names its function plainly
+stays : ImportStaysUsed use_of_add (ident (at 44) (codes "add")) packages (with_form same_span rs use_of_add adding literal Anywhere packages in_main_function)
+stays s t q f e = absurd (grind (arith, ap is_dotted e))
+
+shows : ShowTheSame (is_free rs marks (paths_in packages)) 1 packages (with_form same_span rs use_of_add adding literal Anywhere packages in_main_function)
 unfolding is_literal_use is_plain_call in_main_function
-step_shows = shows same_span itself no_comments rs marks use_of_add is_literal_use is_plain_call packages is_linked [] (called_beside is_called) no_packages literal refl is_translated no_groups in_main_function blank_alike refl
+shows = step_shows same_span itself no_comments rs marks use_of_add is_literal_use is_plain_call packages is_linked [] (called_beside is_called) no_packages literal refl in_main_function blank_alike stays is_translated no_groups
 
 -- ---- what stands there twice
 

@@ -105,7 +105,7 @@ module _ {S : Type 0} (same : S → S → Bool) (x : Site S) (tree e : Expr S) (
     receiver_same None = refl
     receiver_same (Some q) = refl
 
-    becomes : change (func r.function) ≡ func after
+    pub becomes : change (func r.function) ≡ func after
     becomes = λ i. func (record r.function { receiver = receiver_same r.function.receiver i; sig = sig-same same (part_span x.part) e (top_place rs x.at.number x.at.of file.tree) r.function.sig i; body = after.body })
 
     -- whatever more is known of the body and the one with the form

@@ -95,11 +95,11 @@ module _ {S : Type 0} (same : S → S → Bool) (x : Site S) {a b : Type 0} (f :
   part_lower (seen_stmt p (defer s y)) c = λ q. f (c q)
   part_lower (seen_stmt p y) c = tt
 
-  all_lower : (xs : List (Seen S)) → AllClear same x a xs → AllClear same x b xs
+  pub all_lower : (xs : List (Seen S)) → AllClear same x a xs → AllClear same x b xs
   all_lower [] c = tt
   all_lower (y ∷ ys) c = ((c.0.0, part_lower y c.0.1), all_lower ys c.1)
 
-module _ (same : Span → Span → Bool) (itself : (s : Span) → same s s ≡ true) (commented : ℕ → ℕ → Span → Bool) (rs : List (Package Span)) (marks : List MarkRef) (x : Site Span) (u : LiteralUse same commented rs marks x) (v : PlainCall same commented rs marks x u) (ms : List (translated.Package Span)) (l : Linked rs ms x same commented marks u) (names : Environment Entity) (h : CalledBeside rs ms x names (use_here ms x)) (y : PackagesServe rs ms x same commented marks u (use_here ms x)) (e : Expr Span) (q : u.form ≡ as_expr e) (all : Translated rs marks ms) (plain : NoConstantGroups rs marks)
+module _ (same : Span → Span → Bool) (itself : (s : Span) → same s s ≡ true) (commented : ℕ → ℕ → Span → Bool) (rs : List (Package Span)) (marks : List MarkRef) (x : Site Span) (u : LiteralUse same commented rs marks x) (v : PlainCall same commented rs marks x u) (ms : List (translated.Package Span)) (l : Linked rs ms x same commented marks u) (names : Environment Entity) (h : CalledBeside rs ms x names (use_here ms x)) (y : PackagesServe rs ms x same commented marks u (use_here ms x)) (e : Expr Span) (q : u.form ≡ as_expr e)
     (r : StandsInFunction same rs x u.tree e (LedFrom rs marks ms (function_called same commented rs marks x u v ms)) ms) (blank : BlankAlike x.place.env u.tree e) where
   abbrev after : List (translated.Package Span)
   after = with_form same rs x u.tree e (LedFrom rs marks ms (function_called same commented rs marks x u v ms)) ms r
@@ -107,23 +107,23 @@ module _ (same : Span → Span → Bool) (itself : (s : Span) → same s s ≡ t
   abbrev change : Decl Span → Decl Span
   change = put_decl same rs (part_span x.part) e x.at.number x.at.of x.at.source.tree
 
-  calls : is_call u.tree ≡ true
+  pub calls : is_call u.tree ≡ true
   calls = ap is_call v.tree_is
 
-  here : is_at same (part_span x.part) u.tree ≡ true
+  pub here : is_at same (part_span x.part) u.tree ≡ true
   here = ap (λ (w : Part Span). is_at same (part_span w) u.tree) u.part ∙ subst (λ (w : Expr Span). is_at same (expr_span w) w ≡ true) (sym v.tree_is) (itself v.span)
 
-  form : is_call e ≡ true
+  pub form : is_call e ≡ true
   form = ap is_call (is_form same commented rs marks x u v ms l names (use_here ms x) h y e q)
 
-  facts : SameOperand (names_of x.place.bound) x.place.env u.tree e
+  pub facts : SameOperand (names_of x.place.bound) x.place.env u.tree e
   facts = same_facts same commented rs marks x u v ms l names (use_here ms x) h y (names_of x.place.bound) (λ n i. i) e q
 
-  callee_free : is_free rs marks (paths_in ms) (function_called same commented rs marks x u v ms) ≡ true
+  pub callee_free : is_free rs marks (paths_in ms) (function_called same commented rs marks x u v ms) ≡ true
   callee_free = uses.free same commented rs marks x u v ms l
 
   -- a function that is deferred has a lower rank
-  abbrev ranked : StandsInFunction same rs x u.tree e (Lower (ranks_of rs marks ms) (function_called same commented rs marks x u v ms)) ms
+  abbrev pub ranked : StandsInFunction same rs x u.tree e (Lower (ranks_of rs marks ms) (function_called same commented rs marks x u v ms)) ms
   ranked =
       record {
         nth = r.nth;
@@ -181,8 +181,8 @@ module _ (same : Span → Span → Bool) (itself : (s : Span) → same s s ≡ t
   bodies =
       bodies_alike same x u.tree e here calls form facts blank (ranks_of rs marks ms) (function_called same commented rs marks x u v ms) rs ms ranked l.sources_are
 
-  pub shows : imports_ok (sources after) ≡ true → ShowTheSame (is_free rs marks (paths_in ms)) (length (marked_functions rs marks)) ms after
-  shows right =
+  pub shows : Translated rs marks ms → NoConstantGroups rs marks → imports_ok (sources after) ≡ true → ShowTheSame (is_free rs marks (paths_in ms)) (length (marked_functions rs marks)) ms after
+  shows all plain right =
       step_same (is_free rs marks (paths_in ms)) (length (marked_functions rs marks)) ms after
       (λ Q t.
       well_typed_beside (BodyPut put.place u.tree e (ranks_of rs marks ms) (function_called same commented rs marks x u v ms) x) (paths_in ms) (collected (sources ms)) ms after same_paths put.put

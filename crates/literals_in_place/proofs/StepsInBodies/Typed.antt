@@ -46,7 +46,7 @@ pub record Fine (around ar here : List (List ℕ)) : Type 0 where
   pub listed : (n : List ℕ) → is_blank n ≡ false → is_among n ar ≡ true → is_among n around ≡ true
   pub block : (n : List ℕ) → is_among n here ≡ true → is_among n around ≡ true
 
-in_blocks : {around ar here : List (List ℕ)} → Fine around ar here → Fine around ar []
+pub in_blocks : {around ar here : List (List ℕ)} → Fine around ar here → Fine around ar []
 in_blocks r = record { listed = r.listed; block = λ n i. no_such n i }
 
 module _ {S : Type 0} (z : S) (around : List (List ℕ)) where
@@ -69,7 +69,7 @@ module _ {S : Type 0} (z : S) (around : List (List ℕ)) where
   lists : Listing S
   lists = listing
 
-  after_fine : (env : Env) (s : Stmt S) (ar : List (List ℕ)) → BoundAround around (binds_after env s) → Fine around ar env.here → Fine around (declared s ++ ar) (extend (binds_after env s) env).here
+  pub after_fine : (env : Env) (s : Stmt S) (ar : List (List ℕ)) → BoundAround around (binds_after env s) → Fine around ar env.here → Fine around (declared s ++ ar) (extend (binds_after env s) env).here
   after_fine env s ar a r =
       record {
         listed =
@@ -94,7 +94,7 @@ module _ {S : Type 0} (z : S) (around : List (List ℕ)) where
   first_bound env no_stmt a = λ n i. no_such n i
   first_bound env (some_stmt s) a = a.0
 
-  range_fine : (env : Env) (l : RangeLeft S) (y : Expr S) (ar : List (List ℕ)) → BoundAround around (range_left_binds env y l) → Fine around ar [] → Fine around (defined l ++ ar) (extend (range_left_binds env y l) (in_block env)).here
+  pub range_fine : (env : Env) (l : RangeLeft S) (y : Expr S) (ar : List (List ℕ)) → BoundAround around (range_left_binds env y l) → Fine around ar [] → Fine around (defined l ++ ar) (extend (range_left_binds env y l) (in_block env)).here
   range_fine env l y ar a r =
       record {
         listed = λ n b j. of_either n (defined l) ar (λ k. bound_there [] (left_declares l) (range_left_binds env y l) (lists.after_ranges env y l) a r.block n (left_there n l b k)) (r.listed n b) j;
@@ -103,7 +103,7 @@ module _ {S : Type 0} (z : S) (around : List (List ℕ)) where
 
   -- a literal's parameters and results
   module _ (env : Env) (g : Sig S) (f : FuncType) (bs : Binds) (typed : func_type env g ≡ Some f) (bound : body_binds [] g f ≡ Some bs) (a : NamesAround around (literal_names g f)) where
-    binds_are : bs ≡ literal_binds env g
+    pub binds_are : bs ≡ literal_binds env g
     binds_are = sym (ap (binds_or (sig_names g)) (ap (λ (o : Option FuncType). given o (body_binds [] g)) typed ∙ bound))
 
     sig_around : (n : List ℕ) → is_among n (names_of (sig_declares g)) ≡ true → is_among n around ≡ true
@@ -114,7 +114,7 @@ module _ {S : Type 0} (z : S) (around : List (List ℕ)) where
         of_either n (names_of (sig_declares g)) [] (sig_around n) (λ j. no_such n j)
         (ap (is_among n) (sym (names_both (sig_declares g) [])) ∙ (lists.after_heads env g).same [] [] (λ m j. j) (λ m. refl) n ∙ ap (λ (v : Binds). is_among n (bound_names v ++ [])) (sym binds_are) ∙ i)
 
-    literal_fine : (ar : List (List ℕ)) → Fine around ar [] → Fine around (sig_names g ++ ar) (bound_names bs ++ [])
+    pub literal_fine : (ar : List (List ℕ)) → Fine around ar [] → Fine around (sig_names g ++ ar) (bound_names bs ++ [])
     literal_fine ar r = record { listed = λ n b i. of_either n (sig_names g) ar (λ j. sig_around n (sig_there n g b j)) (r.listed n b) i; block = binds_around }
 
 -- ---- bodies
@@ -125,11 +125,11 @@ module _ {S : Type 0} (z : S) (around : List (List ℕ)) (X XD : Here → Expr S
   exprs_typed h ar r (later_expr {e = e} q) = in_exprs (same_operand (operand_itself ar h.env e)) (exprs_typed h ar r q)
 
   -- behind a statement in a header
-  behind : (env : Env) (i : StmtOption S) (ar : List (List ℕ)) → FirstAround around env i → Fine around ar env.here → Fine around (declared_option i ++ ar) (extend (binds_first env i) env).here
+  pub behind : (env : Env) (i : StmtOption S) (ar : List (List ℕ)) → FirstAround around env i → Fine around ar env.here → Fine around (declared_option i ++ ar) (extend (binds_first env i) env).here
   behind env i ar a r = first_fine z around env i ar (first_bound z around env i a) r
 
   mutual
-    stmt_typed : (h : Here) (ar : List (List ℕ)) → Fine around ar h.env.here → {ms : List Mention} {x y : Stmt S} → WithinStmt X XD around h ms x y → StmtReplaced ar h.env x y
+    pub stmt_typed : (h : Here) (ar : List (List ℕ)) → Fine around ar h.env.here → {ms : List Mention} {x y : Stmt S} → WithinStmt X XD around h ms x y → StmtReplaced ar h.env x y
     stmt_typed h ar r (in_var s v g ns t q) = replaced.in_var (in_variables refl (type_option ar h.env t) (exprs_typed h ar r q) no_more_variables)
     stmt_typed h ar r (in_eval s {e = e} {f = f} x) = replaced.in_eval (move h ar r e f x)
     stmt_typed h ar r (in_step s {e = e} {f = f} up x) = replaced.in_step (move h ar r e f x)
@@ -160,7 +160,7 @@ module _ {S : Type 0} (z : S) (around : List (List ℕ)) (X XD : Here → Expr S
     stmt_typed h ar r (in_defer s {e = e} {f = f} x) = replaced.in_defer (defers h ar r e f x)
     stmt_typed h ar r (in_label s n q) = replaced.in_label refl (stmt_typed h ar r q)
 
-    first_typed : (h : Here) (ar : List (List ℕ)) → Fine around ar h.env.here → {ms : List Mention} {i k : StmtOption S} → WithinFirst X XD around h ms i k → FirstReplaced ar h.env i k
+    pub first_typed : (h : Here) (ar : List (List ℕ)) → Fine around ar h.env.here → {ms : List Mention} {i k : StmtOption S} → WithinFirst X XD around h ms i k → FirstReplaced ar h.env i k
     first_typed h ar r (in_first q) = replaced.in_first (stmt_typed h ar r q)
 
     pub stmts_typed : (h : Here) (ar : List (List ℕ)) → Fine around ar h.env.here → {b c : Stmts S} → WithinStmts X XD around h b c → StmtsReplaced ar h.env b c

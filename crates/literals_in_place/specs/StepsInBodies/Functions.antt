@@ -4,17 +4,20 @@ use Rattle.std.specs.Prelude.{◌≡◌, ◌≤◌, ℕ, suc, Bool, true, List, 
 use Rattle.go_tree.specs.File.{Func, func}
 use Rattle.go_tree.specs.ScopeNames.FreeNames.{names_of}
 use Rattle.go_tree.specs.ScopeNames.Means.{is_blank}
-use Rattle.go_tree.specs.Tree.{Expr, Stmts}
+use Rattle.go_tree.specs.Tree.{NameAt, Expr, ident, selector, Stmts}
 use Rattle.go_tree.specs.GoTypes.Answers.{is_among}
+use Rattle.go_tree.specs.GoTypes.Collect.{collected}
 use Rattle.go_tree.specs.GoTypes.Entities.{Env}
+use Rattle.go_tree.specs.GoTypes.Programs.{headed}
 use Rattle.go_tree.specs.GoTypes.TypeNames.{func_type}
 use Rattle.go_tree.specs.GoTypes.Types.{FuncType}
 use Rattle.go_tree.specs.GoTypes.Typing.{used}
+use Rattle.go_tree.specs.GoTypes.WellTyped.{is_used_in}
 use Rattle.pkg_graph.specs.Package.{Package}
 use Rattle.go_kernel.specs.Kernel.{ImportPath, FuncName}
 use Rattle.go_translation.specs.Here.{Here}
 use Rattle.go_translation.specs.Packages as translated
-use Rattle.go_translation.specs.Packages.{paths_in, called_name}
+use Rattle.go_translation.specs.Packages.{sources, paths_in, called_name}
 use Rattle.run_rules.specs.Places.{stmts_seen}
 use Rattle.run_rules.specs.Programs.{world, top_env, headed_func, body_place}
 use Rattle.run_rules.specs.Cycles.{LeadsTo}
@@ -43,6 +46,19 @@ abbrev pub LedFrom :
 LedFrom rs marks ms callee n =
     (b c : MarkRef) → mark_named rs marks (paths_in ms) n ≡ Some b → mark_named rs marks (paths_in ms) callee ≡ Some c →
     LeadsTo rs marks b c
+
+-- nothing is asked of the function around
+abbrev pub Anywhere : FuncName → Type 0
+Anywhere n = Unit {0}
+
+-- Where a call names its function by an import, each file of its package that uses the import's name in the packages
+-- before a step does so in those after it.
+abbrev pub ImportStaysUsed :
+    {S : Type 0} → Site S → Expr S → List (translated.Package S) → List (translated.Package S) → Type 0
+ImportStaysUsed {S = S} x called ms qs =
+    (s t : S) (q : List ℕ) (f : NameAt S) → called ≡ selector s (ident t q) f → (file : ℕ) →
+    is_used_in (collected (sources ms)) x.at.number file q (headed (sources ms)) ≡ true →
+    is_used_in (collected (sources qs)) x.at.number file q (headed (sources qs)) ≡ true
 
 module _ {S : Type 0} (x : Site S) (tree e : Expr S) (rank : FuncName → ℕ) (callee : FuncName) where
   -- In a body the form stands in the place of the use, which is that of the use.

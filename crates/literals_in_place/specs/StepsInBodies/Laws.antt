@@ -36,7 +36,8 @@ use Rattle.literal_steps.specs.RankedMarks.Ranks.{marked_functions}
 use Rattle.meaning_in_place.specs.Runs.{ShowTheSame}
 use Rattle.literals_in_place.specs.Steps.{function_called}
 use Rattle.literals_in_place.specs.StepsInBodies.Functions.{use_here, BlankAlike, Lower, LedFrom, PutInBody}
-use Rattle.literals_in_place.specs.StepsInBodies.Functions.{PutInPackages, StandsInFunction, with_form}
+use Rattle.literals_in_place.specs.StepsInBodies.Functions.{PutInPackages, StandsInFunction, with_form, Anywhere}
+use Rattle.literals_in_place.specs.StepsInBodies.Functions.{ImportStaysUsed}
 use Rattle.literals_in_place.specs.StepsInBodies.Once.{SamePlace, StandsOnce, AllClear}
 
 -- What a run makes of a body, with a form that is a call in the place of a call with the same facts to the rules of
@@ -73,9 +74,29 @@ BodiesWithFormsAreTyped =
     BodiesAlike (collected (sources ms)) (headed (sources ms))
     (headed (sources (with_form same rs x tree e (Lower rank callee) ms r)))
 
--- So a step of a run that puts a literal in the place of its call, in the body of a function, leaves packages that show
--- the same, beside all further packages, where each import is used. Where the call is deferred, and the function around
--- is marked, it leads to the function that is called.
+-- Where the function around such a use is marked, and the one that is called, the one leads to the other.
+abbrev pub FunctionsAroundLead : Type 0
+FunctionsAroundLead =
+    (same : Span → Span → Bool) (commented : ℕ → ℕ → Span → Bool) (rs : List (Package Span)) (marks : List MarkRef)
+    (x : Site Span) (u : LiteralUse same commented rs marks x) (v : PlainCall same commented rs marks x u)
+    (ms : List (translated.Package Span)) → Linked rs ms x same commented marks u → (e : Expr Span) →
+    (r : StandsInFunction same rs x u.tree e Anywhere ms) →
+    LedFrom rs marks ms (function_called same commented rs marks x u v ms) r.name
+
+-- After a step that puts a literal in the place of its call, in the body of a function, each import is used, where the
+-- one is that the call may name its function by.
+abbrev pub ImportsStayUsed : Type 0
+ImportsStayUsed =
+    (same : Span → Span → Bool) → ((s : Span) → same s s ≡ true) → (commented : ℕ → ℕ → Span → Bool)
+    (rs : List (Package Span)) (marks : List MarkRef) (x : Site Span) (u : LiteralUse same commented rs marks x)
+    (v : PlainCall same commented rs marks x u) (ms : List (translated.Package Span)) →
+    Linked rs ms x same commented marks u → (names : Environment Entity) → CalledBeside rs ms x names (use_here ms x) →
+    PackagesServe rs ms x same commented marks u (use_here ms x) → (e : Expr Span) → u.form ≡ as_expr e →
+    (r : StandsInFunction same rs x u.tree e Anywhere ms) → BlankAlike x.place.env u.tree e →
+    ImportStaysUsed x v.called ms (with_form same rs x u.tree e Anywhere ms r) →
+    imports_ok (sources (with_form same rs x u.tree e Anywhere ms r)) ≡ true
+
+-- So such a step leaves packages that show the same, beside all further packages.
 abbrev pub StepsInBodiesShowTheSame : Type 0
 StepsInBodiesShowTheSame =
     (same : Span → Span → Bool) → ((s : Span) → same s s ≡ true) → (commented : ℕ → ℕ → Span → Bool)
@@ -84,13 +105,10 @@ StepsInBodiesShowTheSame =
     Linked rs ms x same commented marks u → (names : Environment Entity) → CalledBeside rs ms x names (use_here ms x) →
     PackagesServe rs ms x same commented marks u (use_here ms x) → (e : Expr Span) → u.form ≡ as_expr e →
     Translated rs marks ms → NoConstantGroups rs marks →
-    (r : StandsInFunction same rs x u.tree e
-    (LedFrom rs marks ms (function_called same commented rs marks x u v ms)) ms) →
-    BlankAlike x.place.env u.tree e →
-    imports_ok (sources (with_form same rs x u.tree e
-    (LedFrom rs marks ms (function_called same commented rs marks x u v ms)) ms r)) ≡ true →
+    (r : StandsInFunction same rs x u.tree e Anywhere ms) → BlankAlike x.place.env u.tree e →
+    ImportStaysUsed x v.called ms (with_form same rs x u.tree e Anywhere ms r) →
     ShowTheSame (is_free rs marks (paths_in ms)) (length (marked_functions rs marks)) ms
-    (with_form same rs x u.tree e (LedFrom rs marks ms (function_called same commented rs marks x u v ms)) ms r)
+    (with_form same rs x u.tree e Anywhere ms r)
 
 -- The use that a step of a run takes stands once in the body of the function around it, where the files of the program
 -- read from their texts.

@@ -9,7 +9,7 @@ use Rattle.stepped_programs.specs.SearchedSites.PrintedSearches.Laws.{PrintedFil
 pub are_searchable : PrintedFilesAreSound → SmallFilesHaveFewNames → PrintedFilesAreSearchable
 are_searchable sound few marks st reads paths printed small w there =
     record {
-      few_words = few-listed w.source.tree (avoided (names_standing st.packages w) []) (few st reads paths printed small w there.package_is there.file_is);
+      few_words = few-listed w.source.tree (avoided (names_standing st.packages w) []) [] (few st reads paths printed small w there.package_is there.file_is);
       sound = (sound st w printed there).0;
       told = λ f t knows. (sound st w printed there).1 f t;
     }

@@ -3,8 +3,8 @@ use Rattle.constant_modules.proofs.constant_runs.laws.first_uses_are_of_constant
 
 pub returns-clause-there : goal.returns-clause-there
 returns-clause-there c =
-    steps_take_there c.steps_use_expressions.ensures c.steps_avoid_few_names.ensures.few c.constants_settle.ensures.writes c.steps_keep_look_ups.ensures c.constant_uses_are_there.ensures.stand
-    c.runs_over_marks_anywhere_keep.ensures.takes_there
+    steps_take_there c.steps_use_expressions.ensures c.steps_avoid_few_names.ensures.few c.constants_settle.ensures.writes c.constant_uses_are_there.ensures.stand c.steps_put_names.ensures.puts c.steps_put_names.ensures.removes
+    c.steps_keep_uses.ensures
 
 pub returns-clause-uses : goal.returns-clause-uses
 returns-clause-uses c = uses_constants c.first_uses_use_constants.ensures

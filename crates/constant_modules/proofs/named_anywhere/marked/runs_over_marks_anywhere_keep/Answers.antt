@@ -9,5 +9,5 @@ returns-clause-takes c = λ marks st l after n ready files typed few names h. ta
 
 pub returns-clause-runs : goal.returns-clause-runs
 returns-clause-runs c =
-    runs-keep c.added_imports_may_be_declared.ensures c.constants_settle.ensures.writes c.runs_anywhere_keep.ensures.step c.marks_stay_named.ensures.stay
+    runs-keep c.added_imports_may_be_declared.ensures c.constants_settle.ensures.writes c.runs_anywhere_keep.ensures.step c.keyed_marks_stay_named.ensures.stay
     c.read_modules_are_ready.ensures.ready c.read_marks_are_named.ensures c.names_are_taken_anywhere.ensures.runs

@@ -3,5 +3,5 @@ use Rattle.constant_modules.proofs.named_there.laws.constant_steps_take_names.Go
 
 pub returns : goal.returns
 returns c =
-    steps_take c.steps_use_expressions.ensures c.steps_avoid_few_names.ensures.few c.constants_settle.ensures.writes c.steps_keep_look_ups.ensures c.steps_remove_no_look_ups.ensures.look_ups
-    c.steps_are_over_names.ensures c.constant_uses_are_there.ensures.stand c.runs_over_marks_anywhere_keep.ensures.takes_there c.imports_stay_used.ensures.takes
+    steps_take c.steps_use_expressions.ensures c.steps_avoid_few_names.ensures.few c.constants_settle.ensures.writes c.constant_uses_are_there.ensures.stand c.steps_put_names.ensures.puts c.steps_put_names.ensures.removes c.steps_keep_uses.ensures
+    c.steps_are_over_names.ensures c.imports_stay_used.ensures.takes

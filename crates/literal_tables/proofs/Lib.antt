@@ -1,0 +1,4 @@
+pub mod Stay
+pub mod Universe
+pub mod OtherSpans
+mod Example

@@ -1,0 +1,2 @@
+pub mod HasTypes
+pub mod Laws

@@ -1,0 +1,34 @@
+-- A step of a run that puts a literal in the place of its call, in the body of a function of well-typed packages, leaves packages that show the same.
+use Rattle.std.specs.Prelude.{◌≡◌, [], length}
+use Rattle.go_tree.specs.declared.spans.Span.{Span}
+use Rattle.go_tree.specs.Tree.{Expr}
+use Rattle.go_translation.specs.Packages.{paths_in}
+use Rattle.run_rules.specs.FormTrees.{as_expr}
+use Rattle.run_rules.specs.Places.{stmts_seen}
+use Rattle.run_rules.specs.Programs.{body_place}
+use Rattle.literal_steps.proofs.AddedImports.FilesBeside.{called_beside}
+use Rattle.literal_steps.specs.CalledAt.{CalledAt, PackagesServe}
+use Rattle.literal_steps.specs.RankedMarks.Free.{is_free, Translated, NoConstantGroups}
+use Rattle.literal_steps.specs.RankedMarks.Ranks.{marked_functions}
+use Rattle.meaning_in_place.specs.Runs.{ShowTheSame}
+use Rattle.literals_in_place.specs.StepsInBodies.Functions.{use_here, BlankAlike, ImportStaysUsed}
+use Rattle.literals_in_place.specs.StepsInBodies.Once.{AllClear}
+use Rattle.literals_in_place.specs.TypedSteps.Uses.{UseInBody, with_literal}
+use Rattle.literals_in_place.proofs.StepsInBodies.Around as around
+use Rattle.literals_in_place.proofs.TypedSteps.Uses as uses
+
+module _ (x : UseInBody Span) where
+  pub called : CalledAt x.packages x.members x.site (use_here x.members x.site)
+  called = uses.called_there x.same x.itself x.commented x.packages x.marks x.site x.becomes x.by_name x.members x.linked_so x.no_import x.stands
+
+  pub serve : PackagesServe x.packages x.members x.site x.same x.commented x.marks x.becomes (use_here x.members x.site)
+  serve = uses.serve_there x.same x.itself x.commented x.packages x.marks x.site x.becomes x.by_name x.members x.linked_so x.no_import x.stands
+
+  pub stands_clear : AllClear x.same x.site (Unit {0}) (stmts_seen (body_place x.packages x.site.at.number x.site.at.of x.site.at.source.tree x.stands.function) x.stands.function.body)
+  stands_clear = uses.clear_there x.same x.itself x.commented x.packages x.marks x.site x.becomes x.by_name x.members x.linked_so x.no_import x.stands (Unit {0}) tt
+
+  pub step_shows : (e : Expr Span) → x.becomes.form ≡ as_expr e → Translated x.packages x.marks x.members → NoConstantGroups x.packages x.marks → BlankAlike x.site.place.env x.becomes.tree e → ImportStaysUsed x.site x.by_name.called x.members (with_literal x e)
+      → ShowTheSame (is_free x.packages x.marks (paths_in x.members)) (length (marked_functions x.packages x.marks)) x.members (with_literal x e)
+  step_shows e q all plain blank stays =
+      around.step_shows x.same x.itself x.commented x.packages x.marks x.site x.becomes x.by_name x.members x.linked_so [] (called_beside called) serve e q
+      (uses.in_function x.same x.itself x.commented x.packages x.marks x.site x.becomes x.by_name x.members x.linked_so x.no_import x.stands e) blank stays all plain
