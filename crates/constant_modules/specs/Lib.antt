@@ -1,5 +1,6 @@
 pub mod ApartKeys
 pub mod ConstantNames
+pub mod ConstantPrograms
 pub mod ConstantRuns
 pub mod ConstantsOfGroups
 pub mod CountedUses

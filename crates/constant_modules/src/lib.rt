@@ -5,6 +5,7 @@
 
 pub mod apart_keys;
 pub mod constant_names;
+pub mod constant_programs;
 pub mod constant_runs;
 pub mod constants_of_groups;
 pub mod counted_uses;

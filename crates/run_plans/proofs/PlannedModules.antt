@@ -2,6 +2,8 @@ pub mod Folders
 pub mod FileSizes
 pub mod ReadOnce
 pub mod Members
+pub mod Dots
+pub mod NamesApart
 pub mod Forms
 pub mod Inlined
 pub mod Stops

@@ -12,5 +12,5 @@ pub mod FoundSteps
 pub mod ToldOrigins
 pub mod SwappedParts
 pub mod KeptPrograms
-pub mod PrintedSearches
 pub mod SoundFiles
+pub mod TypedSearches

@@ -3,7 +3,7 @@ use Rattle.std.proofs.Common.{◌≡◌, sym, subst, ℕ, true, List}
 use Rattle.go_tree.specs.declared.spans.Span.{Span}
 use Rattle.pkg_graph.specs.Reads.{Source}
 use Rattle.repeated_parts.specs.UseSearch.MarkValues.Tables.{DeclKey, same_key}
-use Rattle.printed_constants.specs.TypedParts.MarkedRuns.KeptMarks.Over.{IsOverName}
+use Rattle.constant_modules.specs.KeyedImports.Steps.{IsOverNameKeyed}
 use Rattle.next_file.specs.declared.file.NewFile.{NewFile}
 use Rattle.stepped_programs.specs.declared.package_search.looks.ProgramSources.{ProgramSources}
 use Rattle.programs.specs.Users.{Known, is_user}
@@ -22,7 +22,7 @@ use Rattle.stepped_programs.proofs.Filled.{filled}
 use Rattle.stepped_programs.proofs.LeftFlags.{leave_flags}
 
 module _ (files : List Source) (marks : List MarkRef) (st : Standing) (l : Logged) (after : Standing) (n : Next marks st l after) (at : StepPlace) (os : List Span) (block : List (List ℕ)) (f : NewFile) (old new : Program)
-    (s t : ProgramSources) (a : IsKeptProgram files marks st old s) (b : IsKeptProgram files marks after new t) (over : IsOverName n) (o : IsOfStep n at os block f) (put : IsStepPut at os block f old new) where
+    (s t : ProgramSources) (a : IsKeptProgram files marks st old s) (b : IsKeptProgram files marks after new t) (over : IsOverNameKeyed n) (o : IsOfStep n at os block f) (put : IsStepPut at os block f old new) where
   its_decl : key_at at ≡ decl_of_step n.found
   its_decl = λ v. (o.place.home v, (o.place.file v, o.place.decl v))
 
@@ -33,7 +33,7 @@ module _ (files : List Source) (marks : List MarkRef) (st : Standing) (l : Logge
 
   pub kept : SettledFlagsStay → AreAllSettled marks st (users_of old) (flags_of old) → AreAllSettled marks after (users_of new) (flags_of new)
   kept law settled =
-      law files marks st l after n old new s t (users_of old) (users_of new) (flags_of old) (flags_of new) a b over
+      law files marks st l after n old new s t (users_of old) (users_of new) (flags_of old) (flags_of new) a b put.types_stay over
       (filled files marks st l after n at os block f old new a.is_program o put).others
       (λ d k i other was. subst (λ (u : Known). is_user u d (k, i) ≡ true) (sym put.users_stay) was) settled may_stay
 

@@ -15,7 +15,7 @@ use Rattle.member_uses.specs.PossibleUses.Among.{Keyed}
 use Rattle.member_uses.specs.PossibleUses.Parts.{parts_of}
 use Rattle.constant_forms.specs.Views.{name_expr}
 use Rattle.order_runs.specs.CycleRuns.Linked.{Linked}
-use Rattle.printed_constants.specs.TypedParts.MarkedRuns.KeptMarks.Over.{IsOverName}
+use Rattle.constant_modules.specs.KeyedImports.Steps.{IsOverNameKeyed}
 use Rattle.repeated_parts.specs.UseSearch.MarkValues.Tables.{DeclKey, same_key}
 use Rattle.next_file.specs.declared.file.NewFile.{NewFile}
 use Rattle.next_file.specs.Files.{text_of}
@@ -109,7 +109,7 @@ StepsKeepSettled =
     (files : List Source) (marks : List MarkRef) (st : Standing) (l : Logged) (after : Standing)
     (n : Next marks st l after) (at : StepPlace) (os : List Span) (block : List (List ℕ)) (f : NewFile)
     (old new : Program) (s t : ProgramSources) → IsKeptProgram files marks st old s
-    → IsKeptProgram files marks after new t → IsOverName n → IsOfStep n at os block f → IsStepPut at os block f old new
+    → IsKeptProgram files marks after new t → IsOverNameKeyed n → IsOfStep n at os block f → IsStepPut at os block f old new
     → AreAllSettled marks st (users_of old) (flags_of old) → AreAllSettled marks after (users_of new) (flags_of new)
 
 -- ---- origins

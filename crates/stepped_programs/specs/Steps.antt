@@ -115,5 +115,6 @@ pub record IsStepPut (at : StepPlace) (os : List Span) (block : List (List ℕ))
       → slice_get kept.texts.items at.file ≡ Some body → new.bytes + length body ≡ old.bytes + length f.text
   pub places_stay : new.places ≡ old.places
   pub marks_stay : new.marks ≡ old.marks
+  pub types_stay : new.types ≡ old.types
   pub bad_stay : new.bad ≡ old.bad
   pub users_stay : new.users ≡ old.users

@@ -28,10 +28,10 @@ pub use laws::{origins_are_swapped, steps_keep_programs, steps_keep_settled, ste
 pub use place::StepPlace;
 pub use searched_sites::{
     files_are_searched_in_order, found_uses_are_steps, kept_uses_are_told_once, kept_uses_stay,
-    looks_tell_files, origins_are_told, printed_files_are_searchable, printed_files_are_searched,
-    programs_are_open, searched_programs_stay, searches_find_sites, searches_find_steps,
-    searches_settle_files, settled_files_stay, steps_go_on, steps_leave_other_files,
-    steps_swap_parts, typed_files_are_sound, values_are_told,
+    looks_tell_files, origins_are_told, programs_are_open, searched_programs_stay,
+    searches_find_sites, searches_find_steps, searches_settle_files, settled_files_stay,
+    steps_go_on, steps_leave_other_files, steps_swap_parts, tables_serve_programs,
+    typed_files_are_searchable, typed_files_are_sound, values_are_told,
 };
 pub use stepped_values::{
     constants_stay_marked, marked_values_stay, programs_are_held, settled_flags_stay,

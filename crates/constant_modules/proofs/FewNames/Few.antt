@@ -2,7 +2,7 @@
 use Rattle.std.proofs.Common.{◌≡◌, refl, sym, ap, subst, ◌∙◌, ◌⊎◌, inl, inr, ℕ, zero, suc, ◌+◌, ◌<◌, ◌≤◌, ◌^◌, Bool, true, false, if◌then◌else◌, nat_eq, List, [], ◌∷◌, ◌++◌, map, length, Option, Some, None, codes, arith, length-append}
 use Rattle.std.specs.Prelude.{slice_get}
 use Rattle.std.proofs.lemmas.List.{length-map}
-use Rattle.fresh_names.specs.Laws.{TakenAmong}
+use Rattle.fresh_names.specs.Laws.{TakenAmong, TakesFew}
 use Rattle.go_tree.specs.declared.spans.Span.{Span}
 use Rattle.go_tree.specs.Tree.{NameAt, Expr, ident, selector}
 use Rattle.go_tree.specs.File.{ImportSpec}
@@ -292,3 +292,16 @@ pub few-taken : (marks : List MarkRef) (st : Standing) (l : Logged) (after : Sta
 few-taken marks st l after n e part reads paths named small =
     let u : UsesConstant n = named-used marks st l after n e part named in
     few-of marks st n.found (step-makes-form marks st l after n) (placed marks st l after n) (record { home = u.home; home_is = u.home_is; name = u.name; value = u.value; declared = u.declared; as_name = u.as_name }) reads paths small
+
+-- few names aren't new in a file of a small program
+pub file-few : (st : Standing) → ProgramReads st → OnePathEach st.packages → texts_size st.texts ≤ the_limits.total → (w : Where At) → slice_get st.packages w.number ≡ Some w.of → slice_get w.of.files w.file_number ≡ Some w.source
+    → TakesFew w.source.tree (avoided (names_here st.packages w) [])
+file-few st reads paths small w package_is file_is =
+    record {
+      names = all-names st reads paths w package_is file_is;
+      taken = names-taken st reads paths w package_is file_is;
+      few = bounded (length (all-names st reads paths w package_is file_is)) (names-few st reads paths w package_is file_is small 0 (omega arith));
+    }
+  where
+    bounded : (k : ℕ) → k + 0 < 2 ^ 64 → k < 2 ^ 64
+    bounded k h = omega (arith, h)

@@ -53,7 +53,7 @@ use Rattle.constant_modules.proofs.NamedAnywhere.NamedLinked.{named_linked}
 use Rattle.constant_modules.specs.NamedAnywhere.Use.{ConstantUse, PackagesStandAnywhere}
 use Rattle.constant_modules.specs.NamedAnywhere.Runs.{found_anywhere, members_anywhere}
 
-nothing-behind : {A : Type 0} (xs : List A) → xs ++ [] ≡ xs
+pub nothing-behind : {A : Type 0} (xs : List A) → xs ++ [] ≡ xs
 nothing-behind [] = refl
 nothing-behind (x ∷ xs) = λ v. x ∷ nothing-behind xs v
 

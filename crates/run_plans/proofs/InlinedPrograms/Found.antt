@@ -9,7 +9,7 @@ use Rattle.next_file.specs.Limits.{ComesNext}
 use Rattle.next_file.specs.declared.limits.Progress.{Progress}
 use Rattle.stepped_programs.specs.declared.package_search.looks.ProgramSources.{ProgramSources}
 use Rattle.pkg_graph.specs.Package.{SourceTree, Package}
-use Rattle.printed_constants.specs.PrintedSteps.Laws as printed
+use Rattle.constant_modules.specs.ConstantPrograms.Laws as constants
 use Rattle.printed_constants.specs.StandingForms.Laws.{FirstUsesHaveNext}
 use Rattle.programs.specs.declared.state.Program.{Program}
 use Rattle.run_by_steps.specs.NextPrograms.Made.{NextWith}
@@ -75,12 +75,12 @@ module _ (b : Beginning) (done : List Logged) (st : Standing) (p : Program) (s :
     is_first = record { is_first = a.is_first; there = has_file.there }
 
     -- it uses a constant that is declared as a name
-    pub uses_name : printed.FirstUsesAreRight → UsesNamedConstant st (step_of a) (text_there h)
+    pub uses_name : constants.FirstUsesAreRight → UsesNamedConstant st (step_of a) (text_there h)
     uses_name right =
-        (right b.files (marks_in b) st (step_of a) (text_there h) u.found.found.form o.printed is_first (record { range_is = sym a.is_free.there; form_is = refl; named_is = refl })).0
+        (right b.files (marks_in b) st (step_of a) (text_there h) u.found.found.form o.constants is_first (record { range_is = sym a.is_free.there; form_is = refl; named_is = refl })).0
 
     -- there is a next program
-    pub ahead : printed.FirstUsesAreRight → FirstUsesHaveNext → (new : FileText) × (tree : File Span) × NextWith (marks_in b) st (step_of a) (text_there h) new tree
+    pub ahead : constants.FirstUsesAreRight → FirstUsesHaveNext → (new : FileText) × (tree : File Span) × NextWith (marks_in b) st (step_of a) (text_there h) new tree
     ahead right have = have (marks_in b) st (step_of a) (text_there h) o.kept.ready is_first (uses_name right)
 
   module _ (h : HasFileOf p u) (new : FileText) (tree : File Span) (n : NextWith (marks_in b) st (step_of a) (text_there h) new tree) where
@@ -98,7 +98,7 @@ module _ (b : Beginning) (done : List Logged) (st : Standing) (p : Program) (s :
     -- so far the run has come before it
     pub comes_next : FoundFilesStand → StepsComeNext → (progress : Progress) → HasCome progress b.files done row st (text_there h) → ComesNext progress b.files done row n.next.new n.after.texts
     comes_next stand come progress has =
-        come (marks_in b) b.files done st row n.after n.next progress o.printed.apart (subst (λ (t : FileText). HasCome progress b.files done row st t) (same_old stand) has)
+        come (marks_in b) b.files done st row n.after n.next progress o.constants.apart (subst (λ (t : FileText). HasCome progress b.files done row st t) (same_old stand) has)
 
     pub its_place : IsPlaceOf n.next (place_of u.home u.found)
     its_place =

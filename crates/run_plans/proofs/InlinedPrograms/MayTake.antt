@@ -5,8 +5,8 @@ use Rattle.next_file.specs.declared.limits.Progress.{Progress}
 use Rattle.stepped_programs.specs.declared.package_search.file_steps.step.FileStep.{FileStep}
 use Rattle.stepped_programs.specs.declared.package_search.looks.ProgramSources.{ProgramSources}
 use Rattle.printed_constants.specs.CountedNames.Laws.{StepsStayWithinTotal}
-use Rattle.printed_constants.specs.PrintedSteps.Laws.{PrintedStepsKeep}
-use Rattle.printed_constants.specs.PrintedSteps.Programs.{IsPrintedProgram}
+use Rattle.constant_modules.specs.ConstantPrograms.Laws.{ConstantProgramsStay}
+use Rattle.constant_modules.specs.ConstantPrograms.Programs.{IsConstantProgram}
 use Rattle.programs.specs.declared.state.Program.{Program}
 use Rattle.run_by_steps.specs.Reached.{row_of}
 use Rattle.run_by_steps.specs.RunProgress.Laws.{StepsComeNext}
@@ -55,7 +55,7 @@ module _ (b : Beginning) (done : List Logged) (st : Standing) (p : Program) (s :
       let t : length h.text ≤ texts_size st.texts = lie a.site.at.source.path (text_there h) st.texts (has_file b done st p s c u a o h stand).there in
       omega (arith, t, o.kept.is_program.bytes_are)
 
-  may_put : FoundFilesStand → UseStepsGoOn → StepsComeNext → PrintedStepsKeep → StepsStayWithinTotal → StepsMayBePut → (progress : Progress) (step : FileStep)
+  may_put : FoundFilesStand → UseStepsGoOn → StepsComeNext → ConstantProgramsStay → StepsStayWithinTotal → StepsMayBePut → (progress : Progress) (step : FileStep)
       → ComesTo b.files b.packages b.texts b.only done st p s u a progress → IsUseStep p u progress step → MayBePut p (place_of u.home u.found) step.file
   may_put stand on come keep total put progress step comes made =
       let h = made.file in
@@ -65,13 +65,13 @@ module _ (b : Beginning) (done : List Logged) (st : Standing) (p : Program) (s :
       let next : ComesNext progress b.files done l n.next.new n.after.texts = comes_next b done st p s c u a o h _ _ n stand come progress (comes.come h) in
       let fits : passed the_limits b.files done l n.next.new n.after.texts ≡ None =
       subst (λ (t : FileText). Passes progress t None) (sym n.text_is) made.within b.files done l n.after.texts next in
-      let program : IsPrintedProgram b.files (marks_in b) n.after = keep b.files (marks_in b) done st l n.after n.next o.printed fits in
+      let program : IsConstantProgram b.files (marks_in b) n.after = keep b.files (marks_in b) done st l n.after n.next o.constants fits in
       let small : length step.file.text ≤ the_limits.bytes = subst (λ (t : FileText). length t.text ≤ the_limits.bytes) n.text_is (total b.files done l n.next.new n.after.texts fits).0 in
-      put b.files (marks_in b) st l n.after n.next (place_of u.home u.found) step.file p o.kept.is_program (its_place b done st p s c u a o h _ _ n) (sym n.tree_is) program.ready.links
-      (few_bytes p.bytes (module_file_size b.files) (texts_size st.texts) (length step.file.text) o.kept.is_program.bytes_are o.printed.small small)
+      put b.files (marks_in b) st l n.after n.next (place_of u.home u.found) step.file p o.kept.is_program (its_place b done st p s c u a o h _ _ n) (sym n.tree_is) program.constants.ready.links
+      (few_bytes p.bytes (module_file_size b.files) (texts_size st.texts) (length step.file.text) o.kept.is_program.bytes_are o.constants.small small)
 
 pub may_take : StepsAreLogged → FirstUsesStayOnTheWay → FirstUsesAreFound → FoundUsesComeNext → ProgramsMayBeTold → FoundFilesStand → FoundUsesMayStep → UseStepsGoOn → UseStepsAreRead → StepsMayBePut
-    → PrintedStepsKeep → StepsStayWithinTotal → StepsComeNext → TextsLieWithin → OriginsWithinSteps → StepsMayBeTaken
+    → ConstantProgramsStay → StepsStayWithinTotal → StepsComeNext → TextsLieWithin → OriginsWithinSteps → StepsMayBeTaken
 may_take logs stay find come tell stand may on read put keep total follow lie origins b done st old new c u h f =
     let s : ProgramSources = h.sources in
     let o : IsOnTheWay b.files b.packages b.texts b.only done st new s c = stay b.files b.packages b.texts b.only done st old new s c (Some u) h.on_the_way f in

@@ -3,7 +3,7 @@ use Rattle.std.proofs.Common.{◌≡◌, ◌∙◌, sym, ap, subst, List, Some, 
 use Rattle.next_file.specs.Limits.{ComesNext, told}
 use Rattle.stepped_programs.specs.PackageSearch.FileSteps.Steps.{IsStepOf}
 use Rattle.stepped_programs.specs.declared.package_search.looks.ProgramSources.{ProgramSources}
-use Rattle.printed_constants.specs.PrintedSteps.Laws as printed
+use Rattle.constant_modules.specs.ConstantPrograms.Laws as constants
 use Rattle.printed_constants.specs.StandingForms.Laws.{FirstUsesHaveNext}
 use Rattle.programs.specs.declared.state.Program.{Program}
 use Rattle.run_by_steps.specs.Reached.{row_of}
@@ -76,7 +76,7 @@ module _ (b : Beginning) (done : List Logged) (st : Standing) (p : Program) (s :
   abbrev row : Logged
   row = row_of (marks_in b) st (step_of a) (text_there h)
 
-  limit_passed : StepsAreLogged → FoundUsesComeNext → FoundFilesStand → FoundUsesAreSteps → printed.FirstUsesAreRight → FirstUsesHaveNext → StepsComeNext → PassesLimit b done st at.home at.file (told at.passed)
+  limit_passed : StepsAreLogged → FoundUsesComeNext → FoundFilesStand → FoundUsesAreSteps → constants.FirstUsesAreRight → FirstUsesHaveNext → StepsComeNext → PassesLimit b done st at.home at.file (told at.passed)
   limit_passed logs come stand steps is_right have follow =
       let fault = t.passes.is_fault in
       let has : HasFile st a.site u.found (text_there h) fault.view h.text h.tokens = stand b.files (marks_in b) st p s u a h fault.view o.kept fault.is_view in
@@ -99,7 +99,7 @@ module _ (b : Beginning) (done : List Logged) (st : Standing) (p : Program) (s :
         in_file = (λ v. path_of_file st.packages (t.passes.home_is v) (t.passes.file_is v)) ∙ path_there b done st p s c u a o;
       }
 
-pub limits_stop : StepsAreLogged → FirstUsesStayOnTheWay → FirstUsesAreFound → FoundUsesComeNext → FoundFilesStand → FoundUsesAreSteps → printed.FirstUsesAreRight → FirstUsesHaveNext → StepsComeNext → LimitsStopRuns
+pub limits_stop : StepsAreLogged → FirstUsesStayOnTheWay → FirstUsesAreFound → FoundUsesComeNext → FoundFilesStand → FoundUsesAreSteps → constants.FirstUsesAreRight → FirstUsesHaveNext → StepsComeNext → LimitsStopRuns
 limits_stop logs stay find come stand steps is_right have follow b done st old new p c d u at h f t =
     let s : ProgramSources = h.sources in
     let o : IsOnTheWay b.files b.packages b.texts b.only done st new s c = stay b.files b.packages b.texts b.only done st old new s c (Some u) h.on_the_way f in

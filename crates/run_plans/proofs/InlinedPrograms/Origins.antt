@@ -15,7 +15,7 @@ use Rattle.pkg_graph.specs.Views.{source_of}
 use Rattle.pkg_graph.specs.declared.packages.Package.{Package}
 use Rattle.member_uses.specs.PossibleUses.Candidates.{Candidate}
 use Rattle.member_uses.specs.PossibleUses.Parts.{parts_of}
-use Rattle.printed_constants.specs.PrintedSteps.Laws as printed
+use Rattle.constant_modules.specs.ConstantPrograms.Laws as constants
 use Rattle.printed_constants.specs.StandingForms.Laws.{FirstUsesHaveNext}
 use Rattle.programs.specs.OriginsOfUses.Origins.{decls_origin}
 use Rattle.programs.specs.PartOrigins.Laws as as_kept
@@ -81,7 +81,7 @@ module _ (b : Beginning) (done : List Logged) (st : Standing) (p : Program) (s :
           mark_is = ap (λ (x : LoggedStep). mark_ref_of x.mark) is.log_is;
         }
 
-pub are_logged : FoundFilesStand → FoundUsesMayStep → printed.FirstUsesAreRight → FirstUsesHaveNext → StepsMakeForms → OriginsAreTold → StepsAreLogged
+pub are_logged : FoundFilesStand → FoundUsesMayStep → constants.FirstUsesAreRight → FirstUsesHaveNext → StepsMakeForms → OriginsAreTold → StepsAreLogged
 are_logged stand may right have makes told b done st p s c u a l o is_right is =
     let m : MayStep p u = may b.files (marks_in b) st p s u a o.kept is_right in
     let h : HasFileOf p u = m.file in

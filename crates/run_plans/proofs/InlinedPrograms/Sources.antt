@@ -15,4 +15,4 @@ as_sources p =
     }
 
 pub are_sources : (p : Program) → AreSourcesOf p (as_sources p)
-are_sources p = record { packages_told = refl; places_told = refl; marks_told = refl; values_told = refl }
+are_sources p = record { packages_told = refl; places_told = refl; marks_told = refl; values_told = refl; types_told = refl }

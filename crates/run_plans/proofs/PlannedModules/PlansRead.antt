@@ -19,18 +19,19 @@ use Rattle.read_modules.specs.Laws.{ModulesAreRead}
 use Rattle.read_modules.specs.Modules.{IsReadIn, packages_in, texts_in}
 use Rattle.refusals.specs.declared.refusal.Detail.TheVariants as detail
 use Rattle.refusals.specs.declared.refusal.Refusal.{Refusal}
-use Rattle.checked_modules.specs.RefusedBodies.PrintedPackages.Laws.{PrintOnlyIsPrinted}
-use Rattle.checked_modules.specs.RefusedBodies.PrintedPackages.Packages.{print_only}
 use Rattle.run_by_steps.specs.Reached.{AllSupported}
-use Rattle.run_rules.specs.Programs.{linked}
+use Rattle.literal_tables.specs.HasTypes.{HasTypes}
+use Rattle.repeated_parts.specs.declared.literal_types.table.LiteralTypes.{LiteralTypes}
+use Rattle.run_rules.specs.Programs.{linked, world}
 use Rattle.run_rules.specs.Run.{module_file_size, texts_size, the_limits}
 use Rattle.source_files.specs.declared.files.SourceFile.{SourceFile}
 use Rattle.stepped_programs.specs.LoadedPrograms.Loaded.{IsLoaded, marks_constants}
+use Rattle.variadic_words.specs.Laws.{FilesWithoutDots}
 use Rattle.run_plans.specs.InlinedPrograms.Beginnings.{BeginsRun}
 use Rattle.run_plans.specs.InlinedPrograms.Laws.{LoadedProgramsBeginRuns}
 use Rattle.run_plans.specs.PlannedModules.Folders.{AreFolder, AreOfFolder, size_of}
 use Rattle.run_plans.specs.PlannedModules.Loaded.{IsLoadedOf}
-use Rattle.run_plans.specs.PlannedModules.Modules.{IsRead, IsTaken, has_form, module_size}
+use Rattle.run_plans.specs.PlannedModules.Modules.{IsRead, IsTaken, has_form, is_formed, module_size}
 use Rattle.run_plans.specs.PlannedModules.Places.{IsTypingOf}
 use Rattle.run_plans.specs.PlannedModules.Planned.{IsModulePlan}
 use Rattle.run_plans.specs.PlannedModules.Runs.{IsRunFault, IsRunPlan, StartsRun, StartsSomeRun, beginning_of}
@@ -39,7 +40,7 @@ use Rattle.run_plans.specs.declared.planned_modules.faults.ModuleFault.{ModuleFa
 use Rattle.run_plans.specs.declared.planned_modules.faults.ModuleFault.TheVariants.{Refused, NoMemory}
 use Rattle.run_plans.specs.declared.planned_modules.plan.Plan.{Plan}
 use Rattle.run_plans.proofs.PlannedModules.Folders.{and_both}
-use Rattle.run_plans.proofs.PlannedModules.Forms.{constants, printed}
+use Rattle.run_plans.proofs.PlannedModules.Forms.{constants, formed}
 use Rattle.run_plans.proofs.PlannedModules.Members.{typed_members}
 use Rattle.run_plans.proofs.PlannedModules.FileSizes.{sizes_agree}
 
@@ -69,11 +70,11 @@ module _ (files : List SourceFile) (m : ReadModule) (r : IsReadFrom files m) (on
 
     -- ---- what is refused
 
-    pub unprinted : print_only (packages_in m) ≡ false → IsUnplanned folder files only (told_whole detail.NotYet)
-    unprinted e = not_built (packages_in m) (texts_in m) is_read (not_both_left (print_only (packages_in m)) (marks_constants (packages_in m) (texts_in m)) e)
+    pub formless : is_formed (packages_in m) (texts_in m) ≡ false → IsUnplanned folder files only (told_whole detail.NotYet)
+    formless e = not_built (packages_in m) (texts_in m) is_read (not_both_left (is_formed (packages_in m) (texts_in m)) (marks_constants (packages_in m) (texts_in m)) e)
 
     pub unmarked : marks_constants (packages_in m) (texts_in m) ≡ false → IsUnplanned folder files only (told_whole detail.NotYet)
-    unmarked e = not_built (packages_in m) (texts_in m) is_read (not_both_right (print_only (packages_in m)) (marks_constants (packages_in m) (texts_in m)) e)
+    unmarked e = not_built (packages_in m) (texts_in m) is_read (not_both_right (is_formed (packages_in m) (texts_in m)) (marks_constants (packages_in m) (texts_in m)) e)
 
     module _ (form : has_form (packages_in m) (texts_in m) ≡ true) where
       pub mistyped : (x : Refusal) → IsTypingOf files (packages_in m) (Some x) → IsUnplanned folder files only x
@@ -101,11 +102,11 @@ module _ (files : List SourceFile) (m : ReadModule) (r : IsReadFrom files m) (on
           pub run_refused : (x : Refusal) → IsRunFault folder files (packages_in m) (texts_in m) only (Refused x) → IsUnplanned folder files only x
           run_refused x h = passes_limit x (record { taken = taken; limit = h.limit; passes = h.passes; tells = h.tells })
 
-          module _ (prints : PrintOnlyIsPrinted Span) (begin : LoadedProgramsBeginRuns) (p : Program) (loaded : IsLoaded folder m only p) where
+          module _ (dots : FilesWithoutDots) (begin : LoadedProgramsBeginRuns) (p : Program) (loaded : IsLoaded folder m only p) (types : HasTypes (world (packages_in m)) p.types) where
             begins : BeginsRun (beginning_of folder m only) p
             begins =
                 begin folder m only p is_read.reads o.octets (words_told m.files.items r.words) (typed_members folder (packages_in m) (texts_in m) is_read.reads typed)
-                (printed (packages_in m) (texts_in m) form prints) (constants (packages_in m) (texts_in m) form only) small loaded
+                (formed (packages_in m) (texts_in m) form dots folder is_read.reads) (constants (packages_in m) (texts_in m) form only) small loaded types
 
             pub starts : StartsRun folder files m only p
             starts = record { read = read_in; begins = begins; bad_are = loaded.bad_are }
@@ -118,11 +119,8 @@ LoadsFrom m only bytes p =
     (folder : List Source) (files : List SourceFile) → IsReadIn folder files m → bytes ≡ module_file_size folder + texts_size (texts_in m) → IsLoaded folder m only p
 
 module _ (files : List SourceFile) (m : ReadModule) (r : IsReadFrom files m) (only : List ℕ) (read : ModulesAreRead) where
-  pub refused_unprinted : (e : ModuleFault) (b : Bool) (packages : List Package) → e ≡ Refused (told_whole detail.NotYet) → b ≡ print_only (map package_view packages) → packages ≡ m.graph.packages.items → b ≡ false
-      → IsModuleFault files only e
-  refused_unprinted e b packages is tested same none =
-      subst (IsModuleFault files only) (sym is)
-      (λ folder o. unprinted files m r only read folder o (ap (λ (ps : List Package). print_only (map package_view ps)) (sym same) ∙ sym tested ∙ none))
+  pub refused_formless : (e : ModuleFault) (b : Bool) → e ≡ Refused (told_whole detail.NotYet) → b ≡ is_formed (packages_in m) (texts_in m) → b ≡ false → IsModuleFault files only e
+  refused_formless e b is tested none = subst (IsModuleFault files only) (sym is) (λ folder o. formless files m r only read folder o (sym tested ∙ none))
 
   pub refused_unmarked : (e : ModuleFault) → e ≡ Refused (told_whole detail.NotYet) → false ≡ marks_constants (packages_in m) (texts_in m) → IsModuleFault files only e
   refused_unmarked e is none = subst (IsModuleFault files only) (sym is) (λ folder o. unmarked files m r only read folder o (sym none))
@@ -132,19 +130,16 @@ module _ (files : List SourceFile) (m : ReadModule) (r : IsReadFrom files m) (on
     bytes_as : size ≤ the_limits.total → (folder : List Source) (f : AreOfFolder folder files) → bytes ≡ module_file_size folder + texts_size (texts_in m)
     bytes_as small folder f = is small ∙ sum ∙ size_is files m r only read folder f
 
-    pub loaded_of : print_only (packages_in m) ≡ true → (l : Option Program) (p : Program) → l ≡ Some p → is_some l ≡ marks_constants (packages_in m) (texts_in m) → IfSome l (LoadsFrom m only bytes) → IsLoadedOf files m only o size p
-    loaded_of prints l p e marks loads =
+    pub loaded_of : is_formed (packages_in m) (texts_in m) ≡ true → (l : Option Program) (p : Program) → l ≡ Some p → (types : LiteralTypes) → HasTypes (world (packages_in m)) types → IfSome l (λ q. q.types ≡ types) → is_some l ≡ marks_constants (packages_in m) (texts_in m) → IfSome l (LoadsFrom m only bytes) → IsLoadedOf files m only o size p
+    loaded_of formed_ l p e types has told marks loads =
         record {
           read = r;
-          form = and_both (print_only (packages_in m)) (marks_constants (packages_in m) (texts_in m)) prints (sym marks ∙ ap is_some e);
+          form = and_both (is_formed (packages_in m) (texts_in m)) (marks_constants (packages_in m) (texts_in m)) formed_ (sym marks ∙ ap is_some e);
           typing = h;
           size_is = sum;
+          types = subst (HasTypes (world (packages_in m))) (sym (subst (λ (x : Option Program). IfSome x (λ q. q.types ≡ types)) e told)) has;
           loaded = λ small folder f. subst (λ (x : Option Program). IfSome x (LoadsFrom m only bytes)) e loads folder files (read_in files m r only read folder f) (bytes_as small folder f);
         }
-
--- the packages are those of the module
-pub prints_as : (m : ReadModule) (b : Bool) (packages : List Package) → b ≡ print_only (map package_view packages) → packages ≡ m.graph.packages.items → b ≡ true → print_only (packages_in m) ≡ true
-prints_as m b packages tested same some = ap (λ (ps : List Package). print_only (map package_view ps)) (sym same) ∙ sym tested ∙ some
 
 module _ (files : List SourceFile) (read : ModulesAreRead) (o : Option Refusal) (size : ℕ) (p : Program) (m : ReadModule) (only : List ℕ) (l : IsLoadedOf files m only o size p) where
   pub refused_mistyped : (x : Refusal) → o ≡ Some x → IsModuleFault files only (Refused x)
@@ -160,12 +155,12 @@ module _ (files : List SourceFile) (read : ModulesAreRead) (o : Option Refusal) 
     refused_oversized e is over =
         subst (IsModuleFault files only) (sym is) (λ folder f. oversized files m l.read only read folder f l.form typed_as size l.size_is over)
 
-    module _ (small : size ≤ 16777216) (law : PrintOnlyIsPrinted Span) (begin : LoadedProgramsBeginRuns) where
+    module _ (small : size ≤ 16777216) (law : FilesWithoutDots) (begin : LoadedProgramsBeginRuns) where
       fits : size_of files ≤ the_limits.total
       fits = subst (λ (n : ℕ). n ≤ the_limits.total) l.size_is small
 
       starts_in : (folder : List Source) (f : AreOfFolder folder files) → StartsRun folder files m only p
-      starts_in folder f = starts files m l.read only read folder f l.form typed_as fits law begin p (l.loaded small folder f)
+      starts_in folder f = starts files m l.read only read folder f l.form typed_as fits law begin p (l.loaded small folder f) l.types
 
       pub starts_some : AreFolder files → StartsSomeRun files p
       starts_some f = record { folder = sources_of files; read_module = m; only = only; starts = starts_in (sources_of files) f }

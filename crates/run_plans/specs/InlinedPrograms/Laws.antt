@@ -14,7 +14,9 @@ use Rattle.pkg_graph.specs.Reads.{Source}
 use Rattle.pkg_graph.specs.Views.{package_view}
 use Rattle.pkg_graph.specs.declared.packages.Package as code
 use Rattle.file_names.specs.Members.{IsBlockOf}
-use Rattle.run_rules.specs.Printed.{ArePrinted}
+use Rattle.constant_modules.specs.ConstantPrograms.Programs.{HasForm}
+use Rattle.literal_tables.specs.HasTypes.{HasTypes}
+use Rattle.run_rules.specs.Programs.{world}
 use Rattle.programs.specs.declared.state.Program.{Program}
 use Rattle.read_modules.specs.Modules.{packages_in, texts_in}
 use Rattle.report_order.specs.declared.rows.ReportRow.{ReportRow}
@@ -38,15 +40,16 @@ use Rattle.run_plans.specs.InlinedPrograms.Runs.{HasMadeStep, StandsAtEnd, HasSt
 use Rattle.run_plans.specs.InlinedPrograms.Steps.{IsLogOf, MayBeTaken, HasTaken, HasNotTaken}
 
 -- What is loaded of a module that reads begins a run, where the paths of its files are octets, its words are supported,
--- it is well typed and within the limit, all its declarations are constants and functions that print them, and all its
--- marks are of constants.
+-- it is well typed and within the limit, it has the form whose constants are inlined, all its marks are of constants, and
+-- the table of its types has those that it declares.
 abbrev pub LoadedProgramsBeginRuns : Type 0
 LoadedProgramsBeginRuns =
     (files : List Source) (m : ReadModule) (only : List ℕ) (p : Program)
     → ModuleReads files (packages_in m) (texts_in m) → list_all (λ f. each is_byte f.path) files ≡ true
-    → AllSupported (texts_in m) → WellTyped (packages_of (packages_in m) []) → ArePrinted (packages_in m)
+    → AllSupported (texts_in m) → WellTyped (packages_of (packages_in m) []) → HasForm (packages_in m)
     → AllConstants (packages_in m) (marks_of (packages_in m) (texts_in m) only)
     → module_file_size files + texts_size (texts_in m) ≤ the_limits.total → IsLoaded files m only p
+    → HasTypes (world (packages_in m)) p.types
     → BeginsRun (record { files = files; packages = packages_in m; texts = texts_in m; only = only }) p
 
 -- ---- the first free use of a program on its run

@@ -1,18 +1,22 @@
 -- Modules that are taken: of the form that is built, well typed, and within the limit of a module (Go specification,
 -- Packages; Constant declarations; Function declarations; golang.org/x/tools, analyzer inline, for marks).
-use Rattle.std.specs.Prelude.{◌≡◌, ◌≤◌, ℕ, ◌+◌, Bool, true, ◌&&◌, List}
+use Rattle.std.specs.Prelude.{◌≡◌, ◌≤◌, ℕ, ◌+◌, Bool, true, not, ◌&&◌, List}
+use Rattle.std.specs.List.{list_all, list_any}
 use Rattle.go_tree.specs.declared.spans.Span.{Span}
+use Rattle.go_tree.specs.File.{ImportSpec, File}
+use Rattle.go_tree.specs.GoTypes.Answers.{unless_missing}
 use Rattle.go_tree.specs.GoTypes.WellTyped.{well_typed}
+use Rattle.constant_modules.specs.ApartKeys.Files.{is_predeclared}
 use Rattle.module_refusals.specs.Refused.{AreModule}
 use Rattle.pkg_graph.specs.Package.{Package}
 use Rattle.pkg_graph.specs.Reads.{Source}
-use Rattle.checked_modules.specs.RefusedBodies.PrintedPackages.Packages.{print_only}
 use Rattle.run_rules.specs.Inlining.{ModuleReads}
 use Rattle.run_rules.specs.Programs.{linked}
 use Rattle.run_rules.specs.Run.{module_file_size, texts_size, the_limits}
 use Rattle.run_rules.specs.Texts.{FileText}
 use Rattle.source_files.specs.declared.files.SourceFile.{SourceFile}
 use Rattle.stepped_programs.specs.LoadedPrograms.Loaded.{marks_constants}
+use Rattle.variadic_words.specs.Dots.{is_dots}
 use Rattle.run_plans.specs.PlannedModules.Folders.{AreOfFolder}
 
 -- The files that are read of the folder are a module, and the folder reads as these packages, with these texts.
@@ -22,10 +26,29 @@ pub record IsRead (folder : List Source) (files : List SourceFile) (ps : List (P
   pub module_is : AreModule files
   pub reads : ModuleReads folder ps texts
 
--- The form that is built: besides imports the files hold only constants and functions that print them, and each mark
--- that means something is one of a constant.
+-- no file with these texts has variadic syntax
+abbrev pub without_dots : List (List ℕ × FileText) → Bool
+without_dots texts = list_all (λ t. not (list_any is_dots t.1.tokens)) texts
+
+-- the import's spec writes no predeclared identifier for its name
+abbrev pub named_apart : ImportSpec Span → Bool
+named_apart s = unless_missing s.name (λ n. not (is_predeclared n.name))
+
+-- nor does any other of the file
+abbrev pub imports_apart : File Span → Bool
+imports_apart f = list_all (λ d. list_all named_apart d.specs) f.imports
+
+-- neither the package nor an import of its files is named as a predeclared identifier
+abbrev pub package_apart : Package Span → Bool
+package_apart p = not (is_predeclared p.name) && list_all (λ f. imports_apart f.tree) p.files
+
+-- no file has variadic syntax, and no package or import is named as a predeclared identifier
+abbrev pub is_formed : List (Package Span) → List (List ℕ × FileText) → Bool
+is_formed ps texts = without_dots texts && list_all package_apart ps
+
+-- The form that is built: besides, each mark that means something is one of a constant.
 abbrev pub has_form : List (Package Span) → List (List ℕ × FileText) → Bool
-has_form ps texts = print_only ps && marks_constants ps texts
+has_form ps texts = is_formed ps texts && marks_constants ps texts
 
 -- the bytes of `go.mod` and of the files of Go source
 abbrev pub module_size : List Source → List (List ℕ × FileText) → ℕ

@@ -4,7 +4,8 @@ ghost use Rattle.run_plans.specs.InlinedPrograms.Laws.{LimitsStopRuns, LoadedPro
 ghost use Rattle.run_plans.specs.InlinedPrograms.Laws.{StepsAreLogged, StepsMayBeTaken, StoppedRunsAreTooLarge};
 ghost use Rattle.run_plans.specs.InlinedPrograms.Laws.{TakenStepsComeNext, TakenStepsKeepBlocks};
 
-use printed_constants::{first_uses_have_next, printed_steps_avoid_few_names, printed_steps_keep};
+use constant_modules::constant_programs::constant_programs_stay;
+use printed_constants::{first_uses_have_next, printed_steps_avoid_few_names};
 use run_by_steps::progress_follows_steps;
 use run_by_steps::step_counts::{counts_come, steps_are_counted};
 use splice_laws::import_splices::steps_make_forms;
@@ -17,8 +18,8 @@ use stepped_programs::{
     steps_may_be_put, use_steps_go_on,
 };
 
-/// What is loaded of a module that is well typed and within the limits begins a run, where all its declarations are
-/// constants and functions that print them, and all its marks are of constants (Go specification, Packages; Constant
+/// What is loaded of a module that is well typed and within the limits begins a run, where it has the form whose constants
+/// are inlined, and all its marks are of constants (Go specification, Packages; Constant
 /// declarations).
 pub fn loaded_programs_begin_runs()
     ensures { LoadedProgramsBeginRuns }
@@ -32,7 +33,7 @@ pub fn steps_are_logged()
     ensures { StepsAreLogged }
 {
     found_uses_may_step();
-    printed_steps_keep();
+    constant_programs_stay();
     first_uses_have_next();
     steps_make_forms();
     origins_are_told();
@@ -49,7 +50,7 @@ pub fn steps_may_be_taken()
     found_uses_may_step();
     use_steps_go_on();
     steps_may_be_put();
-    printed_steps_keep();
+    constant_programs_stay();
     printed_steps_avoid_few_names();
     progress_follows_steps();
     counts_come();
@@ -72,7 +73,7 @@ pub fn taken_steps_come_next()
     rows_tell();
     found_uses_are_steps();
     found_uses_may_step();
-    printed_steps_keep();
+    constant_programs_stay();
     first_uses_have_next();
     progress_follows_steps();
     first_uses_are_steps();

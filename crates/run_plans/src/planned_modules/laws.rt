@@ -4,10 +4,10 @@ ghost use Rattle.run_plans.specs.PlannedModules.Laws.{ListedFilesAreFolders, Nev
 ghost use Rattle.run_plans.specs.PlannedModules.Laws.{ReadFilesAreFolders, RefusalsAreAlike, RefusalsNameFiles};
 ghost use Rattle.run_plans.specs.PlannedModules.Laws.{TakenModulesPassLimits};
 
-use checked_modules::refused_bodies::printed_packages::print_only_is_printed;
+use constant_modules::constant_programs::constant_programs_stay;
 use module_refusals::{modules_have_no_refusal, one_refusal_at_most};
-use printed_constants::inlined_files::inlined_modules::printed_modules_are_inlined;
 use run_rules::programs_have_one_run;
+use variadic_words::files_without_dots_hand_on_no_slice;
 
 /// The files that are read of a folder are a folder of their own (`read`), and so are those with the paths that are
 /// selected of a list (`listed`): `plan_module` may be called for them (Go specification, Packages).
@@ -20,8 +20,8 @@ pub fn read_files_are_folders()
 pub fn plans_inline_modules()
     ensures { PlansInlineModules }
 {
-    print_only_is_printed();
-    printed_modules_are_inlined();
+    constant_programs_stay();
+    files_without_dots_hand_on_no_slice();
 }
 
 /// The files that are read of a folder have one plan at most, or else one refusal: its number, its file and its place.

@@ -4,22 +4,24 @@ ghost use Rattle.std.specs.Prelude.{◌≡◌, ◌<◌, ◌≤◌, ◌^◌, All,
 ghost use Rattle.module_reading.specs.Modules.{IsReadFrom};
 ghost use Rattle.module_reading.specs.declared.reading.ReadModule as declared;
 ghost use Rattle.pkg_graph.specs.Reads.{Source};
-ghost use Rattle.read_modules.specs.Modules.{packages_in};
-ghost use Rattle.checked_modules.specs.RefusedBodies.PrintedPackages.Packages.{print_only};
+ghost use Rattle.read_modules.specs.Modules.{packages_in, texts_in};
 ghost use Rattle.run_plans.specs.PlannedModules.Folders.{AreFolder, AreOfFolder};
 ghost use Rattle.run_plans.specs.PlannedModules.Loaded.{IsLoadedOf, IsLoadedOfSome};
+ghost use Rattle.run_plans.specs.PlannedModules.Modules.{is_formed as spec_is_formed};
 ghost use Rattle.run_plans.specs.PlannedModules.Places.{IsTypingOf};
 ghost use Rattle.run_plans.specs.PlannedModules.Planned.{IsModulePlan};
 ghost use Rattle.run_plans.specs.PlannedModules.Unplanned.{IsModuleFault};
 
 use crate::inlined_programs::loaded_programs_begin_runs;
 use crate::planned_modules::faults::ModuleFault;
+use crate::planned_modules::names::is_formed;
 use crate::planned_modules::places::typing_fault;
 use crate::planned_modules::plan::Plan;
 use crate::planned_modules::runs::plan_run;
 use crate::planned_modules::sizes::{total_bytes, within_limit};
 use crate::planned_modules::told::{not_built, too_large};
-use checked_modules::refused_bodies::printed_packages::{print_only, print_only_is_printed};
+use crate::planned_modules::types::declared_types;
+use checked_modules::read_values_are_spelled;
 use folder_reading::MAX_MODULE_BYTES;
 use go_tree::MAX_FILE_BYTES;
 use module_reading::{ReadModule, read_module_files};
@@ -30,6 +32,7 @@ use refusals::Refusal;
 use source_files::SourceFile;
 use std::alloc::Global;
 use stepped_programs::loaded_programs::load_program;
+use variadic_words::files_without_dots_hand_on_no_slice;
 
 /// Why the files are no module. Want of memory, where they are one.
 fn no_module(alloc: Global, files: &[SourceFile]) -> ModuleFault
@@ -44,8 +47,8 @@ fn no_module(alloc: Global, files: &[SourceFile]) -> ModuleFault
 }
 
 /// The place of the first fault of the module that was read from these files, as it is told; None where it is well
-/// typed. An error where the module isn't of constants and functions that print them alone; also where memory is
-/// refused, as `typing_fault` says.
+/// typed. An error where a file has variadic syntax, or a
+/// package or an import is named as a predeclared identifier; also where memory is refused, as `typing_fault` says.
 fn form_fault(
     alloc: Global,
     files: &[SourceFile],
@@ -54,12 +57,12 @@ fn form_fault(
     requires count { length files.now < 2 ^ 32 }
     requires small { All (λ f. length f.bytes ≤ MAX_FILE_BYTES) files.now }
     requires read { IsReadFrom files.now read.now }
-    ensures prints { OnOk result (print_only (packages_in read.now) ≡ true) }
+    ensures formed { OnOk result (spec_is_formed (packages_in read.now) (texts_in read.now) ≡ true) }
     ensures typing { IfOk result (IsTypingOf files.now (packages_in read.now)) }
     ensures refused { IfErr result (λ e. (only : List ℕ) → IsModuleFault files.now only e) }
 {
     modules_are_read();
-    if !print_only(read.graph.packages()) {
+    if !is_formed(&read.files, read.graph.packages()) {
         return Err(not_built());
     }
     Ok(typing_fault(alloc, files, read)?)
@@ -84,7 +87,7 @@ fn plan_loaded(
         → IsLoadedOf files.now m only fault size program.old → IsModuleFault files.now only e) }
 {
     modules_are_read();
-    print_only_is_printed();
+    files_without_dots_hand_on_no_slice();
     loaded_programs_begin_runs();
     if let Some(refusal) = fault {
         return Err(ModuleFault::Refused(refusal));
@@ -112,9 +115,11 @@ fn plan_read(
 {
     modules_are_read();
     modules_may_be_loaded();
+    read_values_are_spelled();
+    let types = declared_types(alloc, read.graph.packages(), read.graph.order())?;
     let fault = form_fault(alloc, files, &read)?;
     let size = total_bytes(files);
-    match load_program(alloc, read, only, within_limit(size)) {
+    match load_program(alloc, read, types, only, within_limit(size)) {
         Ok(Some(mut program)) => {
             let plan = plan_loaded(alloc, files, &mut program, fault, size);
             drop(program);
@@ -135,7 +140,7 @@ fn plan_read(
 /// names begin with `only`.
 ///
 /// The checks come in this order: `first_refusal`'s, so any module is read; 100 where the module isn't of the form that
-/// is built, which is constants, functions that print them, and marks of constants alone; 401 at the place of the first
+/// is built, since a file has variadic syntax or a mark is of a function, a method or an alias; 401 at the place of the first
 /// fault where it isn't well typed; 501 where it has more bytes than a module may have; and 501 where its run passes a
 /// limit. Want of memory is told as such (Go specification, Packages; Constant declarations; golang.org/x/tools,
 /// analyzer inline).

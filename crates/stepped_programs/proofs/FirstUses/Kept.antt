@@ -8,6 +8,7 @@ use Rattle.run_rules.specs.Programs.{in_dependency_order}
 use Rattle.run_rules.specs.Run.{Standing}
 use Rattle.run_rules.specs.Sites.{MarkRef}
 use Rattle.run_rules.specs.Steps.{At}
+use Rattle.stepped_programs.specs.SearchedSites.Fields.{TellsFields}
 use Rattle.stepped_programs.specs.declared.package_search.looks.ProgramSources.{ProgramSources}
 use Rattle.programs.specs.declared.state.PackageFiles.{PackageFiles}
 use Rattle.programs.specs.declared.state.Program.{Program}
@@ -61,6 +62,7 @@ module _ (files : List Source) (marks : List MarkRef) (st : Standing) (old new :
         places_told = t.places_told ∙ sym (ap (λ (p : Program). p.places) f.rest);
         marks_told = t.marks_told ∙ sym (ap (λ (p : Program). p.marks) f.rest);
         values_told = t.values_told ∙ sym (ap (λ (p : Program). p.values) f.rest);
+        types_told = t.types_told ∙ sym (ap (λ (p : Program). p.types) f.rest);
       }
 
   kept_stays : (s : ProgramSources) → IsKeptProgram files marks st old s → IsKeptProgram files marks st new s
@@ -71,6 +73,7 @@ module _ (files : List Source) (marks : List MarkRef) (st : Standing) (old new :
         ready = a.ready;
         typed = a.typed;
         named = a.named;
+        fields = subst (TellsFields st.packages) (sym (ap (λ (p : Program). p.types) f.rest)) a.fields;
         searchable = a.searchable;
       }
 

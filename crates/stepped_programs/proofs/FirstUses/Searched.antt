@@ -35,7 +35,7 @@ use Rattle.stepped_programs.proofs.FirstUses.Flagged.{kept_there, kept_same, fla
 
 -- ---- looks, where the same is told
 
-module _ (s t : ProgramSources) (packages : s.packages.now ≡ t.packages.now) (marks : s.marks.now ≡ t.marks.now) (values : s.values.now ≡ t.values.now) where
+module _ (s t : ProgramSources) (packages : s.packages.now ≡ t.packages.now) (marks : s.marks.now ≡ t.marks.now) (values : s.values.now ≡ t.values.now) (types : s.types.now ≡ t.types.now) where
   look_same : (home : ℕ) (source : SourceTree) (tokens : TokenLists) (block : List (List ℕ)) (l : FileLook) → IsLook s home source tokens block l → IsLook t home source tokens block l
   look_same home source tokens block l k =
       record {
@@ -46,6 +46,7 @@ module _ (s t : ProgramSources) (packages : s.packages.now ≡ t.packages.now) (
         program = k.program;
         packages_told = k.packages_told ∙ packages;
         values_told = k.values_told ∙ values;
+        types_told = k.types_told ∙ types;
         view = k.view;
         home_told = k.home_told;
         tree_told = k.tree_told;
@@ -104,6 +105,9 @@ module _ (a b c : Program) (k : ℕ) (r : Option FoundInPackage) (f : IsFlagged 
   values : x.sources.values.now ≡ s.values.now
   values = x.values_told ∙ ap (λ (p : Program). p.values) f.rest ∙ sym told.values_told
 
+  types : x.sources.types.now ≡ s.types.now
+  types = x.types_told ∙ ap (λ (p : Program). p.types) f.rest ∙ sym told.types_told
+
   tokens : x.search.was.tokens.items ≡ tokens_in a k
   tokens = tokens_same a b f k x.search.was x.search.was_is
 
@@ -122,7 +126,7 @@ module _ (a b c : Program) (k : ℕ) (r : Option FoundInPackage) (f : IsFlagged 
   look_here : (i : ℕ) (l : FileLook) → LookAt x.sources k x.search.home x.search.was.tokens.items i l → LookAt s k x.search.home (tokens_in a k) i l
   look_here i l w =
       subst (λ (ts : List TokenLists). LookAt s k x.search.home ts i l) tokens
-      (at_same x.sources s packages marks values k x.search.home x.search.was.tokens.items i l w)
+      (at_same x.sources s packages marks values types k x.search.home x.search.was.tokens.items i l w)
 
   abbrev Comes : Program → ℕ → Package → ℕ → Type 0
   Comes p j home i = (is_settled (flags_of a j) i ≡ true) ⊎ HasNoneOf s (tokens_in a) (users_of p) j home i

@@ -15,7 +15,7 @@ use Rattle.stepped_programs.specs.FirstUses.First.{found_in}
 use Rattle.stepped_programs.specs.FirstUses.Laws.{FirstUsesAreSteps, FirstUsesSettleFiles}
 
 is_held : ProgramsAreHeld → (files : List Source) (marks : List MarkRef) (st : Standing) (p : Program) (s : ProgramSources) → IsKeptProgram files marks st p s → IsHeld marks st s (tokens_in p)
-is_held held files marks st p s a = held files marks st p s a.is_program a.sources a.named a.ready.links.ordered a.ready.typed a.searchable
+is_held held files marks st p s a = held files marks st p s a.is_program a.sources a.named a.ready.links.ordered a.ready.typed a.fields a.searchable
 
 pub settle : ProgramsAreHeld → SearchesSettleFiles → FirstUsesSettleFiles
 settle held law files marks st old new s r a settled u =

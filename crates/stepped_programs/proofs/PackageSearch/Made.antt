@@ -26,10 +26,10 @@ module _ (s : ProgramSources) (home : ℕ) (source : SourceTree) (tokens : Token
       → l.tables.names.«package» ≡ block
       → IsTableOf l.tables.names (file_of source.tree) (table_of l.tables.scopes)
       → l.tables.imports.items ≡ map (number_in (map package_view s.packages.now)) (import_specs (file_of source.tree))
-      → p.packages.now ≡ s.packages.now → p.values.now ≡ s.values.now → v.home ≡ home → file_of v.tree.now ≡ file_of source.tree
+      → p.packages.now ≡ s.packages.now → p.values.now ≡ s.values.now → p.types.now ≡ s.types.now → v.home ≡ home → file_of v.tree.now ≡ file_of source.tree
       → v.comments.now ≡ tokens.comments → v.names.now ≡ l.tables.names → table_of v.scopes.now ≡ table_of l.tables.scopes → v.imports.now ≡ l.tables.imports.items
       → IsLook s home source tokens block l
-  look_made found names stays table imports packages values is_home tree comments own scopes numbers =
+  look_made found names stays table imports packages values types is_home tree comments own scopes numbers =
       record {
         names_are = names;
         block_stays = stays;
@@ -38,6 +38,7 @@ module _ (s : ProgramSources) (home : ℕ) (source : SourceTree) (tokens : Token
         program = p;
         packages_told = packages;
         values_told = values;
+        types_told = types;
         view = v;
         home_told = is_home;
         tree_told = tree;

@@ -1,27 +1,31 @@
 -- What is loaded of a module stands at the beginning of a run; a program without a free use at its end.
-use Rattle.std.proofs.Common.{◌≡◌, ◌∙◌, refl, sym, ap, ℕ, ◌+◌, ◌≤◌, Bool, true, false, List, [], Option, Some, None, arith}
+use Rattle.std.proofs.Common.{◌≡◌, ◌∙◌, refl, sym, ap, subst, ℕ, Bool, true, false, List, [], Option, Some, None}
 use Rattle.std.specs.Prelude.{slice_get}
 use Rattle.pkg_graph.specs.Package.{Package}
 use Rattle.go_tree.specs.declared.spans.Span.{Span}
 use Rattle.stepped_programs.specs.PackageSearch.Search.{is_settled}
-use Rattle.printed_constants.specs.PrintedSteps.Laws.{ReadModulesArePrintedPrograms}
-use Rattle.printed_constants.specs.PrintedSteps.Programs.{IsPrintedProgram}
+use Rattle.constant_modules.specs.ConstantPrograms.Laws.{ReadModulesAreConstantPrograms}
+use Rattle.constant_modules.specs.ConstantPrograms.Programs.{IsConstantProgram}
+use Rattle.literal_tables.specs.HasTypes.{HasTypes}
+use Rattle.literal_tables.specs.Laws.{StandingTablesAreRight}
 use Rattle.programs.specs.declared.state.PackageFiles.{PackageFiles}
 use Rattle.programs.specs.declared.state.Program.{Program}
 use Rattle.programs.specs.Programs.{NoneAreSettled}
 use Rattle.read_modules.specs.Modules.{packages_in, texts_in}
 use Rattle.run_rules.specs.Inlining.{begins, standing_as_read}
 use Rattle.run_rules.specs.Marks.{marks_of}
-use Rattle.run_rules.specs.Run.{Standing, module_file_size, texts_size, the_limits}
+use Rattle.run_rules.specs.Run.{Standing}
+use Rattle.run_rules.specs.Programs.{world}
 use Rattle.run_rules.specs.Sites.{MarkRef}
+use Rattle.constant_modules.specs.NamedThere.Steps.{IsOfConstants}
 use Rattle.run_rules.specs.Texts.{FileText}
 use Rattle.run_by_steps.specs.StepCounts.Laws.{NoneAreCounted}
 use Rattle.stepped_programs.specs.FirstUses.Laws.{FirstUsesAreSteps}
 use Rattle.stepped_programs.specs.Laws.{flags_of}
 use Rattle.stepped_programs.specs.SearchedSites.FoundSteps.Laws.{SearchesEndRuns}
-use Rattle.stepped_programs.specs.SearchedSites.PrintedSearches.Laws.{PrintedFilesAreSearchable}
-use Rattle.printed_constants.specs.DeclaredConstants.Laws.{ReadConstantsNameConstants}
+use Rattle.stepped_programs.specs.SearchedSites.TypedSearches.Laws.{TypedFilesAreSearchable, TablesServePrograms}
 use Rattle.stepped_programs.specs.ProgramsOnTheWay.Laws.{RunsBegin, RunsEnd}
+use Rattle.stepped_programs.proofs.LoadedPrograms.AsRead.{packages_reread}
 
 none_set : (i : ℕ) → is_settled [] i ≡ true → ⊥
 none_set i h = cc
@@ -46,28 +50,30 @@ unsettled p none k i e = by (slice_get p.files.items k) refl (sym (ap (λ (bs : 
     by None h e = none_set i (sym (ap (λ (o : Option PackageFiles). is_settled (flags o) i) h) ∙ e)
     by (Some f) h e = not_both (is_settled f.settled.items i) (none k f h i) (sym (ap (λ (o : Option PackageFiles). is_settled (flags o) i) h) ∙ e)
 
-pub texts_small : (n m : ℕ) → n + m ≤ the_limits.total → m ≤ the_limits.total
-texts_small n m h = let k : n + m ≤ 16777216 = h in omega (arith, k)
-
-pub runs_begin : ReadConstantsNameConstants → PrintedFilesAreSearchable → ReadModulesArePrintedPrograms → NoneAreCounted → RunsBegin
-runs_begin names searchable read none files m only p s c r octets words typed printed constants small loaded sources steps origins =
+pub runs_begin : TypedFilesAreSearchable → TablesServePrograms → StandingTablesAreRight → ReadModulesAreConstantPrograms → NoneAreCounted → RunsBegin
+runs_begin searchable serve right read none files m only p s c r octets words typed form constants small loaded sources declared steps origins =
     let ps : List (Package Span) = packages_in m in
     let texts : List (List ℕ × FileText) = texts_in m in
     let marks : List MarkRef = marks_of ps texts only in
     let st : Standing = standing_as_read ps texts in
-    let program : IsPrintedProgram files marks st = read files ps texts only r octets typed printed constants (names files ps texts only r octets typed printed constants) small in
+    let program : IsConstantProgram files marks st = read files ps texts only r octets typed form constants small in
+    let its : IsOfConstants marks st = program.constants in
+    let types : HasTypes (world st.packages) p.types =
+    right st.packages p.types (subst (λ (qs : List (Package Span)). HasTypes (world qs) p.types) (sym (packages_reread ps)) declared) in
     record {
       reached = record { read = r; octets = octets; supported = words; steps = begins [] st };
       kept =
           record {
             is_program = loaded.is_program;
             sources = sources;
-            ready = program.ready;
-            typed = program.typed;
-            named = program.named;
-            searchable = searchable marks st program.ready.reads program.ready.paths program.printed (texts_small (module_file_size files) (texts_size st.texts) small);
+            ready = its.ready;
+            typed = its.typed;
+            named = its.named;
+            fields = serve st p.types its.ready.reads its.ready.links.ordered its.ready.typed types;
+            searchable = searchable marks st its.ready.reads its.ready.paths its.ready.links.ordered its.ready.typed its.small;
           };
-      printed = program;
+      constants = program;
+      types = types;
       settled = λ w there flag. absurd (unsettled p loaded.unsettled w.number w.file_number flag);
       counted = none st.packages c steps origins;
     }

@@ -12,8 +12,11 @@ use Rattle.next_file.specs.Limits.{Passes}
 use Rattle.stepped_programs.specs.declared.package_search.looks.ProgramSources.{ProgramSources}
 use Rattle.stepped_programs.specs.declared.package_search.search.FoundInPackage.{FoundInPackage}
 use Rattle.printed_constants.specs.CountedNames.Laws.{StepsStayWithinTotal}
-use Rattle.printed_constants.specs.PrintedSteps.Laws.{StepsAreOverNames, PrintedStepsKeep}
-use Rattle.printed_constants.specs.PrintedSteps.Programs.{IsPrintedProgram}
+use Rattle.constant_modules.specs.ConstantPrograms.Laws.{StepsAreOverNames, ConstantProgramsStay, StepsKeepWorlds}
+use Rattle.constant_modules.specs.ConstantPrograms.Programs.{IsConstantProgram}
+use Rattle.constant_modules.specs.NamedThere.Steps.{IsOfConstants}
+use Rattle.literal_tables.specs.HasTypes.{HasTypes}
+use Rattle.literal_tables.specs.Laws.{SameWorldsKeepTables}
 use Rattle.run_by_steps.specs.NextPrograms.Made.{NextWith}
 use Rattle.run_by_steps.specs.Reached.{row_of}
 use Rattle.run_by_steps.specs.RunProgress.Laws.{HasCome, StepsComeNext}
@@ -27,10 +30,12 @@ use Rattle.stepped_programs.specs.FirstUses.StepLaws.{FoundFilesStand, ComesTo, 
 use Rattle.stepped_programs.specs.Laws.{place_of, IsOfStep, FoundUsesArePut, StepsKeepPrograms, StepsKeepSettled}
 use Rattle.stepped_programs.specs.SearchedSites.FoundSteps.Laws.{step_of}
 use Rattle.stepped_programs.specs.SearchedSites.OrderedSearches.Found.{IsFoundFirst}
-use Rattle.stepped_programs.specs.SearchedSites.PrintedSearches.Laws.{PrintedFilesAreSearchable}
+use Rattle.stepped_programs.specs.SearchedSites.TypedSearches.Laws.{TypedFilesAreSearchable, TablesServePrograms}
 use Rattle.stepped_programs.specs.SteppedValues.Flags.{IsKeptProgram}
 use Rattle.stepped_programs.specs.ProgramsOnTheWay.Laws.{StepsStayOnTheWay, BlocksStayOnTheWay}
 use Rattle.stepped_programs.specs.ProgramsOnTheWay.OnTheWay.{IsOnTheWay}
+use Rattle.repeated_parts.specs.declared.literal_types.table.LiteralTypes.{LiteralTypes}
+use Rattle.run_rules.specs.Programs.{world}
 use Rattle.stepped_programs.specs.FirstUses.Step.{IsUseStep}
 use Rattle.stepped_programs.specs.Steps.{AreSwapped}
 use Rattle.stepped_programs.specs.declared.first_uses.first.FirstUse.{FirstUse}
@@ -38,10 +43,9 @@ use Rattle.stepped_programs.specs.declared.package_search.file_steps.step.FileSt
 use Rattle.stepped_programs.proofs.Filled.{block_put}
 use Rattle.programs.specs.declared.state.Program.{Program}
 use Rattle.run_by_steps.specs.declared.step_counts.counts.StepCounts.{StepCounts}
-use Rattle.stepped_programs.proofs.ProgramsOnTheWay.Begin.{texts_small}
 
 module _ (files : List Source) (marks : List MarkRef) (st : Standing) (s : ProgramSources) (k : ℕ) (r : FoundInPackage) (a : IsFoundFirst marks st s k r) (old : FileText) (f : NewFile) (n : NextWith marks st (step_of a) old (text_of f) (file_of f.tree))
-    (program : IsPrintedProgram files marks st) where
+    (program : IsConstantProgram files marks st) where
   abbrev row : Logged
   row = row_of marks st (step_of a) old
 
@@ -69,39 +73,44 @@ is_of stand total are_put come files ps texts only done st p s c u a progress st
     let old : FileText = text_there made.file in
     let right = comes.right made.file in
     let there = (stand files marks st p s u a made.file made.view o.kept made.is_view).there in
-    let fits = within files marks st s u.home u.found a old step.file n o.printed come done progress there (comes.come made.file) made.within in
+    let fits = within files marks st s u.home u.found a old step.file n o.constants come done progress there (comes.come made.file) made.within in
     let small : length step.file.text ≤ 4194304 = subst (λ (x : FileText). length x.text ≤ 4194304) n.text_is (total files done (row_of marks st (step_of a) old) n.next.new n.after.texts fits).0 in
     are_put files marks st s u.home u.found a old step.file n p os right.expr o.kept.is_program right.part small swapped
 
-pub stay_on : FoundFilesStand → PrintedFilesAreSearchable → StepsAreOverNames → PrintedStepsKeep → StepsStayWithinTotal → FoundUsesArePut → StepsComeNext → StepsAreCounted → StepsKeepPrograms → StepsKeepSettled → StepsStayOnTheWay
-stay_on stand searchable over keeps total are_put come count keep settle files ps texts only done st p q s t c d u a progress step o comes made n reached os swapped put sources more =
+pub stay_on : FoundFilesStand → TypedFilesAreSearchable → TablesServePrograms → SameWorldsKeepTables → StepsKeepWorlds → StepsAreOverNames → ConstantProgramsStay → StepsStayWithinTotal → FoundUsesArePut → StepsComeNext → StepsAreCounted → StepsKeepPrograms → StepsKeepSettled → StepsStayOnTheWay
+stay_on stand searchable serve tables worlds over keeps total are_put come count keep settle files ps texts only done st p q s t c d u a progress step o comes made n reached os swapped put sources more =
     let marks : List MarkRef = marks_of ps texts only in
     let old : FileText = text_there made.file in
     let l : Logged = row_of marks st (step_of a) old in
     let there = (stand files marks st p s u a made.file made.view o.kept made.is_view).there in
-    let fits = within files marks st s u.home u.found a old step.file n o.printed come done progress there (comes.come made.file) made.within in
-    let program : IsPrintedProgram files marks n.after = keeps files marks done st l n.after n.next o.printed fits in
+    let fits = within files marks st s u.home u.found a old step.file n o.constants come done progress there (comes.come made.file) made.within in
+    let program : IsConstantProgram files marks n.after = keeps files marks done st l n.after n.next o.constants fits in
+    let its : IsOfConstants marks n.after = program.constants in
+    let types : HasTypes (world n.after.packages) q.types =
+    subst (λ (t : LiteralTypes). HasTypes (world n.after.packages) t) (sym put.types_stay) (tables (world st.packages) (world n.after.packages) p.types (worlds files marks st l n.after n.next o.constants) o.types) in
     let is : IsOfStep n.next (place_of u.home u.found) os u.found.tables.names.«package» step.file =
     is_of stand total are_put come files ps texts only done st p s c u a progress step o comes made n os swapped in
     let kept : IsKeptProgram files marks n.after q t =
     record {
-      is_program = keep files marks st l n.after n.next (place_of u.home u.found) os u.found.tables.names.«package» step.file p q o.kept.is_program o.printed.apart is put;
+      is_program = keep files marks st l n.after n.next (place_of u.home u.found) os u.found.tables.names.«package» step.file p q o.kept.is_program o.constants.apart is put;
       sources = sources;
-      ready = program.ready;
-      typed = program.typed;
-      named = program.named;
-      searchable = searchable marks n.after program.ready.reads program.ready.paths program.printed (texts_small (module_file_size files) (texts_size n.after.texts) program.small);
+      ready = its.ready;
+      typed = its.typed;
+      named = its.named;
+      fields = serve n.after q.types its.ready.reads its.ready.links.ordered its.ready.typed types;
+      searchable = searchable marks n.after its.ready.reads its.ready.paths its.ready.links.ordered its.ready.typed its.small;
     } in
     record {
       reached = reached;
       kept = kept;
-      printed = program;
+      constants = program;
+      types = types;
       settled =
-          settle files marks st l n.after n.next (place_of u.home u.found) os u.found.tables.names.«package» step.file p q s t o.kept kept (over files marks st l n.after n.next o.printed) is put
+          settle files marks st l n.after n.next (place_of u.home u.found) os u.found.tables.names.«package» step.file p q s t o.kept kept (over files marks st l n.after n.next o.constants) is put
           o.settled;
       counted =
           count marks st l n.after n.next done c d o.kept.is_program.paths o.counted
-          (subst (λ (g : Found At). OneMore c d (g.site.at.number, (g.site.at.file_number, (part_span a.site.part).origin.start))) (sym (same files marks st s u.home u.found a old step.file n o.printed)) more);
+          (subst (λ (g : Found At). OneMore c d (g.site.at.number, (g.site.at.file_number, (part_span a.site.part).origin.start))) (sym (same files marks st s u.home u.found a old step.file n o.constants)) more);
     }
 
 pub blocks_stay_on : FoundFilesStand → StepsStayWithinTotal → FoundUsesArePut → StepsComeNext → BlocksStayOnTheWay

@@ -20,8 +20,8 @@ use Rattle.pkg_graph.specs.declared.packages.SourceTree as code
 use Rattle.member_uses.specs.PossibleUses.Among.{Keyed}
 use Rattle.member_uses.specs.PossibleUses.Candidates.{Candidate}
 use Rattle.member_uses.specs.PossibleUses.Parts.{parts_of}
-use Rattle.printed_constants.specs.PrintedUses.Laws.{PrintedUsesAreExpressions}
-use Rattle.printed_constants.specs.PrintedSteps.Programs.{IsPrintedProgram}
+use Rattle.constant_modules.specs.ConstantPrograms.Programs.{IsConstantProgram}
+use Rattle.constant_modules.specs.TypedUses.Laws.{ConstantUsesAreExpressions}
 use Rattle.run_rules.specs.Inlining.{ReadsAs}
 use Rattle.run_rules.specs.Marks.{home_path, marked_name}
 use Rattle.run_rules.specs.Programs.{decl_seen}
@@ -144,9 +144,9 @@ same_once own (k ∷ ks) = λ v. if list_any (same_span k.use_.span) own then sa
 
 -- ---- a file
 
-module _ (folder : List Source) (marks : List MarkRef) (st : Standing) (p : Program) (s : ProgramSources) (kept : IsKeptProgram folder marks st p s) (printed : IsPrintedProgram folder marks st)
+module _ (folder : List Source) (marks : List MarkRef) (st : Standing) (p : Program) (s : ProgramSources) (kept : IsKeptProgram folder marks st p s) (program : IsConstantProgram folder marks st)
     (files : List ReportSource) (places : List (List ℕ × ℕ)) (finds : FindsFiles places files)
-    (held : ProgramsAreHeld) (look : LooksFindSites) (origins : OriginsAreTold) (expressions : PrintedUsesAreExpressions) (placed : UsesArePlaced) where
+    (held : ProgramsAreHeld) (look : LooksFindSites) (origins : OriginsAreTold) (expressions : ConstantUsesAreExpressions) (placed : UsesArePlaced) where
   abbrev ps : List (pure.Package At)
   ps = st.packages
 
@@ -158,10 +158,10 @@ module _ (folder : List Source) (marks : List MarkRef) (st : Standing) (p : Prog
     sources = t.look.sources
 
     are_sources : AreSourcesOf p sources
-    are_sources = record { packages_told = t.look.packages_told; places_told = t.look.places_told; marks_told = t.look.marks_told; values_told = t.look.values_told }
+    are_sources = record { packages_told = t.look.packages_told; places_told = t.look.places_told; marks_told = t.look.marks_told; values_told = t.look.values_told; types_told = t.look.types_told }
 
     is_held : IsHeld marks st sources (tokens_in p)
-    is_held = held folder marks st p sources kept.is_program are_sources kept.named kept.ready.links.ordered kept.ready.typed kept.searchable
+    is_held = held folder marks st p sources kept.is_program are_sources kept.named kept.ready.links.ordered kept.ready.typed kept.fields kept.searchable
 
     tokens_there : slice_get (tokens_in p w.number) w.file_number ≡ Some t.look.list
     tokens_there =
@@ -185,7 +185,7 @@ module _ (folder : List Source) (marks : List MarkRef) (st : Standing) (p : Prog
     right = look marks st sources (tokens_in p) w home t.seen is_held there home_there looked
 
     is_program : IsProgram marks st looked.look.program
-    is_program = program_told marks st sources (tokens_in p) is_held looked.look.program looked.look.packages_told looked.look.values_told
+    is_program = program_told marks st sources (tokens_in p) is_held looked.look.program looked.look.packages_told looked.look.values_told looked.look.types_told
 
     pub searched : AreSearched marks st (sites_in_file marks st w) t.seen.kept.items None
     searched = subst (λ (o : Option FoundForm). AreSearched marks st (sites_in_file marks st w) t.seen.kept.items o) t.look.none_free right.searched
@@ -200,7 +200,7 @@ module _ (folder : List Source) (marks : List MarkRef) (st : Standing) (p : Prog
         each_two (λ x. IsPlaced ps marks w (names_of looked.look.view) x × HasDecl w.source.tree.decls x.decl) (Contains (sites_in_file marks st w)) (sites_in_file marks st w)
         (each_two (IsPlaced ps marks w (names_of looked.look.view)) (λ x. HasDecl w.source.tree.decls x.decl) (sites_in_file marks st w)
         (placed ps marks w (names_of looked.look.view) p.types (knows marks st w looked.look.program looked.look.view is_program right.is_file) is_held.constants right.is_file.sound
-        (right.is_file.told p.types))
+        (kept.fields w there.package_is there.file_is (names_of looked.look.view) (knows marks st w looked.look.program looked.look.view is_program right.is_file)))
         (sites_in_decls ps marks w))
         (each_contained (Contains (sites_in_file marks st w)) (sites_in_file marks st w) (λ x c. c))
 
@@ -247,7 +247,7 @@ module _ (folder : List Source) (marks : List MarkRef) (st : Standing) (p : Prog
       sound = nth_sound ps w w.source.tree.decls x.decl about.0.1.0 about.0.1.1 right.is_file.sound
 
       expression : (e : Expr At) × (x.part ≡ an_expr e)
-      expression = expressions ps marks printed.printed x (in_program x about.1)
+      expression = expressions marks st program.constants.ready program.constants.typed program.constants.named x (in_program x about.1)
 
       comes_from : decls_origin (here_of (part_span x.part)) (decls_with here_of x.at.source.tree.decls) (as_told.decls_origins x.at.source.tree.decls) ≡ Some (origin_of (part_span x.part))
       comes_from =

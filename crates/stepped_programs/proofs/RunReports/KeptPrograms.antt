@@ -11,8 +11,8 @@ use Rattle.pkg_graph.specs.Reads.{Source}
 use Rattle.pkg_graph.specs.Views.{package_view, source_of}
 use Rattle.pkg_graph.specs.declared.packages.Package.{Package}
 use Rattle.pkg_graph.specs.declared.packages.SourceTree as code
-use Rattle.printed_constants.specs.PrintedSteps.Programs.{IsPrintedProgram}
-use Rattle.printed_constants.specs.PrintedUses.Laws.{PrintedUsesAreExpressions}
+use Rattle.constant_modules.specs.ConstantPrograms.Programs.{IsConstantProgram}
+use Rattle.constant_modules.specs.TypedUses.Laws.{ConstantUsesAreExpressions}
 use Rattle.run_rules.specs.Marks.{marks_of}
 use Rattle.run_rules.specs.Programs.{numbered_from, numbered, in_dependency_order}
 use Rattle.run_rules.specs.Report.{Entry, kept_entry}
@@ -42,9 +42,9 @@ use Rattle.stepped_programs.specs.RunReports.Rows.{FindsFiles, InTurn}
 use Rattle.stepped_programs.proofs.RunReports.Entries.{adds_none, adds_both}
 use Rattle.stepped_programs.proofs.RunReports.KeptFiles.{searched, file_told}
 
-module _ (folder : List Source) (marks : List MarkRef) (st : Standing) (p : Program) (s : ProgramSources) (kept : IsKeptProgram folder marks st p s) (printed : IsPrintedProgram folder marks st)
+module _ (folder : List Source) (marks : List MarkRef) (st : Standing) (p : Program) (s : ProgramSources) (kept : IsKeptProgram folder marks st p s) (program : IsConstantProgram folder marks st)
     (files : List ReportSource) (places : List (List ℕ × ℕ)) (finds : FindsFiles places files)
-    (held : ProgramsAreHeld) (look : LooksFindSites) (origins : OriginsAreTold) (expressions : PrintedUsesAreExpressions) (placed : UsesArePlaced) where
+    (held : ProgramsAreHeld) (look : LooksFindSites) (origins : OriginsAreTold) (expressions : ConstantUsesAreExpressions) (placed : UsesArePlaced) where
   abbrev ps : List (pure.Package At)
   ps = st.packages
 
@@ -71,12 +71,12 @@ module _ (folder : List Source) (marks : List MarkRef) (st : Standing) (p : Prog
         λ x c. within x (Contains-append_left (sites_in_file marks st w) (sites_in_files marks st ws) x c) in
         let us : List KeptUse = kept_told marks st (sites_once [] (sites_in_file marks st w)) (found_once [] t.seen.kept.items) in
         let rows : AddsEntries files (map kept_entry us) old between =
-        file_told folder marks st p s kept printed files places finds held look origins expressions placed w is_there own home home_is source source_is view block block_is old between t in
+        file_told folder marks st p s kept program files places finds held look origins expressions placed w is_there own home home_is source source_is view block block_is old between t in
         record {
           uses = us ++ r.uses;
           once =
               in_file w t.seen.kept.items ws r.uses
-              (searched folder marks st p s kept printed files places finds held look origins expressions placed w is_there own home home_is source source_is view block block_is old between t) r.once;
+              (searched folder marks st p s kept program files places finds held look origins expressions placed w is_there own home home_is source source_is view block block_is old between t) r.once;
           rows =
               subst (λ (es : List Entry). AddsEntries files es old last) (sym (map-append kept_entry us r.uses))
               (adds_both files (map kept_entry us) (map kept_entry r.uses) old between last rows r.rows);
@@ -135,6 +135,6 @@ module _ (folder : List Source) (marks : List MarkRef) (st : Standing) (p : Prog
       (subst (λ (ks : List ℕ). InTurn (IsPackageTold p places) ks old new) kept.is_program.order_is t) in
       subst (λ (us : List KeptUse). AddsEntries files (map kept_entry us) old new) (sym (told_once marks st r.uses r.once)) r.rows
 
-pub kept_rows_tell : SitesAreByFile → KeptUsesAreToldOnce → ProgramsAreHeld → LooksFindSites → OriginsAreTold → PrintedUsesAreExpressions → UsesArePlaced → KeptRowsTell
+pub kept_rows_tell : SitesAreByFile → KeptUsesAreToldOnce → ProgramsAreHeld → LooksFindSites → OriginsAreTold → ConstantUsesAreExpressions → UsesArePlaced → KeptRowsTell
 kept_rows_tell by_file once held look origins expressions placed folder packages texts only done st p s c files places old new o finds t =
-    program_told folder (marks_of packages texts only) st p s o.kept o.printed files places finds held look origins expressions placed by_file once old new t
+    program_told folder (marks_of packages texts only) st p s o.kept o.constants files places finds held look origins expressions placed by_file once old new t

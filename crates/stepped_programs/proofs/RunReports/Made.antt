@@ -42,14 +42,15 @@ none_of (Some x) h = absurd cc
 
 -- what a look finds where none of the uses is free
 pub kept_look : (p : Program) (k : ℕ) (block : List (List ℕ)) (f : ℕ × SourceTree) (l : FileLook) (s : ProgramSources) (list : TokenLists) → s.packages.now ≡ p.packages.items → s.places.now ≡ p.places
-    → s.marks.now ≡ p.marks → s.values.now ≡ p.values → tokens_at p k f.0 ≡ Some list → IsLook s k f.1 list block l → is_some l.free ≡ false → IsKeptLook p k block f l
-kept_look p k block f l s list packages places marks values there look none =
+    → s.marks.now ≡ p.marks → s.values.now ≡ p.values → s.types.now ≡ p.types → tokens_at p k f.0 ≡ Some list → IsLook s k f.1 list block l → is_some l.free ≡ false → IsKeptLook p k block f l
+kept_look p k block f l s list packages places marks values types there look none =
     record {
       sources = s;
       packages_told = packages;
       places_told = places;
       marks_told = marks;
       values_told = values;
+      types_told = types;
       list = list;
       list_is = there;
       look = look;

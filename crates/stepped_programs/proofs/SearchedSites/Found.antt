@@ -73,8 +73,8 @@ find_sites are placed marks st w p f ks r ip iw s =
     searched marks st w p f ip iw s.uses ks r s.searched (sites_in_file marks st w)
     (s.are_all
     ∙ ap (λ (y : File Span). decls_uses (λ z. z) (packages_with here_of st.packages) marks (names_of f) p.types.now (numbered y.decls)) iw.tree_is
-    ∙ are st.packages marks w (names_of f) p.types.now (knows marks st w p f ip iw) ip.constants iw.sound (iw.told p.types.now))
-    (placed st.packages marks w (names_of f) p.types.now (knows marks st w p f ip iw) ip.constants iw.sound (iw.told p.types.now))
+    ∙ are st.packages marks w (names_of f) p.types.now (knows marks st w p f ip iw) ip.constants iw.sound (ip.fields w iw.there iw.in_package (names_of f) (knows marks st w p f ip iw)))
+    (placed st.packages marks w (names_of f) p.types.now (knows marks st w p f ip iw) ip.constants iw.sound (ip.fields w iw.there iw.in_package (names_of f) (knows marks st w p f ip iw)))
 
 told_so : (marks : List MarkRef) (st : Standing) (xs : List (Site At)) (ks : List FoundObstacle) (r : Option FoundForm) → AreSearched marks st xs ks r → r ≡ None
     → kept_among marks st xs ≡ kept_told marks st xs ks

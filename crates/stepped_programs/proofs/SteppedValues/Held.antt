@@ -26,6 +26,7 @@ use Rattle.programs.specs.declared.state.Program.{Program}
 use Rattle.programs.specs.Programs.{IsProgramOf}
 use Rattle.programs.specs.Kept.{text_with}
 use Rattle.stepped_programs.specs.SearchedSites.Told.{IsToldValue}
+use Rattle.stepped_programs.specs.SearchedSites.Fields.{TellsFields}
 use Rattle.stepped_programs.specs.SearchedSites.OrderedSearches.Held.{IsThere, AreTokensOf, IsSearchable, IsHeld}
 use Rattle.stepped_programs.specs.SteppedValues.Held.{tokens_in, AreSourcesOf, ProgramsAreHeld}
 use Rattle.stepped_programs.proofs.SteppedValues.Places.{marked_there}
@@ -40,7 +41,7 @@ same_expr : (n m : NameAt At) (e d : Expr At) → a_constant n e ≡ a_constant 
 same_expr n m e d h = cc
 
 module _ (scoped : WellTypedFilesAreScoped) (files : List Source) (marks : List MarkRef) (st : Standing) (p : Program) (s : ProgramSources) (is : IsProgramOf files marks st p) (told : AreSourcesOf p s)
-    (named : AllNamed st.packages marks) (ordered : AllOrdered st.packages) (typed : well_typed (linked st.packages) ≡ true) where
+    (named : AllNamed st.packages marks) (ordered : AllOrdered st.packages) (typed : well_typed (linked st.packages) ≡ true) (fields : TellsFields st.packages p.types) where
   value_held : (m : MarkRef) (home : Where At) (n : NameAt At) (e : Expr At) → is_among_marks marks m ≡ true → where_is st.packages m ≡ Some home → inlinable st.packages m ≡ Some (a_constant n e)
       → IsToldValue st.packages home e (value_in p.values m)
   value_held m home n e among home_is declared =
@@ -84,6 +85,7 @@ module _ (scoped : WellTypedFilesAreScoped) (files : List Source) (marks : List 
         packages_are = ap (map package_view) told.packages_told ∙ is.packages_are;
         few = is.few;
         constants = is.constants;
+        fields = subst (TellsFields st.packages) (sym told.types_told) fields;
         marked = subst (λ (x : MarkTable). IsTableOf (packages_with here_of st.packages) marks x) (sym told.marks_told) is.marks_are;
         values = λ m home n e among home_is declared.
             subst (λ (t : Known). IsToldValue st.packages home e (value_in t m)) (sym told.values_told) (value_held m home n e among home_is declared);
@@ -92,4 +94,4 @@ module _ (scoped : WellTypedFilesAreScoped) (files : List Source) (marks : List 
       }
 
 pub are_held : WellTypedFilesAreScoped → ProgramsAreHeld
-are_held scoped files marks st p s is told named ordered typed searchable = held scoped files marks st p s is told named ordered typed searchable
+are_held scoped files marks st p s is told named ordered typed fields searchable = held scoped files marks st p s is told named ordered typed fields searchable

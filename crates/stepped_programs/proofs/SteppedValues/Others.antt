@@ -23,8 +23,11 @@ use Rattle.printed_constants.specs.DeclaredMembers.Laws.{ConstantsNameMembers}
 use Rattle.order_runs.specs.CycleRuns.ImportCycles.OtherImports.{import_path}
 use Rattle.order_runs.specs.CycleRuns.ImportCycles.ImportSteps.{packages_added, decl_put}
 use Rattle.order_runs.specs.CycleRuns.OrderCycles.NewNames.{NamesByPath}
-use Rattle.order_runs.specs.CycleRuns.OrderCycles.Steps.{KeepsImportLookUps}
-use Rattle.order_runs.specs.CycleRuns.ImportCycles.LookedUp.{decl_looked_up}
+use Rattle.constant_modules.specs.KeyedImports.Keyed.{decl_marked}
+use Rattle.constant_modules.specs.KeyedImports.StepLaws.{KeyedStepsWrite, KeyedStepsKeepNamed}
+use Rattle.constant_modules.specs.KeyedImports.Steps.{KeepsImportUses}
+use Rattle.constant_modules.specs.NamesAndKeys.Marked.{used_name, Within}
+use Rattle.constant_modules.proofs.KeyedImports.Dotted.{dotted_marked}
 use Rattle.order_runs.proofs.CycleRuns.ImportCycles.FreeIdentifiers.{looked-up-within}
 use Rattle.order_runs.proofs.CycleRuns.ImportCycles.ImportsAdded.{reads-added}
 use Rattle.order_runs.proofs.CycleRuns.Runs.{linked-names}
@@ -33,13 +36,10 @@ use Rattle.repeated_parts.specs.declared.use_search.mark_values.values.DeclaredV
 use Rattle.repeated_parts.specs.UseSearch.MarkValues.Tables.{DeclKey, Known, key_of, same_key, values_at, value_in}
 use Rattle.programs.specs.Programs.{TellsValues}
 use Rattle.stepped_programs.proofs.LoadedPrograms.Images.{both}
-use Rattle.printed_constants.specs.TypedParts.MarkedRuns.KeptMarks.Laws.{StepsKeepNamed}
-use Rattle.printed_constants.specs.TypedParts.MarkedRuns.KeptMarks.Over.{IsOverName}
+use Rattle.constant_modules.specs.KeyedImports.Steps.{IsOverNameKeyed}
 use Rattle.printed_constants.specs.TypedParts.MarkedRuns.NamedMarks.Named.{IsNamedConstant, AllNamed}
-use Rattle.printed_constants.specs.TypedParts.MarkedRuns.SettledConstants.Laws.{ConstantsWrite}
 use Rattle.printed_constants.specs.TypedParts.MarkedRuns.SettledConstants.Programs.{IsReady}
 use Rattle.printed_constants.proofs.TypedParts.MarkedRuns.KeptMarks.Changed.{Imported, qs, paths-now, imported-now}
-use Rattle.printed_constants.proofs.TypedParts.MarkedRuns.KeptMarks.Kept.{look-ups}
 use Rattle.printed_constants.proofs.TypedParts.MarkedRuns.KeptMarks.Served.{mid-path}
 use Rattle.printed_constants.proofs.TypedParts.MarkedRuns.KeptMarks.Shapes.{Shape, shape, shape-with, dotted-in}
 use Rattle.printed_constants.proofs.TypedParts.MarkedRuns.NamedMarks.Declared.{inlinable-with}
@@ -103,9 +103,9 @@ last_differs false b c h e = absurd (true≢false (sym h))
 
 -- ---- a step
 
-module _ (scoped : WellTypedFilesAreScoped) (members : ConstantsNameMembers) (keep : StepsKeepNamed) (write : ConstantsWrite) (marks : List MarkRef) (st : Standing) (l : Logged)
+module _ (scoped : WellTypedFilesAreScoped) (members : ConstantsNameMembers) (keep : KeyedStepsKeepNamed) (write : KeyedStepsWrite) (marks : List MarkRef) (st : Standing) (l : Logged)
     (after : Standing) (n : Next marks st l after) (ready : IsReady st) (now_ready : IsReady after) (typed : WellTyped (packages_of st.packages [])) (now_typed : WellTyped (packages_of after.packages []))
-    (named : AllNamed st.packages marks) (over : IsOverName n) (old new : Known) (told : TellsValues marks st.packages old) (told_now : TellsValues marks after.packages new)
+    (named : AllNamed st.packages marks) (over : IsOverNameKeyed n) (old new : Known) (told : TellsValues marks st.packages old) (told_now : TellsValues marks after.packages new)
     (others : (q : DeclKey) → is_of_step n.found q ≡ false → values_at q new ≡ values_at q old) where
   abbrev own : Where At
   own = n.found.site.at
@@ -113,8 +113,8 @@ module _ (scoped : WellTypedFilesAreScoped) (members : ConstantsNameMembers) (ke
   abbrev mid : List (Package At)
   mid = packages_added st.packages n.found
 
-  names : KeepsImportLookUps n
-  names = look-ups marks st l after n over write ready named
+  names : KeepsImportUses n
+  names = (write marks st l after n ready named over).1
 
   by_path : NamesByPath st.packages
   by_path = linked-names st.packages ready.links
@@ -207,10 +207,10 @@ module _ (scoped : WellTypedFilesAreScoped) (members : ConstantsNameMembers) (ke
     paths_between : (ss : List (ImportSpec At)) (q : List ℕ) → import_path now ss q ≡ import_path mid ss q
     paths_between ss q = paths-now st.packages own n.tree package_there file_there ss q ∙ sym (mid-path marks st l after n over.few by_path ss q)
 
-    path_same : (q : List ℕ) → In q (decl_identifiers was.decl) → In q (decl_looked_up is.decl) → import_path now (import_specs c_now.home.source.tree) q ≡ import_path st.packages (import_specs c.home.source.tree) q
+    path_same : (q : List ℕ) → In q (decl_identifiers was.decl) → Within (used_name q) (decl_marked is.decl) → import_path now (import_specs c_now.home.source.tree) q ≡ import_path st.packages (import_specs c.home.source.tree) q
     path_same q a b =
         (λ v. import_path now (import_specs (source_now v).tree) q) ∙ paths_between (import_specs n.tree) q
-        ∙ names.kept_names m.decl is.decl nth_now q b ∙ reads-added marks st l after n names.new_names m.decl was.decl nth q a
+        ∙ names.kept.used m.decl is.decl nth_now q b ∙ reads-added marks st l after n names.new_names m.decl was.decl nth q a
         ∙ (λ v. import_path st.packages (import_specs (sym source_is v).tree) q)
 
     carry : (q a : List ℕ) (j : ℕ) → shape c.value ≡ Some (Some q, a) → qualifier st.packages c.home (home_place st.packages c.home) q ≡ Some j
@@ -218,7 +218,7 @@ module _ (scoped : WellTypedFilesAreScoped) (members : ConstantsNameMembers) (ke
     carry q a j s h =
         subst (λ (rs : List (Package At)). Imported rs c_now.home q j) (sym n.packages_are)
         (imported-now st.packages own n.tree package_there file_there c.home c_now.home q j
-        (path_same q (looked-up-within was.decl q (dotted-in was.decl m.item c.name c.value q a was.holds s)) (dotted-in is.decl m.item c_now.name c_now.value q a is.holds (shape_same ∙ s))) h)
+        (path_same q (looked-up-within was.decl q (dotted-in was.decl m.item c.name c.value q a was.holds s)) (dotted_marked is.decl m.item c_now.name c_now.value q a is.holds (shape_same ∙ s))) h)
 
     block_same : map (λ (x : List ℕ × Target). x.0) (package_block 0 c_now.home.of) ≡ map (λ (x : List ℕ × Target). x.0) (package_block 0 c.home.of)
     block_same = ap (map (λ (x : List ℕ × Target). x.0)) (block_now marks st l after n m.«package» 0 c.home.of c_now.home.of at.package_there at_now.package_there)
@@ -242,6 +242,6 @@ module _ (scoped : WellTypedFilesAreScoped) (members : ConstantsNameMembers) (ke
           in_file m among (eqb-true own.number m.«package» q.0) (eqb-true own.file_number m.file q.1)
           (last_differs (nat_eq own.number m.«package») (nat_eq own.file_number m.file) (nat_eq n.found.site.decl m.decl) e differs)
 
-pub others_stay : WellTypedFilesAreScoped → ConstantsNameMembers → StepsKeepNamed → ConstantsWrite → MarkedValuesStay
+pub others_stay : WellTypedFilesAreScoped → ConstantsNameMembers → KeyedStepsKeepNamed → KeyedStepsWrite → MarkedValuesStay
 others_stay scoped members keep write marks st l after n old new ready now_ready typed now_typed named over told told_now others =
     stay_told scoped members keep write marks st l after n ready now_ready typed now_typed named over old new told told_now others

@@ -34,6 +34,7 @@ pub record IsLook
   pub program : ProgramView
   pub packages_told : program.packages.now ≡ s.packages.now
   pub values_told : program.values.now ≡ s.values.now
+  pub types_told : program.types.now ≡ s.types.now
   pub view : FileView
   pub home_told : view.home ≡ home
   pub tree_told : file_of view.tree.now ≡ file_of source.tree

@@ -22,7 +22,9 @@ use Rattle.next_file.specs.Files.{text_of}
 use Rattle.order_runs.specs.RunSteps.RunPackages.{packages_of}
 use Rattle.stepped_programs.specs.declared.package_search.file_steps.step.FileStep.{FileStep}
 use Rattle.stepped_programs.specs.declared.package_search.looks.ProgramSources.{ProgramSources}
-use Rattle.run_rules.specs.Printed.{ArePrinted}
+use Rattle.constant_modules.specs.ConstantPrograms.Programs.{HasForm}
+use Rattle.literal_tables.specs.HasTypes.{HasTypes}
+use Rattle.run_rules.specs.Programs.{world}
 use Rattle.programs.specs.declared.state.Program.{Program}
 use Rattle.read_modules.specs.Modules.{packages_in, texts_in}
 use Rattle.run_by_steps.specs.NextPrograms.Made.{NextWith}
@@ -47,16 +49,16 @@ use Rattle.stepped_programs.specs.declared.first_uses.first.FirstUse.{FirstUse}
 use Rattle.stepped_programs.specs.ProgramsOnTheWay.OnTheWay.{IsOnTheWay, IsProgressOf}
 
 -- What is loaded of a module that reads stands at the beginning of a run, where the paths of its files are octets, its
--- words are supported, it is well typed and within the limit, all its declarations are constants and functions that
--- print them, and all its marks are of constants.
+-- words are supported, it is well typed and within the limit, it has the form whose constants are inlined, all its marks
+-- are of constants, and the table of its types has those that it declares.
 abbrev pub RunsBegin : Type 0
 RunsBegin =
     (files : List Source) (m : ReadModule) (only : List ℕ) (p : Program) (s : ProgramSources) (c : StepCounts)
     → ModuleReads files (packages_in m) (texts_in m) → list_all (λ f. each is_byte f.path) files ≡ true
-    → AllSupported (texts_in m) → WellTyped (packages_of (packages_in m) []) → ArePrinted (packages_in m)
+    → AllSupported (texts_in m) → WellTyped (packages_of (packages_in m) []) → HasForm (packages_in m)
     → AllConstants (packages_in m) (marks_of (packages_in m) (texts_in m) only)
     → module_file_size files + texts_size (texts_in m) ≤ the_limits.total → IsLoaded files m only p
-    → AreSourcesOf p s
+    → AreSourcesOf p s → HasTypes (world (packages_in m)) p.types
     → c.steps ≡ 0 → c.origins ≡ []
     → IsOnTheWay files (packages_in m) (texts_in m) only [] (standing_as_read (packages_in m) (texts_in m)) p s c
 

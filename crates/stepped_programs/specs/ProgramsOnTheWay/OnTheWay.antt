@@ -9,27 +9,30 @@ use Rattle.stepped_programs.specs.declared.package_search.looks.ProgramSources.{
 use Rattle.programs.specs.declared.state.Program.{Program}
 use Rattle.run_by_steps.specs.Reached.{HasReached}
 use Rattle.run_rules.specs.Marks.{marks_of}
+use Rattle.run_rules.specs.Programs.{world}
 use Rattle.run_rules.specs.Run.{Standing, Logged}
 use Rattle.run_rules.specs.Texts.{FileText}
 use Rattle.run_by_steps.specs.declared.step_counts.counts.StepCounts.{StepCounts}
 use Rattle.run_by_steps.specs.StepCounts.Laws.{AreCounted}
 use Rattle.run_by_steps.specs.StepCounts.Origins.{steps_from}
-use Rattle.printed_constants.specs.PrintedSteps.Programs.{IsPrintedProgram}
+use Rattle.constant_modules.specs.ConstantPrograms.Programs.{IsConstantProgram}
+use Rattle.literal_tables.specs.HasTypes.{HasTypes}
 use Rattle.stepped_programs.specs.FirstUses.Step.{HasFileOf}
 use Rattle.stepped_programs.specs.Laws.{flags_of, users_of}
 use Rattle.stepped_programs.specs.SearchedSites.OrderedSearches.Held.{AreAllSettled}
 use Rattle.stepped_programs.specs.SteppedValues.Flags.{IsKeptProgram}
 use Rattle.stepped_programs.specs.declared.first_uses.first.FirstUse.{FirstUse}
 
--- From files that read as a module a run has come by these steps, each of which is counted, to a program of constants
--- and of functions that print them. All that is kept is the program's own, searches look at it, and no file whose flag
--- is set has a free use.
+-- From files that read as a module a run has come by these steps, each of which is counted, to a program of constants.
+-- All that is kept is the program's own, with a table of the types that it declares, searches look at it, and no file
+-- whose flag is set has a free use.
 pub record IsOnTheWay (files : List Source) (ps : List (Package Span)) (texts : List (List ℕ × FileText))
     (only : List ℕ) (done : List Logged) (st : Standing) (p : Program) (s : ProgramSources) (c : StepCounts) : Type 0
   where
     pub reached : HasReached files ps texts only done st
     pub kept : IsKeptProgram files (marks_of ps texts only) st p s
-    pub printed : IsPrintedProgram files (marks_of ps texts only) st
+    pub constants : IsConstantProgram files (marks_of ps texts only) st
+    pub types : HasTypes (world st.packages) p.types
     pub settled : AreAllSettled (marks_of ps texts only) st (users_of p) (flags_of p)
     pub counted : AreCounted st.packages done c
 

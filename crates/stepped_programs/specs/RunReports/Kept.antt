@@ -70,6 +70,7 @@ pub record IsKeptLook (p : Program) (k : ℕ) (block : List (List ℕ)) (f : ℕ
     pub places_told : sources.places.now ≡ p.places
     pub marks_told : sources.marks.now ≡ p.marks
     pub values_told : sources.values.now ≡ p.values
+    pub types_told : sources.types.now ≡ p.types
     pub list : TokenLists
     pub list_is : tokens_at p k f.0 ≡ Some list
     pub look : IsLook sources k f.1 list block l

@@ -24,11 +24,10 @@ use Rattle.repeated_parts.specs.declared.use_search.mark_values.values.DeclaredV
 use Rattle.repeated_parts.specs.declared.use_search.mark_values.values.DeclaredValue.TheVariants.{Plain, Qualified}
 use Rattle.repeated_parts.specs.UseSearch.MarkValues.Values.{value_of}
 use Rattle.repeated_parts.specs.UseSearch.MarkValues.Tables.{value_in}
-use Rattle.repeated_parts.specs.declared.literal_types.table.LiteralTypes.{LiteralTypes}
-use Rattle.repeated_parts.specs.UseSearch.UsesOfMarks.Laws.{EachSound, EachTold}
+use Rattle.repeated_parts.specs.UseSearch.UsesOfMarks.Laws.{EachSound}
 use Rattle.repeated_parts.specs.declared.use_search.views.FileView.{FileView}
 use Rattle.repeated_parts.specs.declared.use_search.views.ProgramView.{ProgramView}
-use Rattle.repeated_parts.specs.UseSearch.Answers.{names_of}
+use Rattle.stepped_programs.specs.SearchedSites.Fields.{TellsFields}
 
 -- a package that it names is one of so many
 abbrev pub IsWithin : ℕ → DeclaredValue → Type 0
@@ -43,20 +42,21 @@ pub record IsToldValue (ps : List (Package At)) (home : Where At) (e : Expr At) 
     pub means : (v : ConstantValue) → value_of v ≡ value → IsValue ps home v e
     pub within : IsWithin (length ps) value
 
--- The packages are those of the program, fewer than 2^32; its marks are all of constants, and the table tells what each
--- is declared as.
+-- The packages are those of the program, fewer than 2^32; its marks are all of constants, and one table tells what each
+-- is declared as, another which keys of composite literals name fields.
 pub record IsProgram (marks : List MarkRef) (st : Standing) (p : ProgramView) : Type 0 where
   pub packages_are : map package_view p.packages.now ≡ packages_with here_of st.packages
   pub few : length st.packages < 2 ^ 32
   pub constants : AllConstants st.packages marks
+  pub fields : TellsFields st.packages p.types.now
   pub values :
       (m : MarkRef) (home : Where At) (n : NameAt At) (e : Expr At) → is_among_marks marks m ≡ true
       → where_is st.packages m ≡ Some home → inlinable st.packages m ≡ Some (a_constant n e)
       → IsToldValue st.packages home e (value_in p.values.now m)
 
 -- The file stands there in the program, and reads from its text; its tree, its comments, its names, the table of its
--- scopes and the numbers of its imports are told; the names that aren't new in it are few. Its
--- declarations are as marked_uses asks, whatever table tells which keys of composite literals name fields.
+-- scopes and the numbers of its imports are told; the names that aren't new in it are few. Its declarations are as
+-- marked_uses asks.
 pub record IsFile (marks : List MarkRef) (st : Standing) (w : Where At) (f : FileView) : Type 0 where
   pub home_is : f.home ≡ w.number
   pub there : slice_get st.packages w.number ≡ Some w.of
@@ -71,4 +71,3 @@ pub record IsFile (marks : List MarkRef) (st : Standing) (w : Where At) (f : Fil
   pub imports_are : f.imports.now ≡ map (λ s. package_number st.packages s.path) (import_specs w.source.tree)
   pub few_words : TakesFew w.source.tree (avoided (names_standing st.packages w) [])
   pub sound : EachSound st.packages w w.source.tree.decls
-  pub told : (t : LiteralTypes) → EachTold st.packages w (names_of f) t w.source.tree.decls

@@ -6,7 +6,7 @@ use Rattle.order_runs.specs.RunSteps.RunPackages.{packages_of}
 use Rattle.run_rules.specs.Run.{Standing, Logged, Next}
 use Rattle.run_rules.specs.Sites.{MarkRef}
 use Rattle.repeated_parts.specs.UseSearch.MarkValues.Tables.{DeclKey, Known, same_key, values_at}
-use Rattle.printed_constants.specs.TypedParts.MarkedRuns.KeptMarks.Over.{IsOverName}
+use Rattle.constant_modules.specs.KeyedImports.Steps.{IsOverNameKeyed}
 use Rattle.printed_constants.specs.TypedParts.MarkedRuns.NamedMarks.Named.{AllNamed}
 use Rattle.printed_constants.specs.TypedParts.MarkedRuns.SettledConstants.Programs.{IsReady}
 use Rattle.programs.specs.Programs.{TellsValues}
@@ -20,7 +20,7 @@ abbrev pub MarkedValuesStay : Type 0
 MarkedValuesStay =
     (marks : List MarkRef) (st : Standing) (l : Logged) (after : Standing) (n : Next marks st l after)
     (old new : Known) → IsReady st → IsReady after → WellTyped (packages_of st.packages [])
-    → WellTyped (packages_of after.packages []) → AllNamed st.packages marks → IsOverName n
+    → WellTyped (packages_of after.packages []) → AllNamed st.packages marks → IsOverNameKeyed n
     → TellsValues marks st.packages old → TellsValues marks after.packages new
     → ((q : DeclKey) → is_of_step n.found q ≡ false → values_at q new ≡ values_at q old)
     → TellOthersTheSame marks (same_key (decl_of_step n.found)) old new

@@ -49,8 +49,8 @@ fn program_tables(alloc: Global, packages: &[Package], good: &[MarkRef]) -> Resu
     })
 }
 
-/// The program of a module that is read, in which the declarations are marked whose full names begin with `only`;
-/// nothing where some mark of the module isn't one of a constant. `bytes` are those of `go.mod` and of all texts. Each
+/// The program of a module that is read, with this table of the types that it declares, in which the declarations are
+/// marked whose full names begin with `only`; nothing where some mark of the module isn't one of a constant. `bytes` are those of `go.mod` and of all texts. Each
 /// file is as it was read: none is settled, and each part comes from where it stands. Each package may be searched. An
 /// error where memory is refused, or where a file has 2^32 names.
 ///
@@ -59,6 +59,7 @@ fn program_tables(alloc: Global, packages: &[Package], good: &[MarkRef]) -> Resu
 pub fn load_program(
     alloc: Global,
     read: ReadModule,
+    types: LiteralTypes,
     only: &[u8],
     bytes: u32,
 ) -> Result<Option<Program>, NoMemory>
@@ -68,6 +69,7 @@ pub fn load_program(
         ≡ marks_constants (packages_in read.entry) (texts_in read.entry)) }
     ensures searchable { IfOk result (λ r. IfSome r (λ p. (files : List code_file.SourceFile)
         → IsReadFrom files read.entry → AllAreOpen p)) }
+    ensures types { IfOk result (λ r. IfSome r (λ p. p.types ≡ types)) }
     ensures loaded { IfOk result (λ r. IfSome r (λ p. (folder : List Source) (files : List code_file.SourceFile)
         → IsReadIn folder files read.entry → bytes ≡ module_file_size folder + texts_size (texts_in read.entry)
         → IsLoaded folder read.entry only.now p)) }
@@ -97,7 +99,7 @@ pub fn load_program(
         marks,
         bad,
         values,
-        types: LiteralTypes::new(alloc),
+        types,
         users: Users::new(alloc),
         bytes,
     }))

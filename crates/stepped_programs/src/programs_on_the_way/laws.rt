@@ -4,23 +4,25 @@ ghost use Rattle.stepped_programs.specs.ProgramsOnTheWay.Laws as law;
 
 use crate::{
     first_uses_are_steps, first_uses_keep_programs, found_uses_may_step, origins_are_swapped,
-    printed_files_are_searchable, steps_go_on, steps_keep_programs, steps_keep_settled,
+    steps_go_on, steps_keep_programs, steps_keep_settled, tables_serve_programs,
+    typed_files_are_searchable,
 };
-use printed_constants::declared_constants::declared_constants_name_constants;
-use printed_constants::{printed_steps_avoid_few_names, printed_steps_keep};
+use constant_modules::constant_programs::constant_programs_stay;
+use literal_tables::right_tables_stay;
+use printed_constants::printed_steps_avoid_few_names;
 use run_by_steps::progress_follows_steps;
 use run_by_steps::step_counts::{counts_come, steps_are_counted};
 
-/// The program that is loaded of a module of constants and of functions that print them, which is well typed and within
-/// the limits, and whose marks are of constants, stands at the beginning of a run: no step is counted, and no file is
-/// settled.
+/// The program that is loaded of a module which has the form whose constants are inlined, is well typed and within the
+/// limits, and whose marks are of constants, stands at the beginning of a run: no step is counted, and no file is settled.
 pub fn runs_begin()
     ensures { law.RunsBegin }
 {
-    declared_constants_name_constants();
-    printed_files_are_searchable();
-    printed_steps_keep();
+    constant_programs_stay();
+    right_tables_stay();
     steps_are_counted();
+    tables_serve_programs();
+    typed_files_are_searchable();
 }
 
 /// Looking for the first free use leaves a program where it stands on its way (`stay`). What is found is the use that
@@ -34,7 +36,7 @@ pub fn first_uses_come_next()
     first_uses_keep_programs();
     first_uses_are_steps();
     found_uses_may_step();
-    printed_steps_keep();
+    constant_programs_stay();
     counts_come();
 }
 
@@ -46,14 +48,16 @@ pub fn steps_stay_on_the_way()
     ensures blocks { law.BlocksStayOnTheWay }
 {
     found_uses_may_step();
-    printed_files_are_searchable();
-    printed_steps_keep();
+    constant_programs_stay();
     printed_steps_avoid_few_names();
     origins_are_swapped();
     progress_follows_steps();
     steps_are_counted();
     steps_keep_programs();
     steps_keep_settled();
+    tables_serve_programs();
+    right_tables_stay();
+    typed_files_are_searchable();
 }
 
 /// Where no free use is found the texts are those of the inlined module, with the report of the steps that were made.

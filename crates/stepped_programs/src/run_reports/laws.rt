@@ -7,7 +7,7 @@ use crate::{
     files_are_searched_in_order, kept_uses_are_told_once, origins_are_told, programs_are_held,
     searches_settle_files,
 };
-use printed_constants::printed_uses_are_expressions;
+use constant_modules::typed_uses::constant_uses_are_expressions;
 use repeated_parts::use_search::uses_are_placed;
 use report_order::steps_lie_in_files;
 
@@ -25,10 +25,10 @@ pub fn kept_rows_tell()
     ensures may { ProgramsMayBeTold }
     ensures rows { KeptRowsTell }
 {
+    constant_uses_are_expressions();
     files_are_searched_in_order();
     kept_uses_are_told_once();
     origins_are_told();
-    printed_uses_are_expressions();
     programs_are_held();
     searches_settle_files();
     uses_are_placed();

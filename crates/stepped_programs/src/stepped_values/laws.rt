@@ -2,8 +2,8 @@
 
 ghost use Rattle.stepped_programs.specs.SteppedValues.Laws.{MarkedValuesStay};
 
+use constant_modules::keyed_imports::keyed_marks_stay_named;
 use printed_constants::constants_name_members;
-use printed_constants::typed_parts::marked_runs::{constants_settle, marks_stay_named};
 use printed_constants::typed_parts::well_typed_files_are_scoped;
 
 /// In well-typed programs a table that tells what marked constants are declared as tells the same, before a step and
@@ -16,6 +16,5 @@ pub fn marked_values_stay()
 {
     well_typed_files_are_scoped();
     constants_name_members();
-    marks_stay_named();
-    constants_settle();
+    keyed_marks_stay_named();
 }

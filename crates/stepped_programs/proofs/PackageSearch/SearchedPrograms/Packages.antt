@@ -49,9 +49,9 @@ module _ (s : ProgramSources) (k : ℕ) (files : List PackageFiles) (users after
 
 module _ (old : Program) (k : ℕ) where
   one_searched : (s : ProgramSources) (fs gs : List PackageFiles) (after : Known) (r : Option FoundInPackage) → IsPackagesSearch s k fs gs old.users after r
-      → s.packages.now ≡ old.packages.items → s.places.now ≡ old.places → s.marks.now ≡ old.marks → s.values.now ≡ old.values → fs ≡ old.files.items
+      → s.packages.now ≡ old.packages.items → s.places.now ≡ old.places → s.marks.now ≡ old.marks → s.values.now ≡ old.values → s.types.now ≡ old.types → fs ≡ old.files.items
       → IsProgramSearch old (record old { files = with_items old.files gs; users = after }) k r
-  one_searched s fs gs after r x packages places marks values same =
+  one_searched s fs gs after r x packages places marks values types same =
       let files : (with_items old.files gs).items ≡ gs =
       with_items_is old.files gs (ap length x.put ∙ length-set fs k x.now ∙ ap length same ∙ sym old.files.ok.0) in
       record {
@@ -60,6 +60,7 @@ module _ (old : Program) (k : ℕ) where
         places_told = places;
         marks_told = marks;
         values_told = values;
+        types_told = types;
         rest = refl;
         search =
             subst (λ (ks : List PackageFiles). IsPackagesSearch s k old.files.items ks old.users after r) (sym files)
@@ -68,6 +69,6 @@ module _ (old : Program) (k : ℕ) where
 
   pub program_searched : {E : Type 0} (s : ProgramSources) (fs gs : List PackageFiles) (after : Known) (r : Result (Option FoundInPackage) E)
       → IfOk r (IsPackagesSearch s k fs gs old.users after) → s.packages.now ≡ old.packages.items → s.places.now ≡ old.places → s.marks.now ≡ old.marks
-      → s.values.now ≡ old.values → fs ≡ old.files.items → IfOk r (IsProgramSearch old (record old { files = with_items old.files gs; users = after }) k)
-  program_searched s fs gs after (Ok r) x packages places marks values same = one_searched s fs gs after r x packages places marks values same
-  program_searched s fs gs after (Err e) x packages places marks values same = tt
+      → s.values.now ≡ old.values → s.types.now ≡ old.types → fs ≡ old.files.items → IfOk r (IsProgramSearch old (record old { files = with_items old.files gs; users = after }) k)
+  program_searched s fs gs after (Ok r) x packages places marks values types same = one_searched s fs gs after r x packages places marks values types same
+  program_searched s fs gs after (Err e) x packages places marks values types same = tt

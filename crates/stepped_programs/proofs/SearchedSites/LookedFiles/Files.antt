@@ -80,5 +80,4 @@ files_told marks st w s source tokens block l x k =
       imports_are = imports_are marks st w s source tokens block l x k;
       few_words = x.few_words;
       sound = x.sound;
-      told = λ t. x.told (names_of k.view) t (knows marks st w s source tokens block l x k);
     }

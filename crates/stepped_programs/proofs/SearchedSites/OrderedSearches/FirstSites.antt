@@ -69,7 +69,7 @@ module _ (marks : List MarkRef) (st : Standing) where
 
     pub first_among : UsesArePlaced → (ws : List (Where At)) → FoundAmong marks st s users k r ws → FoundFirst (sites_in_files marks st ws)
     first_among law _ (found_here w ws a) =
-        let each = law st.packages marks w (names_of a.view) a.program.types.now (knows marks st w a.program a.view a.is_program a.is_file) a.is_program.constants a.is_file.sound (a.is_file.told a.program.types.now) in
+        let each = law st.packages marks w (names_of a.view) a.program.types.now (knows marks st w a.program a.view a.is_program a.is_file) a.is_program.constants a.is_file.sound (a.is_program.fields w a.is_file.there a.is_file.in_package (names_of a.view) (knows marks st w a.program a.view a.is_program a.is_file)) in
         let f = in_sites r.found (IsPlaced st.packages marks w (names_of a.view)) (sites_in_file marks st w) a.kept (Some r.found) a.searched refl each (sites_in_files marks st ws) in
         record { site = f.site; stands = record { file = w; found = a; placed = f.holds }; is_free = f.is_free; is_first = f.is_first }
     first_among law _ (found_later w ws a b) =

@@ -19,6 +19,7 @@ use Rattle.stepped_programs.specs.declared.package_search.looks.FileLook.{FileLo
 use Rattle.stepped_programs.specs.declared.package_search.looks.ProgramSources.{ProgramSources}
 use Rattle.stepped_programs.specs.PackageSearch.Search.{is_settled, block_of, LookAt}
 use Rattle.stepped_programs.specs.SearchedSites.Told.{IsToldValue, IsProgram, IsFile}
+use Rattle.stepped_programs.specs.SearchedSites.Fields.{TellsFields}
 use Rattle.stepped_programs.specs.SearchedSites.Searched.{AreSearched, sites_in_file}
 use Rattle.stepped_programs.specs.SearchedSites.Laws.{SearchesFindSites}
 use Rattle.repeated_parts.specs.declared.use_search.search.FoundForm.{FoundForm}
@@ -52,12 +53,13 @@ module _ (marks : List MarkRef) (st : Standing) (s : ProgramSources) (tokens : �
   package_there k p h = beside_at package_view (package_with here_of) s.packages.now st.packages held.packages_are k p h
 
   -- what a search is told of the program
-  pub program_told : (p : ProgramView) → p.packages.now ≡ s.packages.now → p.values.now ≡ s.values.now → IsProgram marks st p
-  program_told p e v =
+  pub program_told : (p : ProgramView) → p.packages.now ≡ s.packages.now → p.values.now ≡ s.values.now → p.types.now ≡ s.types.now → IsProgram marks st p
+  program_told p e v t =
       record {
         packages_are = ap (map package_view) e ∙ held.packages_are;
         few = held.few;
         constants = held.constants;
+        fields = subst (TellsFields st.packages) (sym t) held.fields;
         values = λ m home n x among there is. subst (λ (t : Known). IsToldValue st.packages home x (value_in t m)) (sym v) (held.values m home n x among there is);
       }
 
@@ -91,7 +93,6 @@ module _ (marks : List MarkRef) (st : Standing) (s : ProgramSources) (tokens : �
             block_is = ap (λ (p : pure.Package Span). map (λ (x : List ℕ × Target). x.0) (package_block 0 p)) view_is;
             few_words = q.few_words;
             sound = q.sound;
-            told = q.told;
           }
 
       module _ (tell : LooksTellFiles) (find : SearchesFindSites) where
@@ -99,7 +100,7 @@ module _ (marks : List MarkRef) (st : Standing) (s : ProgramSources) (tokens : �
         look_tells = tell marks st w s a.source a.list (block_of s w.number home (tokens w.number)) l stands a.look
 
         pub look_program : IsProgram marks st a.look.program
-        look_program = program_told a.look.program a.look.packages_told a.look.values_told
+        look_program = program_told a.look.program a.look.packages_told a.look.values_told a.look.types_told
 
         pub look_search : IsFileSearch (packages_with here_of st.packages) marks a.look.program a.look.view l.kept.items l.free
         look_search = a.look.found (packages_with here_of st.packages) marks held.marked

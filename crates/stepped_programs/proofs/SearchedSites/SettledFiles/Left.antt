@@ -140,8 +140,8 @@ module _ (marks : List MarkRef) (st : Standing) (l : Logged) (after : Standing) 
 
   -- ---- what a search is told of it
 
-  pub file_stays : OnePathEach st.packages → (p : ProgramView) → IsProgram marks st p → (view : FileView) → IsFile marks st w view → IsSearchable marks after v → IsFile marks after v view
-  file_stays paths p ip view iw sound =
+  pub file_stays : OnePathEach st.packages → (view : FileView) → IsFile marks st w view → IsSearchable marks after v → IsFile marks after v view
+  file_stays paths view iw sound =
       record {
         home_is = iw.home_is ∙ sym left.number_is;
         there = left.after.package_is;
@@ -156,5 +156,4 @@ module _ (marks : List MarkRef) (st : Standing) (l : Logged) (after : Standing) 
         imports_are = iw.imports_are ∙ sym imports_same;
         few_words = sound.few_words;
         sound = sound.sound;
-        told = λ t. sound.told (names_of view) t (knows_stay (names_of view) (knows marks st w p view ip iw));
       }

@@ -21,7 +21,9 @@ use Rattle.run_rules.specs.Run.{Standing, Logged, Next, here_of}
 use Rattle.run_rules.specs.Sites.{MarkRef, Where, Site, member_of}
 use Rattle.run_rules.specs.Steps.{At}
 use Rattle.stepped_programs.specs.SearchedSites.Searched.{AreSearched, at_the_end, past_kept, at_free, sites_in_file}
+use Rattle.stepped_programs.specs.SearchedSites.Fields.{TellsFields}
 use Rattle.stepped_programs.specs.SearchedSites.Told.{IsProgram, IsFile}
+use Rattle.repeated_parts.specs.UseSearch.UsesOfMarks.Laws.{EachTold}
 use Rattle.stepped_programs.proofs.SearchedSites.Uses.{knows}
 use Rattle.repeated_parts.specs.declared.use_search.search.FoundForm.{FoundForm}
 use Rattle.repeated_parts.specs.declared.use_search.search.FoundObstacle.{FoundObstacle}
@@ -48,10 +50,17 @@ names_stay marks st l after n w v left = (source_same marks st l after n w v lef
 -- ---- uses that are kept
 
 module _ (sites_are : MarkedUsesAreSites) (placed : UsesArePlaced) (law : KeptUsesStay) (marks : List MarkRef) (st : Standing) (l : Logged) (after : Standing) (n : Next marks st l after) (p q : ProgramView) (w v : Where At)
-    (view : FileView) (paths : OnePathEach st.packages) (ip : IsProgram marks st p) (iq : IsProgram marks after q) (left : IsLeft n.found st.packages after.packages w v) (sound : IsSearchable marks after v)
+    (view : FileView) (paths : OnePathEach st.packages) (ip : IsProgram marks st p) (iq : IsProgram marks after q) (types : q.types.now ≡ p.types.now) (left : IsLeft n.found st.packages after.packages w v) (sound : IsSearchable marks after v)
     (iw : IsFile marks st w view) where
   its_file : IsFile marks after v view
-  its_file = file_stays marks st l after n w v left paths p ip view iw sound
+  its_file = file_stays marks st l after n w v left paths view iw sound
+
+  told_before : EachTold st.packages w (names_of view) p.types.now w.source.tree.decls
+  told_before = ip.fields w iw.there iw.in_package (names_of view) (knows marks st w p view ip iw)
+
+  told_after : EachTold after.packages v (names_of view) p.types.now v.source.tree.decls
+  told_after =
+      subst (TellsFields after.packages) types iq.fields v its_file.there its_file.in_package (names_of view) (knows marks after v q view iq its_file)
 
   members_same : (k : ℕ) (m : List ℕ) → member_of (packages_with here_of after.packages) k m ≡ member_of (packages_with here_of st.packages) k m
   members_same k m = member_stays here_of after.packages k m ∙ member_now marks st l after n k m ∙ sym (member_stays here_of st.packages k m)
@@ -61,23 +70,23 @@ module _ (sites_are : MarkedUsesAreSites) (placed : UsesArePlaced) (law : KeptUs
 
   sites_same : placed_sites (sites_in_file marks st w) ≡ placed_sites (sites_in_file marks after v)
   sites_same =
-      sym (sites_are st.packages marks w (names_of view) p.types.now (knows marks st w p view ip iw) ip.constants iw.sound (iw.told p.types.now))
+      sym (sites_are st.packages marks w (names_of view) p.types.now (knows marks st w p view ip iw) ip.constants iw.sound told_before)
       ∙ sym (uses_same (packages_with here_of after.packages) (packages_with here_of st.packages) members_same marks (names_of view) p.types.now (numbered (decls_with here_of w.source.tree.decls)))
       ∙ ap (uses_in (packages_with here_of after.packages)) (sym (source_same marks st l after n w v left))
-      ∙ sites_are after.packages marks v (names_of view) p.types.now (knows marks after v q view iq its_file) iq.constants its_file.sound (its_file.told p.types.now)
+      ∙ sites_are after.packages marks v (names_of view) p.types.now (knows marks after v q view iq its_file) iq.constants its_file.sound told_after
 
   pub stays_kept : (kept : List FoundObstacle) → AreSearched marks st (sites_in_file marks st w) kept None → TellTheSame p.values.now q.values.now (sites_in_file marks st w)
       → IsFile marks after v view × AreSearched marks after (sites_in_file marks after v) kept None
   stays_kept kept s same = (
     its_file,
     all_kept marks st after w v p q ip iq view iw its_file law (paths_told marks st p ip ∙ sym (paths_now marks st l after n) ∙ sym (paths_told marks after q iq)) (sites_in_file marks st w) kept None s
-        refl (sites_in_file marks after v) sites_same (placed st.packages marks w (names_of view) p.types.now (knows marks st w p view ip iw) ip.constants iw.sound (iw.told p.types.now))
-        (placed after.packages marks v (names_of view) p.types.now (knows marks after v q view iq its_file) iq.constants its_file.sound (its_file.told p.types.now)) same,
+        refl (sites_in_file marks after v) sites_same (placed st.packages marks w (names_of view) p.types.now (knows marks st w p view ip iw) ip.constants iw.sound told_before)
+        (placed after.packages marks v (names_of view) p.types.now (knows marks after v q view iq its_file) iq.constants its_file.sound told_after) same,
   )
 
 pub kept_files_stay : MarkedUsesAreSites → UsesArePlaced → KeptUsesStay → KeptFilesStay
-kept_files_stay sites_are placed law marks st l after n p q w v view kept paths ip iq left sound iw s same =
-    stays_kept sites_are placed law marks st l after n p q w v view paths ip iq left sound iw kept s same
+kept_files_stay sites_are placed law marks st l after n p q w v view kept paths ip iq types left sound iw s same =
+    stays_kept sites_are placed law marks st l after n p q w v view paths ip iq types left sound iw kept s same
 
 -- ---- values
 
@@ -170,7 +179,7 @@ still_used changed were users keep k i [] none h = tt
 still_used changed were users keep k i (x ∷ xs) none h = (keep (key_of (mark_ref_of x.use_.mark)) k i none.0 h.0, still_used changed were users keep k i xs none.1 h.1)
 
 pub flags_stay : MarkedUsesAreSites → UsesArePlaced → KeptUsesStay → FlagsMayStay
-flags_stay sites_are placed law marks st l after n s t tokens more changed were users old new paths held now same keep settled may = λ v there flag.
+flags_stay sites_are placed law marks st l after n s t tokens more changed were users old new paths held now types same keep settled may = λ v there flag.
     let b = was_there marks st l after n v there in
     let set : flag_of new b.file ≡ true =
     subst (λ (j : ℕ). is_settled (new b.file.number) j ≡ true) b.file_is (subst (λ (k : ℕ). is_settled (new k) v.file_number ≡ true) b.number_is flag) in
@@ -179,12 +188,12 @@ flags_stay sites_are placed law marks st l after n s t tokens more changed were 
     let none : FoundNoneOf changed was.kept = none_changed changed were b.file.number b.file.file_number m.unused was.kept was.used in
     let p : ProgramView = record { packages = s.packages; values = s.values; types = s.types } in
     let q : ProgramView = record { packages = t.packages; values = t.values; types = t.types } in
-    let own : IsProgram marks st p = program_told marks st s tokens held p refl refl in
+    let own : IsProgram marks st p = program_told marks st s tokens held p refl refl refl in
     let told : TellTheSame s.values.now t.values.now (sites_in_file marks st b.file) =
     marked_told st.packages marks b.file (names_of was.view) changed s.values.now t.values.now same (sites_in_file marks st b.file)
-    (placed st.packages marks b.file (names_of was.view) s.types.now (knows marks st b.file p was.view own was.is_file) held.constants was.is_file.sound (was.is_file.told s.types.now))
+    (placed st.packages marks b.file (names_of was.view) s.types.now (knows marks st b.file p was.view own was.is_file) held.constants was.is_file.sound (held.fields b.file was.is_file.there was.is_file.in_package (names_of was.view) (knows marks st b.file p was.view own was.is_file)))
     (found_none marks st changed (sites_in_file marks st b.file) was.kept None was.searched refl none) in
-    let r = stays_kept sites_are placed law marks st l after n p q b.file v was.view paths own (program_told marks after t more now q refl refl)
+    let r = stays_kept sites_are placed law marks st l after n p q b.file v was.view paths own (program_told marks after t more now q refl refl refl) types
     (record { before = b.there; after = there; number_is = b.number_is; file_is = b.file_is; other = m.other }) (now.searchable v there) was.is_file was.kept was.searched told in
     let used : AreUsed users b.file.number b.file.file_number was.kept =
     still_used changed were users keep b.file.number b.file.file_number was.kept none was.used in

@@ -66,6 +66,7 @@ returns-clause-put c =
           let was = c.text_size-old.ensures kept body (ap (λ (fs : List PackageFiles). slice_get fs at.home) c.deref.ensures.value ∙ h) e in
           omega (arith, was, c.bytes_after-program.ensures, ap length c.items.ensures);
       places_stay = refl;
+      types_stay = refl;
       marks_stay = refl;
       bad_stay = refl;
       users_stay = refl;

@@ -52,5 +52,6 @@ pub record IsProgramSearch (old new : Program) (k : ℕ) (r : Option FoundInPack
   pub places_told : sources.places.now ≡ old.places
   pub marks_told : sources.marks.now ≡ old.marks
   pub values_told : sources.values.now ≡ old.values
+  pub types_told : sources.types.now ≡ old.types
   pub rest : new ≡ record old { files = new.files; users = new.users }
   pub search : IsPackagesSearch sources k old.files.items new.files.items old.users new.users r

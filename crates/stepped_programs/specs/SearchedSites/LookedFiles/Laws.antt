@@ -42,9 +42,6 @@ pub record StandsAs
   pub block_is : IsBlockOf block (package_with here_of w.of)
   pub few_words : TakesFew w.source.tree (avoided (names_standing st.packages w) [])
   pub sound : EachSound st.packages w w.source.tree.decls
-  pub told :
-      (f : Names) (t : LiteralTypes) → Knows here_of (file_with here_of) st.packages w f
-      → EachTold st.packages w f t w.source.tree.decls
 
 -- A look at such a file tells of it what searches ask.
 abbrev pub LooksTellFiles : Type 0

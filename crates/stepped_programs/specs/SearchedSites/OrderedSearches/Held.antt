@@ -16,15 +16,14 @@ use Rattle.run_rules.specs.Steps.{At}
 use Rattle.run_rules.specs.Run.{Standing, here_of}
 use Rattle.run_rules.specs.Inlining.{ReadsAs}
 use Rattle.constant_steps.specs.FormImports.ImportLaws.Steps.{names_standing}
-use Rattle.member_uses.specs.Uses.{Names}
-use Rattle.member_uses.specs.Laws.{AllConstants, Knows}
+use Rattle.member_uses.specs.Laws.{AllConstants}
 use Rattle.module_marks.specs.Tables.{IsTableOf}
 use Rattle.module_marks.specs.Views.{mark_ref_of}
 use Rattle.repeated_parts.specs.UseSearch.MarkValues.Tables.{DeclKey, key_of, value_in}
-use Rattle.repeated_parts.specs.declared.literal_types.table.LiteralTypes.{LiteralTypes}
-use Rattle.repeated_parts.specs.UseSearch.UsesOfMarks.Laws.{EachSound, EachTold}
+use Rattle.repeated_parts.specs.UseSearch.UsesOfMarks.Laws.{EachSound}
 use Rattle.stepped_programs.specs.declared.package_search.looks.ProgramSources.{ProgramSources}
 use Rattle.stepped_programs.specs.PackageSearch.Search.{is_settled}
+use Rattle.stepped_programs.specs.SearchedSites.Fields.{TellsFields}
 use Rattle.stepped_programs.specs.SearchedSites.Searched.{AreSearched, sites_in_file}
 use Rattle.stepped_programs.specs.SearchedSites.Told.{IsToldValue, IsFile}
 use Rattle.repeated_parts.specs.declared.use_search.search.FoundObstacle.{FoundObstacle}
@@ -43,23 +42,20 @@ pub record AreTokensOf (st : Standing) (w : Where At) (list : TokenLists) : Type
   pub tokens_are : list.items ≡ text.tokens
   pub comments_are : list.comments ≡ text.comments
 
--- The file may be searched: the names that aren't new in it are few, and its declarations are as
--- marked_uses asks, by whatever table of its scopes, and whatever table tells which keys of composite literals name
--- fields.
+-- The file may be searched: the names that aren't new in it are few, and its declarations are as marked_uses asks.
 pub record IsSearchable (marks : List MarkRef) (st : Standing) (w : Where At) : Type 0 where
   pub few_words : TakesFew w.source.tree (avoided (names_standing st.packages w) [])
   pub sound : EachSound st.packages w w.source.tree.decls
-  pub told :
-      (f : Names) (t : LiteralTypes) → Knows here_of (file_with here_of) st.packages w f
-      → EachTold st.packages w f t w.source.tree.decls
 
--- The code has the program: its packages, which of their declarations are marked, what these are declared as, and the
--- tokens of the files of each package by its number. Each file may be searched.
+-- The code has the program: its packages, which of their declarations are marked, what these are declared as, which keys
+-- of composite literals name fields, and the tokens of the files of each package by its number. Each file may be
+-- searched.
 pub record IsHeld (marks : List MarkRef) (st : Standing) (s : ProgramSources) (tokens : ℕ → List TokenLists) : Type 0
   where
     pub packages_are : map package_view s.packages.now ≡ packages_with here_of st.packages
     pub few : length st.packages < 2 ^ 32
     pub constants : AllConstants st.packages marks
+    pub fields : TellsFields st.packages s.types.now
     pub marked : IsTableOf (packages_with here_of st.packages) marks s.marks.now
     pub values :
         (m : MarkRef) (home : Where At) (n : NameAt At) (e : Expr At) → is_among_marks marks m ≡ true

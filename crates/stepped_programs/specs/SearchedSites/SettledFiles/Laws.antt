@@ -57,7 +57,8 @@ abbrev pub KeptFilesStay : Type 0
 KeptFilesStay =
     (marks : List MarkRef) (st : Standing) (l : Logged) (after : Standing) (n : Next marks st l after)
     (p q : ProgramView) (w v : Where At) (view : FileView) (kept : List FoundObstacle) → OnePathEach st.packages
-    → IsProgram marks st p → IsProgram marks after q → IsLeft n.found st.packages after.packages w v
+    → IsProgram marks st p → IsProgram marks after q → q.types.now ≡ p.types.now
+    → IsLeft n.found st.packages after.packages w v
     → IsSearchable marks after v → IsFile marks st w view → AreSearched marks st (sites_in_file marks st w) kept None
     → TellTheSame p.values.now q.values.now (sites_in_file marks st w)
     → IsFile marks after v view × AreSearched marks after (sites_in_file marks after v) kept None
@@ -68,6 +69,7 @@ FlagsMayStay =
     (marks : List MarkRef) (st : Standing) (l : Logged) (after : Standing) (n : Next marks st l after)
     (s t : ProgramSources) (tokens more : ℕ → List TokenLists) (changed : DeclKey → Bool) (were users : Users)
     (old new : ℕ → List Bool) → OnePathEach st.packages → IsHeld marks st s tokens → IsHeld marks after t more
+    → t.types.now ≡ s.types.now
     → TellOthersTheSame marks changed s.values.now t.values.now → KeepOthers changed were users
     → AreAllSettled marks st were old
     → ((w : Where At) → IsThere st.packages w → flag_of new w ≡ true → MayStaySet n.found changed were old w)

@@ -14,7 +14,7 @@ returns-clause-blocks c =
 pub returns-clause-limit : goal.returns-clause-limit
 returns-clause-limit c =
     limits_stop c.steps_are_logged.ensures c.first_uses_come_next.ensures.stay c.first_uses_come_next.ensures.found c.first_uses_come_next.ensures.come c.found_uses_may_step.ensures.stand
-    c.found_uses_are_steps.ensures.step c.printed_steps_keep.ensures.first c.first_uses_have_next.ensures c.progress_follows_steps.ensures.next
+    c.found_uses_are_steps.ensures.step c.constant_programs_stay.ensures.first c.first_uses_have_next.ensures c.progress_follows_steps.ensures.next
 
 pub returns-clause-end : goal.returns-clause-end
 returns-clause-end c = runs_are_over c.first_uses_come_next.ensures.stay c.first_uses_are_steps.ensures.steps c.runs_end.ensures

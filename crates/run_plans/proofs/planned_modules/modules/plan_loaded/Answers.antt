@@ -14,14 +14,14 @@ returns-then-size-clause-refused c =
 pub plan_run-requires-clause-starts : goal.plan_run-requires-clause-starts
 plan_run-requires-clause-starts c =
     let s = c.requires.loaded in
-    starts_some c.args.files.now c.modules_are_read.ensures c.args.fault c.args.size c.args.program.now s.read_module s.only s.is c.in_default.is c.if-size.false c.print_only_is_printed.ensures.read
+    starts_some c.args.files.now c.modules_are_read.ensures c.args.fault c.args.size c.args.program.now s.read_module s.only s.is c.in_default.is c.if-size.false c.files_without_dots_hand_on_no_slice.ensures
     c.loaded_programs_begin_runs.ensures c.requires.folder
 
 pub returns-clause-planned : goal.returns-clause-planned
 returns-clause-planned c =
     IfOk-weaker c.plan_run.result _ _
     (λ plan is m only l.
-    planned_all c.args.files.now c.modules_are_read.ensures c.args.fault c.args.size c.args.program.now m only l c.in_default.is c.if-size.false c.print_only_is_printed.ensures.read
+    planned_all c.args.files.now c.modules_are_read.ensures c.args.fault c.args.size c.args.program.now m only l c.in_default.is c.if-size.false c.files_without_dots_hand_on_no_slice.ensures
     c.loaded_programs_begin_runs.ensures plan is)
     c.plan_run.ensures.planned
 
@@ -29,6 +29,6 @@ pub returns-clause-refused : goal.returns-clause-refused
 returns-clause-refused c =
     IfErr-weaker c.plan_run.result _ _
     (λ e is m only l.
-    refused_all c.args.files.now c.modules_are_read.ensures c.args.fault c.args.size c.args.program.now m only l c.in_default.is c.if-size.false c.print_only_is_printed.ensures.read
+    refused_all c.args.files.now c.modules_are_read.ensures c.args.fault c.args.size c.args.program.now m only l c.in_default.is c.if-size.false c.files_without_dots_hand_on_no_slice.ensures
     c.loaded_programs_begin_runs.ensures e is)
     c.plan_run.ensures.refused

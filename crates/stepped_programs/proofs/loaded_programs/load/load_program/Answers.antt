@@ -57,8 +57,8 @@ returns-clause-searchable c = λ files r.
       marks = c.in_ok-tables.tables.marks;
       bad = c.in-Some.found.bad;
       values = c.in_ok-tables.tables.values;
-      types = c.new.result;
-      users = c.new-2.result;
+      types = c.args.types;
+      users = c.new.result;
       bytes = c.args.bytes;
     } in
     opened files m program r packages tables.places_are texts
@@ -92,8 +92,8 @@ returns-clause-loaded c = λ folder files r e.
       marks = c.in_ok-tables.tables.marks;
       bad = c.in-Some.found.bad;
       values = c.in_ok-tables.tables.values;
-      types = c.new.result;
-      users = c.new-2.result;
+      types = c.args.types;
+      users = c.new.result;
       bytes = c.args.bytes;
     } in
     loaded folder files m only (map mark_ref_of good) c.in_ok-tables.tables program r
@@ -114,6 +114,6 @@ returns-clause-loaded c = λ folder files r e.
       marked = marked;
       constants = marked_constants (packages_in m) (texts_in m) only (map mark_ref_of good) marked tested;
       bad_are = bad;
-      unused = c.new-2.ensures;
+      unused = c.new.ensures;
     })
     e

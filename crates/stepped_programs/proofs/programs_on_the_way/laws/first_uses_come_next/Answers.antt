@@ -6,7 +6,7 @@ returns-clause-stay c = stay_on c.first_uses_keep_programs.ensures.keep c.first_
 
 pub returns-clause-found : goal.returns-clause-found
 returns-clause-found c =
-    are_found c.first_uses_keep_programs.ensures.keep c.first_uses_are_steps.ensures.settled c.first_uses_are_steps.ensures.steps c.found_uses_may_step.ensures.stand c.printed_steps_keep.ensures.first
+    are_found c.first_uses_keep_programs.ensures.keep c.first_uses_are_steps.ensures.settled c.first_uses_are_steps.ensures.steps c.found_uses_may_step.ensures.stand c.constant_programs_stay.ensures.first
 
 pub returns-clause-come : goal.returns-clause-come
 returns-clause-come c = come_next c.counts_come.ensures.come

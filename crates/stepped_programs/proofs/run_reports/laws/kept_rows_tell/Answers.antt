@@ -8,4 +8,4 @@ returns-clause-may c = programs_may_tell
 pub returns-clause-rows : goal.returns-clause-rows
 returns-clause-rows c =
     kept_rows_tell c.files_are_searched_in_order.ensures.files c.kept_uses_are_told_once.ensures c.programs_are_held.ensures c.searches_settle_files.ensures.looks
-    c.origins_are_told.ensures c.printed_uses_are_expressions.ensures c.uses_are_placed.ensures
+    c.origins_are_told.ensures c.constant_uses_are_expressions.ensures c.uses_are_placed.ensures

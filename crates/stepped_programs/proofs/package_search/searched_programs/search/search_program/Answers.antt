@@ -16,4 +16,4 @@ returns-clause-held c =
 pub returns-clause-search : goal.returns-clause-search
 returns-clause-search c =
     program_searched c.args.program.now c.args.number _ c.deref_mut.result.now c.search_kept.new.files c.search_kept.new.users c.search_kept.result c.search_kept.ensures.search
-    c.deref.ensures.value refl refl refl c.deref_mut.ensures.value
+    c.deref.ensures.value refl refl refl refl c.deref_mut.ensures.value
