@@ -11,8 +11,8 @@ use Rattle.type_table.specs.TypesAt.{type_at, type_by}
 use Rattle.type_table.proofs.TypesAtLaws.{get_within, type_at_row}
 use Rattle.type_table.specs.TypeRelations.Environment.{Definition, Environment, IsEnvironment, MethodRow, defined_at, defined_types, definition_in, env_type, has_methods, is_defined}
 use Rattle.type_table.proofs.TypeRelations.UnderLaws.{defined_option, found_by_number}
-use Rattle.type_table.specs.declared.comparable_types.grown.TypeFlags.{TypeFlags}
-use Rattle.type_table.specs.ComparableTypes.Grown.{AreFlagsSoFar, DefinedBelow}
+use Rattle.type_flags.specs.declared.grown.TypeFlags.{TypeFlags}
+use Rattle.type_flags.specs.Grown.{AreFlagsSoFar, DefinedBelow}
 use Rattle.operator_rules.specs.declared.basics.BasicTypes.{BasicTypes}
 use Rattle.operator_rules.proofs.KeptLemmas.{basic_types_stay}
 use Rattle.type_table.specs.ValueTypes.ValueTypes.{HasValueTypes}

@@ -6,8 +6,8 @@ use Rattle.go_tree.specs.GoTypes.Defined.{under, has_keys}
 use Rattle.go_tree.specs.GoTypes.Programs.{Headed, Program, headed}
 use Rattle.go_tree.specs.GoTypes.Collect.{aliased_world, types_declared, typed_world}
 use Rattle.type_table.specs.TypeRelations.Environment.{Environment, defined_types}
-use Rattle.type_table.specs.declared.comparable_types.grown.TypeFlags.{TypeFlags}
-use Rattle.type_table.specs.ComparableTypes.Grown.{AreFlagsSoFar, DefinedBelow}
+use Rattle.type_flags.specs.declared.grown.TypeFlags.{TypeFlags}
+use Rattle.type_flags.specs.Grown.{AreFlagsSoFar, DefinedBelow}
 use Rattle.operator_rules.specs.declared.basics.BasicTypes.{BasicTypes}
 use Rattle.operator_rules.specs.BasicTypes.{AreBasic}
 use Rattle.operator_rules.specs.Kept as rule

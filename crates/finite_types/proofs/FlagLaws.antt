@@ -18,9 +18,9 @@ use Rattle.type_table.specs.Rows.{row_of}
 use Rattle.type_table.specs.TypesAt.{fields_by, type_by, type_at}
 use Rattle.type_table.proofs.TypesAtLaws.{type_at_row, get_within, got_within}
 use Rattle.type_table.specs.TypeRelations.Environment.{Environment, IsEnvironment, env_type}
-use Rattle.type_table.specs.ComparableTypes.Flags.{flag_at, missing}
-use Rattle.type_table.proofs.ComparableTypes.FlagLaws.{all_mapped, got_flag, set_flag, some_flag}
-use Rattle.type_table.proofs.ComparableTypes.NamesEnd.{and_both}
+use Rattle.type_flags.specs.Flags.{flag_at, missing}
+use Rattle.type_flags.proofs.FlagLaws.{all_mapped, got_flag, set_flag, some_flag}
+use Rattle.type_flags.proofs.NamesEnd.{and_both}
 use Rattle.defined_types.specs.declared.declared.DeclaredType.{DeclaredType}
 use Rattle.defined_types.specs.DeclaredTypes.{AreDeclared, declared_of}
 use Rattle.named_types.specs.Chains as number

@@ -6,7 +6,7 @@ use Rattle.go_tree.specs.GoTypes.Answers.{meets}
 use Rattle.go_tree.specs.GoTypes.Types.{GoType, basic, named_type, pointer_to, slice_of, map_of, struct_of, tuple_of, untyped, untyped_nil, GoFields, no_go_fields, go_field}
 use Rattle.go_tree.specs.GoTypes.TypeDeclarations.{DeclaredTypes, declared_as, is_finite_by, are_finite_by, is_finite_within}
 use Rattle.go_tree.proofs.GoTypes.IdenticalLaws.{and_left, and_right}
-use Rattle.type_table.proofs.ComparableTypes.NamesEnd.{and_both}
+use Rattle.type_flags.proofs.NamesEnd.{and_both}
 
 -- ---- by which names are finite
 

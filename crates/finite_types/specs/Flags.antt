@@ -6,7 +6,7 @@ use Rattle.std.specs.List.{list_all}
 use Rattle.go_tree.specs.GoTypes.Table.{TypeNode, basic_node, named_node, pointer_node, slice_node, map_node}
 use Rattle.go_tree.specs.GoTypes.Table.{struct_node, tuple_node, untyped_node, nil_node}
 use Rattle.type_table.specs.TypeRelations.Environment.{Environment}
-use Rattle.type_table.specs.ComparableTypes.Flags.{flag_at, missing}
+use Rattle.type_flags.specs.Flags.{flag_at, missing}
 use Rattle.defined_types.specs.declared.declared.DeclaredType.{DeclaredType}
 use Rattle.defined_types.specs.DeclaredTypes.{AreDeclared}
 use Rattle.named_types.specs.Defining.{next_number}

@@ -5,7 +5,7 @@ ghost use Rattle.std.specs.Prelude.{◌≡◌, ◌<◌, List, true, false, lengt
 ghost use Rattle.std.specs.List.{list_all};
 ghost use Rattle.type_table.specs.Rows.{field_of};
 ghost use Rattle.type_table.specs.TypeRelations.Environment.{IsEnvironment};
-ghost use Rattle.type_table.specs.ComparableTypes.Flags.{flag_at, missing};
+ghost use Rattle.type_flags.specs.Flags.{flag_at, missing};
 ghost use Rattle.defined_types.specs.DeclaredTypes.{AreDeclared};
 ghost use Rattle.defined_types.specs.declared.declared.DeclaredType.{DeclaredType};
 ghost use Rattle.finite_types.specs.Finite.{AreFinite};

@@ -2,7 +2,7 @@
 //! (Go specification, Struct types; Underlying types).
 
 ghost use Rattle.std.specs.Prelude.{◌≡◌, ◌<◌, ◌≤◌, List, false, length, slice_get, IfOk, OnOk};
-ghost use Rattle.type_table.specs.ComparableTypes.Flags.{flag_at};
+ghost use Rattle.type_flags.specs.Flags.{flag_at};
 ghost use Rattle.defined_types.specs.DeclaredTypes.{AreDeclared};
 ghost use Rattle.defined_types.specs.declared.declared.DeclaredType.{DeclaredType};
 ghost use Rattle.finite_types.specs.Flags.{FiniteSoFar, row_option};

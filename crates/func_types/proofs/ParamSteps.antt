@@ -15,8 +15,8 @@ use Rattle.type_table.specs.declared.type_relations.methods.FuncType.{FuncType}
 use Rattle.type_table.specs.declared.nodes.TypeId.{TypeId}
 use Rattle.type_table.specs.Rows.{IdsBelow}
 use Rattle.type_table.specs.TypesAt.{type_by, types_by}
-use Rattle.type_table.specs.declared.comparable_types.grown.TypeFlags.{TypeFlags}
-use Rattle.type_table.specs.ComparableTypes.Grown.{AreFlagsSoFar, DefinedBelow}
+use Rattle.type_flags.specs.declared.grown.TypeFlags.{TypeFlags}
+use Rattle.type_flags.specs.Grown.{AreFlagsSoFar, DefinedBelow}
 use Rattle.type_table.specs.declared.operand_rules.values.ValueType.TheVariants.{Typed}
 use Rattle.type_table.specs.declared.operand_rules.values.Refusal.{Refusal}
 use Rattle.type_table.specs.declared.operand_rules.values.Refusal.TheVariants.{NotTyped, NoMemory}

@@ -7,7 +7,7 @@ ghost use Rattle.go_tree.specs.GoTypes.Answers.{given};
 ghost use Rattle.go_tree.specs.GoTypes.Types.{GoType};
 ghost use Rattle.go_tree.specs.GoTypes.TypeNames as go;
 ghost use Rattle.type_table.specs.TypeRelations.Environment.{Environment};
-ghost use Rattle.type_table.specs.ComparableTypes.Grown.{AreFlagsSoFar, DefinedBelow};
+ghost use Rattle.type_flags.specs.Grown.{AreFlagsSoFar, DefinedBelow};
 ghost use Rattle.typed_names.specs.Known.{KnowsTypes};
 ghost use Rattle.typed_names.specs.Scopes.{env_at};
 ghost use Rattle.type_table.specs.ValueTypes.ValueTypes.{HasValueTypes};
@@ -17,7 +17,7 @@ ghost use Rattle.func_types.specs.Answers.{AreTypesOf, GivesFunc, GivesTypes, wi
 use go_tree::{ParamList, Sig};
 use std::alloc::Global;
 use type_table::TypeIdList;
-use type_table::comparable_types::TypeFlags;
+use type_flags::TypeFlags;
 use type_table::operand_rules::Refusal;
 use type_table::type_relations::{Env, FuncType};
 use typed_names::type_exprs::type_meant;

@@ -3,7 +3,7 @@
 ghost use Rattle.std.specs.Prelude.{List, length};
 ghost use Rattle.go_tree.specs.declared.const_eval.consts.Const.{Const};
 ghost use Rattle.go_tree.specs.FileView.{func_of, receiver_of};
-ghost use Rattle.type_table.specs.ComparableTypes.Grown.{AreFlagsSoFar, DefinedBelow};
+ghost use Rattle.type_flags.specs.Grown.{AreFlagsSoFar, DefinedBelow};
 ghost use Rattle.type_table.specs.ValueTypes.ValueTypes.{HasValueTypes};
 ghost use Rattle.typed_names.specs.Known.{KnowsTypes};
 ghost use Rattle.typed_names.specs.Scopes.{env_at};
@@ -15,7 +15,7 @@ use func_types::func_type;
 use go_tree::{FuncDecl, Receiver};
 use package_blocks::func_headers::has_distinct_names_with;
 use std::alloc::Global;
-use type_table::comparable_types::TypeFlags;
+use type_flags::TypeFlags;
 use type_table::operand_rules::Refusal;
 use type_table::type_relations::{Env, FuncType};
 use typed_names::{Blocks, Scope};

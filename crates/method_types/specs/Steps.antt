@@ -11,8 +11,8 @@ use Rattle.go_tree.specs.GoTypes.MethodDeclarations.{MethodName, declared_on}
 use Rattle.type_table.specs.TypeRelations.Environment.{Environment}
 use Rattle.type_table.specs.declared.type_relations.methods.Method.{Method}
 use Rattle.type_table.specs.declared.nodes.TypeId.{TypeId}
-use Rattle.type_table.specs.declared.comparable_types.grown.TypeFlags.{TypeFlags}
-use Rattle.type_table.specs.ComparableTypes.Grown.{AreFlagsSoFar, DefinedBelow}
+use Rattle.type_flags.specs.declared.grown.TypeFlags.{TypeFlags}
+use Rattle.type_flags.specs.Grown.{AreFlagsSoFar, DefinedBelow}
 use Rattle.typed_names.specs.declared.scopes.Scope.{Scope}
 use Rattle.typed_names.specs.Meanings.{Names, world_at}
 use Rattle.type_table.specs.ValueTypes.ValueTypes.{HasValueTypes}

@@ -2,7 +2,7 @@
 //! Operators, Comparison operators and Conversions that have whole numbers, and their like.
 
 ghost use Rattle.std.specs.Prelude.{IfOk};
-ghost use Rattle.type_table.specs.ComparableTypes.Grown.{AreFlags};
+ghost use Rattle.type_flags.specs.Grown.{AreFlags};
 ghost use Rattle.type_table.specs.OperandRules.Values.{IsValue};
 ghost use Rattle.operator_rules.specs.BasicTypes.{AreBasic};
 
@@ -11,7 +11,7 @@ use go_tree::{BinOp, NoMemory, UnOp};
 use operator_rules::{BasicTypes, binary_value};
 use std::alloc::Global;
 use std::test::Fail;
-use type_table::comparable_types::TypeFlags;
+use type_flags::TypeFlags;
 use type_table::operand_rules::{ConstTable, Refusal, Value, unary_value};
 use type_table::type_relations::Env;
 

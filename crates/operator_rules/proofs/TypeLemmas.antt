@@ -9,10 +9,10 @@ use Rattle.go_tree.specs.GoTypes.Operands.{value, Typed, default_type}
 use Rattle.go_tree.specs.GoTypes.Operators.{compared_at, recover_compared}
 use Rattle.std.proofs.Common.{arith}
 use Rattle.type_table.specs.TypeRelations.Environment.{Environment, defined_types, env_type}
-use Rattle.type_table.specs.declared.comparable_types.grown.TypeFlags.{TypeFlags}
-use Rattle.type_table.specs.ComparableTypes.Flags.{flag_at}
-use Rattle.type_table.specs.ComparableTypes.Grown.{AreFlags}
-use Rattle.type_table.proofs.ComparableTypes.FlagLaws.{some_flag}
+use Rattle.type_flags.specs.declared.grown.TypeFlags.{TypeFlags}
+use Rattle.type_flags.specs.Flags.{flag_at}
+use Rattle.type_flags.specs.Grown.{AreFlags}
+use Rattle.type_flags.proofs.FlagLaws.{some_flag}
 use Rattle.operator_rules.specs.Comparisons.{typed_compared_at, untyped_compared_at}
 
 -- a type that isn't untyped is its own default type

@@ -3,7 +3,7 @@
 ghost use Rattle.go_tree.specs.GoTypes.Operators as go;
 ghost use Rattle.go_tree.specs.GoTypes.Operands.{value};
 ghost use Rattle.type_table.specs.TypeRelations.Environment.{defined_types};
-ghost use Rattle.type_table.specs.ComparableTypes.Grown.{AreFlags};
+ghost use Rattle.type_flags.specs.Grown.{AreFlags};
 ghost use Rattle.type_table.specs.OperandRules.Constants.{Grown};
 ghost use Rattle.type_table.specs.OperandRules.Values.{Gives, IsValue, content_of, type_of, typed_of};
 ghost use Rattle.operator_rules.specs.BasicTypes.{AreBasic};
@@ -14,7 +14,7 @@ use crate::logical::logic;
 use go_tree::BinOp;
 use go_tree::const_eval::Kind;
 use std::alloc::Global;
-use type_table::comparable_types::TypeFlags;
+use type_flags::TypeFlags;
 use type_table::operand_rules::{
     ConstTable, Content, Refusal, Value, ValueType, arithmetic, shifting,
 };

@@ -6,7 +6,7 @@ ghost use Rattle.go_tree.specs.GoTypes.Operands.{is_shift};
 ghost use Rattle.go_tree.specs.GoTypes.Operators as go;
 ghost use Rattle.go_tree.specs.GoTypes.Types.{is_nil, is_untyped};
 ghost use Rattle.type_table.specs.TypeRelations.Environment.{defined_types, env_type};
-ghost use Rattle.type_table.specs.ComparableTypes.Grown.{AreFlags};
+ghost use Rattle.type_flags.specs.Grown.{AreFlags};
 ghost use Rattle.type_table.specs.declared.operand_rules.values.ValueType.TheVariants.{Typed};
 ghost use Rattle.type_table.specs.OperandRules.Constants.{Grown};
 ghost use Rattle.type_table.specs.OperandRules.Values.{Gives, IsType, IsValue, type_of, type_option, typed_of, content_of};
@@ -21,7 +21,7 @@ use go_tree::BinOp;
 use go_tree::const_eval::Kind;
 use std::alloc::Global;
 use type_table::TypeId;
-use type_table::comparable_types::TypeFlags;
+use type_flags::TypeFlags;
 use type_table::operand_rules::{
     ConstTable, Content, Refusal, Value, ValueType, common_type, fits, has_nil,
 };

@@ -3,4 +3,3 @@ pub mod TypesAtLaws
 pub mod TypeRelations
 pub mod ValueTypes
 pub mod OperandRules
-pub mod ComparableTypes

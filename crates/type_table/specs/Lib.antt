@@ -8,4 +8,3 @@ pub mod TableLaws
 pub mod TypeRelations
 pub mod ValueTypes
 pub mod OperandRules
-pub mod ComparableTypes

@@ -2,7 +2,6 @@
 //! specification, Types; Type identity).
 #![tactic(auto)]
 
-pub mod comparable_types;
 mod laws;
 mod nodes;
 pub mod operand_rules;

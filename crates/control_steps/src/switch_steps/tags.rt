@@ -2,7 +2,7 @@
 
 ghost use Rattle.std.specs.Prelude.{◌≡◌, ◌||◌, List, None, Option, Some};
 ghost use Rattle.go_tree.specs.GoTypes.Answers.{given, only_if};
-ghost use Rattle.type_table.specs.ComparableTypes.Grown.{AreFlags};
+ghost use Rattle.type_flags.specs.Grown.{AreFlags};
 ghost use Rattle.go_tree.specs.GoTypes.Defined.{Defined, comparable, under};
 ghost use Rattle.go_tree.specs.GoTypes.Entities.{run};
 ghost use Rattle.go_tree.specs.GoTypes.Operands as go_operand;
@@ -19,7 +19,7 @@ use go_tree::const_eval::{Const, Kind};
 use operand_modes::checker_tables::Tables;
 use operator_rules::settled;
 use type_table::TypeId;
-use type_table::comparable_types::TypeFlags;
+use type_flags::TypeFlags;
 use type_table::operand_rules::{Content, Refusal, Value, ValueType, folded, has_nil};
 use type_table::type_relations::Env;
 

@@ -11,8 +11,8 @@ use Rattle.go_tree.specs.GoTypes.Operands.{a_function}
 use Rattle.go_tree.specs.GoTypes.Types.{FuncType}
 use Rattle.type_table.specs.declared.nodes.TypeId.{TypeId}
 use Rattle.type_table.specs.TypeRelations.Environment.{Environment, env_type}
-use Rattle.type_table.specs.declared.comparable_types.grown.TypeFlags.{TypeFlags}
-use Rattle.type_table.specs.ComparableTypes.Grown.{AreFlagsSoFar, DefinedBelow}
+use Rattle.type_flags.specs.declared.grown.TypeFlags.{TypeFlags}
+use Rattle.type_flags.specs.Grown.{AreFlagsSoFar, DefinedBelow}
 use Rattle.type_table.specs.ValueTypes.ValueTypes.{HasValueTypes}
 use Rattle.typed_names.specs.TypeExprs.Grown.{TypesGrown}
 use Rattle.universe_block.specs.Meanings.{entity_of}

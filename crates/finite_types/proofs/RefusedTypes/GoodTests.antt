@@ -14,10 +14,10 @@ use Rattle.type_table.specs.TypeRelations.Environment.{Environment, Definition, 
 use Rattle.type_table.specs.declared.nodes.TypeId.{TypeId}
 use Rattle.type_table.proofs.TypesAtLaws.{got_within}
 use Rattle.type_table.specs.declared.operand_rules.values.Refusal.TheVariants.{NotTyped}
-use Rattle.type_table.specs.declared.comparable_types.grown.TypeFlags.{TypeFlags}
-use Rattle.type_table.specs.ComparableTypes.Flags.{flag_at}
-use Rattle.type_table.specs.ComparableTypes.Grown.{AreFlags, AreFlagsSoFar, DefinedBelow}
-use Rattle.type_table.proofs.ComparableTypes.FlagLaws.{some_flag}
+use Rattle.type_flags.specs.declared.grown.TypeFlags.{TypeFlags}
+use Rattle.type_flags.specs.Flags.{flag_at}
+use Rattle.type_flags.specs.Grown.{AreFlags, AreFlagsSoFar, DefinedBelow}
+use Rattle.type_flags.proofs.FlagLaws.{some_flag}
 use Rattle.typed_names.specs.TypeExprs.Answers.{GivesType}
 use Rattle.typed_names.specs.TypeExprs.Grown.{TypesGrown}
 use Rattle.defined_types.specs.declared.declared.DeclaredType.{DeclaredType}

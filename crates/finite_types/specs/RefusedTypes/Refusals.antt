@@ -11,7 +11,7 @@ use Rattle.go_tree.specs.GoTypes.TypeDeclarations.{DeclaredTypes, is_finite}
 use Rattle.go_tree.specs.GoTypes.Programs.{Headed, Program}
 use Rattle.go_tree.specs.GoTypes.Collect.{aliased_world, typed_world}
 use Rattle.type_table.specs.TypeRelations.Environment.{Environment}
-use Rattle.type_table.specs.ComparableTypes.Grown.{AreFlagsSoFar, DefinedBelow}
+use Rattle.type_flags.specs.Grown.{AreFlagsSoFar, DefinedBelow}
 use Rattle.declared_types.specs.Members.{Below, SameMembers}
 use Rattle.finite_types.specs.Flags.{FiniteSoFar}
 use Rattle.finite_types.specs.declared.refused_types.asked.TypeTests.{TypeTests}

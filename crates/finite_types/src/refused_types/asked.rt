@@ -9,7 +9,7 @@ use crate::first_finite;
 use defined_types::DeclaredType;
 use go_tree::NoMemory;
 use std::alloc::Global;
-use type_table::comparable_types::TypeFlags;
+use type_flags::TypeFlags;
 use type_table::type_relations::Env;
 
 /// Which types of a table have comparable keys in their maps, and which are finite, by their numbers,

@@ -4,8 +4,8 @@ use Rattle.go_tree.specs.GoTypes.Types.{GoType, basic, named_type, pointer_to, s
 use Rattle.go_tree.specs.GoTypes.Defined.{Defined, find_defined, under_of, under, comparable_by, comparable_within, comparable, has_keys, fields_have_keys}
 use Rattle.type_table.specs.TypeRelations.Environment.{Definition, Environment, defined_at, defined_types, env_type}
 use Rattle.type_table.specs.TypesAt.{type_at}
-use Rattle.type_table.specs.declared.comparable_types.grown.TypeFlags.{TypeFlags}
-use Rattle.type_table.specs.ComparableTypes.Grown.{AreFlagsSoFar}
+use Rattle.type_flags.specs.declared.grown.TypeFlags.{TypeFlags}
+use Rattle.type_flags.specs.Grown.{AreFlagsSoFar}
 use Rattle.type_table.specs.declared.operand_rules.values.ValueType.{ValueType}
 use Rattle.type_table.specs.declared.operand_rules.values.ValueType.TheVariants as variant
 use Rattle.type_table.specs.OperandRules.Values.{IsType}

@@ -4,8 +4,8 @@ ghost use Rattle.std.specs.Prelude.{◌≡◌, [], List, length, map, OnOk, if�
 ghost use Rattle.go_tree.specs.declared.spans.Span.{Span};
 ghost use Rattle.go_tree.specs.GoTypes.Entities.{World};
 ghost use Rattle.go_tree.specs.GoTypes.Programs.{Headed};
-ghost use Rattle.type_table.specs.declared.comparable_types.grown.TypeFlags.{TypeFlags};
-ghost use Rattle.type_table.specs.ComparableTypes.Grown.{AreFlagsSoFar};
+ghost use Rattle.type_flags.specs.declared.grown.TypeFlags.{TypeFlags};
+ghost use Rattle.type_flags.specs.Grown.{AreFlagsSoFar};
 ghost use Rattle.type_table.specs.TypeRelations.Environment.{Environment, MethodsWithin, has_methods, with_methods};
 ghost use Rattle.typed_names.specs.TypeExprs.Grown.{TypesGrown};
 ghost use Rattle.typed_names.specs.declared.scopes.Scope.{Scope};

@@ -3,8 +3,8 @@ use Rattle.std.specs.Prelude.{◌≡◌, [], length, refl}
 use Rattle.std.proofs.Common.{arith}
 use mathlib.Core.Path.{sym, ◌∙◌, subst}
 use Rattle.type_table.specs.TypeRelations.Environment.{Environment, defined_types}
-use Rattle.type_table.specs.declared.comparable_types.grown.TypeFlags.{TypeFlags}
-use Rattle.type_table.specs.ComparableTypes.Grown.{AreFlags, AreFlagsSoFar, DefinedBelow}
+use Rattle.type_flags.specs.declared.grown.TypeFlags.{TypeFlags}
+use Rattle.type_flags.specs.Grown.{AreFlags, AreFlagsSoFar, DefinedBelow}
 use Rattle.operator_rules.specs.declared.basics.BasicTypes.{BasicTypes}
 use Rattle.operator_rules.specs.BasicTypes.{AreBasic}
 use Rattle.operator_rules.specs.Kept as rule

@@ -7,7 +7,7 @@ use Rattle.go_tree.specs.GoTypes.Operands.{Typed, a_function}
 use Rattle.go_tree.specs.GoTypes.Primary.{selected}
 use Rattle.type_table.specs.TypeRelations.Environment.{Environment, IsEnvironment, defined_types}
 use Rattle.type_table.specs.TypeRelations.Methods.{declared_method}
-use Rattle.type_table.specs.declared.comparable_types.grown.TypeFlags.{TypeFlags}
+use Rattle.type_flags.specs.declared.grown.TypeFlags.{TypeFlags}
 use Rattle.operator_rules.specs.declared.basics.BasicTypes.{BasicTypes}
 use Rattle.operator_rules.specs.Parts.{HasParts}
 use Rattle.type_table.specs.ValueTypes.ValueTypes.{HasValueTypes}

@@ -3,8 +3,8 @@
 use Rattle.std.specs.Prelude.{◌≡◌, false, length, List, [], ◌∷◌}
 use Rattle.go_tree.specs.GoTypes.Types.{GoType, FuncType, is_untyped}
 use Rattle.type_table.specs.TypeRelations.Environment.{Environment}
-use Rattle.type_table.specs.declared.comparable_types.grown.TypeFlags.{TypeFlags}
-use Rattle.type_table.specs.ComparableTypes.Grown.{AreFlagsSoFar, DefinedBelow}
+use Rattle.type_flags.specs.declared.grown.TypeFlags.{TypeFlags}
+use Rattle.type_flags.specs.Grown.{AreFlagsSoFar, DefinedBelow}
 use Rattle.type_table.specs.OperandRules.Constants.{Grown}
 use Rattle.operator_rules.specs.declared.basics.BasicTypes.{BasicTypes}
 use Rattle.operator_rules.specs.BasicTypes.{AreBasic}

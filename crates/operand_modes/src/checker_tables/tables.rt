@@ -6,7 +6,7 @@ ghost use Rattle.operand_modes.specs.CheckerTables.Ready.{AreReady};
 use go_tree::NoMemory;
 use operator_rules::BasicTypes;
 use std::alloc::Global;
-use type_table::comparable_types::TypeFlags;
+use type_flags::TypeFlags;
 use type_table::operand_rules::ConstTable;
 use type_table::type_relations::Env;
 

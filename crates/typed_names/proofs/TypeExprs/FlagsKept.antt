@@ -4,11 +4,11 @@ use Rattle.go_tree.specs.GoTypes.Answers.{given, only_if}
 use Rattle.go_tree.specs.GoTypes.Types.{GoType}
 use Rattle.go_tree.specs.GoTypes.Defined.{comparable, has_keys}
 use Rattle.type_table.specs.TypeRelations.Environment.{Environment, env_type, defined_types}
-use Rattle.type_table.specs.declared.comparable_types.grown.TypeFlags.{TypeFlags}
-use Rattle.type_table.specs.ComparableTypes.Comparable.{AreComparable}
-use Rattle.type_table.specs.ComparableTypes.Flags.{flag_at}
-use Rattle.type_table.specs.ComparableTypes.Keys.{AreKeyed}
-use Rattle.type_table.specs.ComparableTypes.Grown.{AreFlags, AreFlagsSoFar, DefinedBelow}
+use Rattle.type_flags.specs.declared.grown.TypeFlags.{TypeFlags}
+use Rattle.type_flags.specs.Comparable.{AreComparable}
+use Rattle.type_flags.specs.Flags.{flag_at}
+use Rattle.type_flags.specs.Keys.{AreKeyed}
+use Rattle.type_flags.specs.Grown.{AreFlags, AreFlagsSoFar, DefinedBelow}
 use Rattle.type_table.specs.declared.nodes.TypeId.{TypeId}
 use Rattle.type_table.specs.declared.operand_rules.values.Refusal.{Refusal}
 use Rattle.type_table.specs.declared.operand_rules.values.Refusal.TheVariants.{NotTyped}

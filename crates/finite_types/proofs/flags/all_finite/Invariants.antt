@@ -1,6 +1,6 @@
 use Rattle.std.proofs.Common.{◌≡◌, drop}
 use Rattle.std.specs.List.{list_all}
-use Rattle.type_table.specs.ComparableTypes.Flags.{flag_at}
+use Rattle.type_flags.specs.Flags.{flag_at}
 use Rattle.finite_types.proofs.flags.all_finite.Given as goal
 
 abbrev pub invariant-loop-field : goal.invariant-loop-field

@@ -1,5 +1,5 @@
 use Rattle.std.proofs.Common.{◌≡◌, ◌∙◌, Bool, List, ap, length, refl, sym, subst, arith}
-use Rattle.type_table.proofs.ComparableTypes.FlagLaws.{take_back}
+use Rattle.type_flags.proofs.FlagLaws.{take_back}
 use Rattle.named_types.specs.Steps.{number_at}
 use Rattle.finite_types.specs.Finite.{AreFinite}
 use Rattle.finite_types.specs.Flags.{IsNext, SoundFlags}

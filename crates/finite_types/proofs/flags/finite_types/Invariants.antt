@@ -1,5 +1,5 @@
 use Rattle.std.proofs.Common.{◌≡◌, length}
-use Rattle.type_table.specs.ComparableTypes.Flags.{missing}
+use Rattle.type_flags.specs.Flags.{missing}
 use Rattle.finite_types.specs.Flags.{SoundFlags}
 use Rattle.finite_types.proofs.flags.finite_types.Given as goal
 

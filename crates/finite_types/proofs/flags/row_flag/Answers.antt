@@ -1,6 +1,6 @@
 use Rattle.std.proofs.Common.{◌∙◌, sym, ap}
 use Rattle.type_table.specs.declared.nodes.TypeNode.TheVariants.{Struct}
-use Rattle.type_table.specs.ComparableTypes.Flags.{flag_at}
+use Rattle.type_flags.specs.Flags.{flag_at}
 use Rattle.named_types.specs.Steps.{number_at}
 use Rattle.finite_types.proofs.FlagLaws.{struct_row}
 use Rattle.finite_types.proofs.flags.row_flag.Goals as goal

@@ -1,5 +1,5 @@
 use Rattle.std.proofs.Common.{◌≡◌, true, ◌∙◌, sym, arith}
-use Rattle.type_table.proofs.ComparableTypes.FlagLaws.{set_fewer}
+use Rattle.type_flags.proofs.FlagLaws.{set_fewer}
 use Rattle.finite_types.proofs.FlagLaws.{row_sound, set_sound}
 use Rattle.finite_types.proofs.flags.set_flag.Goals as goal
 

@@ -1,5 +1,5 @@
 use Rattle.std.proofs.Common.{◌<◌, ◌∙◌, [], ◌∷◌, ap, length, length-append, slice_get, arith, false}
-use Rattle.type_table.specs.ComparableTypes.Flags.{flag_at}
+use Rattle.type_flags.specs.Flags.{flag_at}
 use Rattle.finite_types.specs.Flags.{row_option}
 use Rattle.finite_types.proofs.FlagLaws.{finite_more}
 use Rattle.finite_types.proofs.grown.extend_finite.Goals as goal

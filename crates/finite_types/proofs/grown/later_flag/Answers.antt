@@ -1,6 +1,6 @@
 use Rattle.std.proofs.Common.{false, ◌∙◌, sym, ap}
 use Rattle.type_table.specs.declared.nodes.TypeNode.TheVariants.{Struct}
-use Rattle.type_table.specs.ComparableTypes.Flags.{flag_at}
+use Rattle.type_flags.specs.Flags.{flag_at}
 use Rattle.finite_types.proofs.FlagLaws.{struct_row}
 use Rattle.finite_types.proofs.grown.later_flag.Goals as goal
 

@@ -1,7 +1,7 @@
 use Rattle.std.proofs.Common.{◌∙◌, ◌||◌, Err, ap, subst, sym}
 use Rattle.go_tree.specs.FileView.{type_spec_of}
 use Rattle.go_tree.specs.GoTypes.TypeNames.{type_meant}
-use Rattle.type_table.specs.ComparableTypes.Flags.{flag_at}
+use Rattle.type_flags.specs.Flags.{flag_at}
 use Rattle.typed_names.specs.Scopes.{env_at}
 use Rattle.typed_names.specs.TypeExprs.Answers.{GivesType}
 use Rattle.finite_types.proofs.RefusedTypes.GoodTests.{bad_meant, finite_on, good_meant}

@@ -1,9 +1,0 @@
-use Rattle.std.proofs.Common.{◌≡◌, length}
-use Rattle.type_table.specs.ComparableTypes.Flags.{SoundFlags, missing}
-use Rattle.type_table.proofs.comparable_types.flags.comparable_types.Given as goal
-
-abbrev pub invariant-loop : goal.invariant-loop
-invariant-loop l = (length l.flags.items ≡ length l.env.rows) × SoundFlags l.env l.flags.items
-
-abbrev pub decreases-loop : goal.decreases-loop
-decreases-loop l = missing l.flags.items

@@ -1,6 +1,0 @@
-use Rattle.std.proofs.Common.{◌≡◌, length}
-use Rattle.type_table.proofs.ComparableTypes.KeyLaws.{KeyedBelow}
-use Rattle.type_table.proofs.comparable_types.keys.keyed_types.Given as goal
-
-abbrev pub invariant-loop-t : goal.invariant-loop-t
-invariant-loop-t l = (length l.keyed.items ≡ l.t) × KeyedBelow l.env l.keyed.items l.t

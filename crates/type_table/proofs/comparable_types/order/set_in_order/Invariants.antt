@@ -1,5 +1,0 @@
-use Rattle.type_table.specs.ComparableTypes.Flags.{KeptFlags}
-use Rattle.type_table.proofs.comparable_types.order.set_in_order.Given as goal
-
-abbrev pub invariant-loop-t : goal.invariant-loop-t
-invariant-loop-t l = KeptFlags l.env l.initial.flags l.flags
