@@ -126,16 +126,16 @@ func Words@(text string) []string {
     """// span@ is a range of numbers, the last one not included.
 type span@ struct{ from, to int }
 
-// within@ tells which of the numbers lie in the span.
-func within@(s span@, numbers []int) map[int]bool {
-	found := make(map[int]bool, len(numbers))
-	for _, number := range numbers {
-		found[number] = number >= s.from && number < s.to
+// within@ tells of each of the numbers whether it lies in the span.
+func within@(s span@, numbers []int) []bool {
+	found := make([]bool, len(numbers))
+	for i, number := range numbers {
+		found[i] = number >= s.from && number < s.to
 	}
 	return found
 }
 
-// Count@ counts the numbers that lie in the span, and tells of it at the end.
+// Count@ counts the numbers from zero on that lie in the span, and tells of it at the end.
 func Count@(from, to int, numbers []int) (count int) {
 	defer func() {
 		if count < 0 {
@@ -143,8 +143,8 @@ func Count@(from, to int, numbers []int) (count int) {
 		}
 	}()
 search:
-	for number, is := range within@(span@{from: from, to: to}, numbers) {
-		if number < 0 {
+	for i, is := range within@(span@{from: from, to: to}, numbers) {
+		if numbers[i] < 0 {
 			continue search
 		}
 		if is {
