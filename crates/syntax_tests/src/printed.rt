@@ -1,13 +1,13 @@
 //! Files of constants and of functions that print them.
 
-use crate::files::source;
+use crate::files::read;
 use printing_files::prints_only;
 use std::alloc::Global;
 use std::test::Fail;
 
 fn prints(alloc: Global, text: &str) -> Result<bool, Fail> {
-    let source = source(alloc, text)?;
-    Ok(prints_only(&source.tree))
+    let file = read(alloc, text.as_bytes())?;
+    Ok(prints_only(&file))
 }
 
 #[test]
