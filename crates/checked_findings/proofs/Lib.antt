@@ -1,0 +1,8 @@
+pub mod NamesAlike
+pub mod FoundAlike
+pub mod FoundBare
+pub mod LookUps
+mod Told
+mod ExamplesOfOperators
+mod ExamplesOfCalls
+mod ExamplesOfStatements
