@@ -45,11 +45,11 @@ use Rattle.checked_findings.specs.Laws.{nowhere}
 module _ {S : Type 0} where
   -- ---- names, signatures and lists
 
-  length-bare : (ns : List (NameAt S)) → length (map bare_name ns) ≡ length ns
+  pub length-bare : (ns : List (NameAt S)) → length (map bare_name ns) ≡ length ns
   length-bare [] = refl
   length-bare (n ∷ ns) = ap suc (length-bare ns)
 
-  no_values-bare : (es : Exprs S) → no_values (bare_exprs es) ≡ no_values es
+  pub no_values-bare : (es : Exprs S) → no_values (bare_exprs es) ≡ no_values es
   no_values-bare no_exprs = refl
   no_values-bare (expr_and e es) = refl
 
@@ -63,24 +63,24 @@ module _ {S : Type 0} where
   param_binds-bare (p ∷ ps) [] = refl
   param_binds-bare (p ∷ ps) (t ∷ ts) = λ w. param_binding-bare p.name t w ++ param_binds-bare ps ts w
 
-  body_binds-bare : (receiver : Binds) (g : Sig S) (f : FuncType) →
+  pub body_binds-bare : (receiver : Binds) (g : Sig S) (f : FuncType) →
       body_binds receiver (bare_sig g) f ≡ body_binds receiver g f
   body_binds-bare receiver g f =
       ap₂
       (λ ps rs. let bs : Binds = receiver ++ ps ++ rs in only_if (distinct_by bytes_eq (bound_names bs)) (Some bs))
       (param_binds-bare g.params f.params) (param_binds-bare g.results f.results)
 
-  literal_env-bare : (env : Env) (g : Sig S) → literal_env env (bare_sig g) ≡ literal_env env g
+  pub literal_env-bare : (env : Env) (g : Sig S) → literal_env env (bare_sig g) ≡ literal_env env g
   literal_env-bare env g =
       λ w. extend
       (binds_or (sig_names-bare g w) (given (func_type-bare env g w) (λ f. body_binds-bare [] g f w))) (in_block env)
 
   -- ---- what is asked
 
-  literal_results-bare : (env : Env) (g : Sig S) → literal_results env (bare_sig g) ≡ literal_results env g
+  pub literal_results-bare : (env : Env) (g : Sig S) → literal_results env (bare_sig g) ≡ literal_results env g
   literal_results-bare env g = λ w. results_in (func_type-bare env g w)
 
-  each_of-bare : (a : Asked) (es : Exprs S) → each_of a (bare_exprs es) ≡ each_of a es
+  pub each_of-bare : (a : Asked) (es : Exprs S) → each_of a (bare_exprs es) ≡ each_of a es
   each_of-bare a no_exprs = refl
   each_of-bare a (expr_and e es) = λ w. a ∷ each_of-bare a es w
 
@@ -90,7 +90,7 @@ module _ {S : Type 0} where
   field_asked-bare home no_value (go_field n p t fs) = refl
   field_asked-bare home (some_value k) fs = λ w. given (field_key-bare k w) (λ n. find_field home n fs)
 
-  value_asked-bare : (ds : List Defined) (home : ℕ) (k : ValueOption S) →
+  pub value_asked-bare : (ds : List Defined) (home : ℕ) (k : ValueOption S) →
       value_asked ds home (bare_value_option k) ≡ value_asked ds home k
   value_asked-bare ds home k =
       λ w u. elim (fields_of u) [ Some fs ↦ field_asked-bare home k fs w | None ↦ inner_type ds u ]
@@ -99,24 +99,24 @@ module _ {S : Type 0} where
   behind_field-bare no_value u = refl
   behind_field-bare (some_value v) u = refl
 
-  constants_ask-bare : (env : Env) (t : Option (TypeExpr S)) (es : Exprs S) →
+  pub constants_ask-bare : (env : Env) (t : Option (TypeExpr S)) (es : Exprs S) →
       constants_ask env (option_map bare_type t) (bare_exprs es) ≡ constants_ask env t es
   constants_ask-bare env t es = λ w. each_of-bare (asked (given (written_type-bare env t w) (λ t. t))) es w
 
-  variables_ask-bare : (env : Env) (ns : List (NameAt S)) (t : Option (TypeExpr S)) (es : Exprs S) →
+  pub variables_ask-bare : (env : Env) (ns : List (NameAt S)) (t : Option (TypeExpr S)) (es : Exprs S) →
       variables_ask env (map bare_name ns) (option_map bare_type t) (bare_exprs es) ≡ variables_ask env ns t es
   variables_ask-bare env ns t es =
       λ w. values_ask (defined_in env) (places-bare env es w)
       (map (λ n. given (written_type-bare env t w) (λ t. t)) (names_of-bare ns w))
       (otherwise (all_parts-bare env es w) [])
 
-  assigned_ask-bare : (env : Env) (ls rs : Exprs S) →
+  pub assigned_ask-bare : (env : Env) (ls rs : Exprs S) →
       assigned_ask env (bare_exprs ls) (bare_exprs rs) ≡ assigned_ask env ls rs
   assigned_ask-bare env ls rs =
       λ w. values_ask (defined_in env) (places-bare env rs w) (target_types (targets-bare env ls w))
       (otherwise (all_parts-bare env rs w) [])
 
-  defined_ask-bare : (env : Env) (ns : List (NameAt S)) (rs : Exprs S) →
+  pub defined_ask-bare : (env : Env) (ns : List (NameAt S)) (rs : Exprs S) →
       defined_ask env (map bare_name ns) (bare_exprs rs) ≡ defined_ask env ns rs
   defined_ask-bare env ns rs =
       λ w. values_ask (defined_in env) (places-bare env rs w) (defined_types env (names_of-bare ns w))
@@ -127,7 +127,7 @@ module _ {S : Type 0} where
   over_asks-bare env o (assigns es) = λ w. stored_asks (defined_in env) (only_target (targets-bare env es w)) o
   over_asks-bare env o (defines ns) = refl
 
-  ranged_asks-bare : (env : Env) (e : Expr S) (l : RangeLeft S) →
+  pub ranged_asks-bare : (env : Env) (e : Expr S) (l : RangeLeft S) →
       ranged_asks env (bare_expr e) (bare_range_left l) ≡ ranged_asks env e l
   ranged_asks-bare env e l =
       λ w. otherwise (given (parts-bare env e w) (λ o. Some (over_asks-bare env o l w))) as_it_is

@@ -2,7 +2,12 @@ pub mod NamesAlike
 pub mod FoundAlike
 pub mod FoundBare
 pub mod LookUps
+pub mod Spanless
+pub mod TypingMoved
+pub mod FoundMoved
+pub mod DeclarationsMoved
 mod Told
 mod ExamplesOfOperators
 mod ExamplesOfCalls
 mod ExamplesOfStatements
+mod ExamplesOfPackages

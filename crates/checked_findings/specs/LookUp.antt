@@ -1,6 +1,6 @@
 -- What is found at a place of a file, and places that are counted from the start of a declaration (Go specification,
 -- Source file organization; Expressions; Constant expressions).
-use Rattle.std.specs.Prelude.{ℕ, ◌-◌, Bool, true, ◌&&◌, List, [], ◌∷◌, ◌++◌, map, Option, Some, None}
+use Rattle.std.specs.Prelude.{ℕ, ◌+◌, ◌-◌, Bool, true, ◌&&◌, List, [], ◌∷◌, ◌++◌, map, Option, Some, None}
 use Rattle.std.specs.Prelude.{if◌then◌else◌, nat_eq, slice_get}
 use Rattle.go_tree.specs.declared.spans.Span.{Span}
 use Rattle.go_tree.specs.declared.const_eval.consts.Const.{Const}
@@ -51,3 +51,11 @@ from_start n s = record { start = s.start - n; end = s.end - n }
 -- a span as it is
 abbrev pub as_written : Span → Span
 as_written s = s
+
+-- a span so many bytes further on
+abbrev pub moved_by : ℕ → Span → Span
+moved_by n s = record { start = s.start + n; end = s.end + n }
+
+-- the place of a node that has another span in the place of its own
+abbrev pub moved : {S T P : Type 0} → (T → P) → (S → T) → S → P
+moved at to s = at (to s)

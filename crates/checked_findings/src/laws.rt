@@ -11,6 +11,16 @@ pub fn findings_need_no_spans()
     ensures moved { law.MovedStatementsAlike }
 {}
 
+/// What is found in a tree with other spans in the place of its own is what is found in the tree, at
+/// the places that these spans have. So a declaration that stands further on in its file gives the
+/// same findings, counted from where it starts.
+pub fn findings_move_with_their_trees()
+    ensures expressions { law.ExpressionsMove }
+    ensures statements { law.StatementsMove }
+    ensures declarations { law.DeclarationsMove }
+    ensures counted { law.CountedFromStart }
+{}
+
 /// What is found depends on what the free names mean, and on no other names.
 pub fn found_alike_where_free_names_mean_the_same()
     ensures expressions { law.ExpressionsFoundAlike }

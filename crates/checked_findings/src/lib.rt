@@ -6,5 +6,6 @@
 mod laws;
 
 pub use laws::{
-    each_is_found_at_its_place, findings_need_no_spans, found_alike_where_free_names_mean_the_same,
+    each_is_found_at_its_place, findings_move_with_their_trees, findings_need_no_spans,
+    found_alike_where_free_names_mean_the_same,
 };
