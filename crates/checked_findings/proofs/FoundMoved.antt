@@ -1,5 +1,5 @@
--- What is found in a tree with other spans in the place of its own is what is found in the tree, at the places that these
--- spans have.
+-- What is found in a tree with other spans in the place of its own is what is found in the tree, at the places that
+-- these spans have.
 use Rattle.std.specs.Prelude.{◌≡◌, refl, ℕ, suc, ◌+◌, List, [], ◌∷◌, ◌++◌, map, length, Option, Some, None}
 use Rattle.std.specs.Prelude.{if◌then◌else◌}
 use Rattle.go_tree.specs.Tree.{NameAt, TypeExpr, named, pointer, slice_type, map_type, struct_type, Fields, no_fields}

@@ -1,5 +1,6 @@
 pub mod NamesAlike
 pub mod FoundAlike
+pub mod DeclarationsAlike
 pub mod FoundBare
 pub mod LookUps
 pub mod Spanless
@@ -9,5 +10,6 @@ pub mod DeclarationsMoved
 mod Told
 mod ExamplesOfOperators
 mod ExamplesOfCalls
+mod ExamplesOfLiterals
 mod ExamplesOfStatements
 mod ExamplesOfPackages

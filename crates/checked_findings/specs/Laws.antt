@@ -1,5 +1,5 @@
 -- The laws of what is found. Each is the contract of a function of this crate.
-use Rattle.std.specs.Prelude.{◌≡◌, ℕ, ◌+◌, true, List, ◌∷◌, Some}
+use Rattle.std.specs.Prelude.{◌≡◌, ℕ, ◌+◌, true, List, [], ◌∷◌, Some, None}
 use Rattle.go_tree.specs.declared.spans.Span.{Span}
 use Rattle.go_tree.specs.Tree.{Expr, Stmts}
 use Rattle.go_tree.specs.File.{Decl}
@@ -8,11 +8,12 @@ use Rattle.go_tree.specs.ScopeNames.Means.{Environment}
 use Rattle.go_tree.specs.ScopeNames.FreeNames.{free_expr, free_stmts}
 use Rattle.go_tree.specs.GoTypes.Types.{GoType}
 use Rattle.go_tree.specs.GoTypes.Entities.{Entity, World, Env}
+use Rattle.go_tree.specs.GoTypes.Programs.{file_env}
 use Rattle.go_tree.specs.GoTypes.Agreement.{with_names, On, Agrees}
 use Rattle.run_rules.specs.Respanned.{expr_with, stmts_with, decl_with}
 use Rattle.checked_findings.specs.Facts.{Asked, Fact, Facts}
 use Rattle.checked_findings.specs.Found.{found, found_stmts}
-use Rattle.checked_findings.specs.Packages.{declaration_found}
+use Rattle.checked_findings.specs.Packages.{names_around, declaration_found}
 use Rattle.checked_findings.specs.LookUp.{fact_at, places_distinct, from_start, moved_by, moved}
 
 -- a place of which nothing is told
@@ -82,6 +83,14 @@ abbrev pub StatementsFoundAlike : Type 0
 StatementsFoundAlike =
     (at : Span → Span) (rs : List GoType) (a : Env) (b : Stmts Span) (m : Environment Entity) (around : List (List ℕ)) →
     Agrees around a m → On (free_stmts around b) a m → found_stmts at rs a b ≡ found_stmts at rs (with_names a m) b
+
+-- of a declaration beside other imports of its file, where the names that it takes from around it mean what they meant
+abbrev pub DeclarationsFoundAlike : Type 0
+DeclarationsFoundAlike =
+    (at : Span → Span) (w : World) (home : ℕ) (imports more : Environment Entity) (d : Decl Span) →
+    Agrees [] (file_env w home imports None) (file_env w home more None).names →
+    On (names_around w home imports d) (file_env w home imports None) (file_env w home more None).names →
+    declaration_found at w home imports d ≡ declaration_found at w home more d
 
 -- ---- look-ups
 

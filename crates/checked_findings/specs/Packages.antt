@@ -2,8 +2,9 @@
 -- declarations; Iota; Variable declarations; Function declarations; Method declarations).
 use Rattle.std.specs.Prelude.{ℕ, suc, Bool, false, true, List, [], ◌∷◌, ◌++◌, map, Option, Some, None}
 use Rattle.go_tree.specs.Tree.{const_decl, var_decl, ValueSpecs, no_specs, spec}
-use Rattle.go_tree.specs.File.{Func, Decl, values, types, func}
+use Rattle.go_tree.specs.File.{Receiver, Func, Decl, values, types, func}
 use Rattle.go_tree.specs.ScopeNames.Means.{Environment}
+use Rattle.go_tree.specs.ScopeNames.FreeNames.{free_type_option, free_params, free_exprs, free_stmts}
 use Rattle.go_tree.specs.GoTypes.Types.{GoType}
 use Rattle.go_tree.specs.GoTypes.Entities.{Entity, World, Env}
 use Rattle.go_tree.specs.GoTypes.TypeNames.{func_type}
@@ -27,6 +28,27 @@ module _ {S : Type 0} where
         sound = true;
         header = a_func f;
       }
+
+  -- the names that specs take from around them
+  abbrev pub specs_around : ValueSpecs S → List (List ℕ)
+  specs_around no_specs = []
+  specs_around (spec _ ns t es ss) = free_type_option [] t ++ free_exprs [] es ++ specs_around ss
+
+  -- the name of a receiver's type, if there is one
+  abbrev pub receiver_around : Option (Receiver S) → List (List ℕ)
+  receiver_around None = []
+  receiver_around (Some r) = r.of.name ∷ []
+
+  -- the names that a declaration takes from around it: those of its types and values, and those that a body uses beside
+  -- the ones that it begins with
+  abbrev pub names_around : World → ℕ → Environment Entity → Decl S → List (List ℕ)
+  names_around w home imports (values (const_decl _ _ ss)) = specs_around ss
+  names_around w home imports (values (var_decl _ _ ss)) = specs_around ss
+  names_around w home imports (values s) = []
+  names_around w home imports (types _ grouped ts) = []
+  names_around w home imports (func f) =
+      receiver_around f.receiver ++ free_params [] f.sig.params ++ free_params [] f.sig.results
+      ++ free_stmts (body_env w (function_header home imports f) f).here f.body
 
   -- the results of a function
   abbrev pub function_results : World → Headed S → Func S → List GoType

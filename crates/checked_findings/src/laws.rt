@@ -21,10 +21,12 @@ pub fn findings_move_with_their_trees()
     ensures counted { law.CountedFromStart }
 {}
 
-/// What is found depends on what the free names mean, and on no other names.
+/// What is found depends on what the free names mean, and on no other names. So a declaration gives
+/// the same beside other imports of its file that leave the names alone that it takes from around it.
 pub fn found_alike_where_free_names_mean_the_same()
     ensures expressions { law.ExpressionsFoundAlike }
     ensures statements { law.StatementsFoundAlike }
+    ensures declarations { law.DeclarationsFoundAlike }
 {}
 
 /// Where no two findings of a file have one place, a look-up by place gives each.
