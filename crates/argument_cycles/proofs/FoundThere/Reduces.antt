@@ -116,7 +116,7 @@ module _ {S : Type 0} (eq : S → S → Bool) (commented : ℕ → ℕ → S →
 
   module _ (h : trees.Alike_ eq ps qs same Q home now f x.at.number (parts_of ps x.at x.decl) (parts_of qs later x.decl) x.place q x.use_ e (expr_span e) w1 w2 nums) (results : Both L R same P (params_identifiers f.sig.results) (top ps c) (top qs k)) (stays : obstacles.PlainStays ps qs same home now x.at later nums refl x.place q)
       (path : x.at.of.path ≡ of_later.path) (paths : (j : ℕ) → package_path ps j ≡ package_path qs j) (recursive : is_recursive ps marks x.mark ≡ is_recursive qs marks x.mark) where
-    module _ (ch : List Bool) (dropped : (is_statement x.use_ ≡ false) ⊎ (forms.result_type eq ps c unnamed ch ≡ None)) where
+    module _ (ch : List Bool) where
       abbrev AllHere : List (Given S) → Type 0
       AllHere gs = chosen.AllGivenHere eq ps qs same P Q home now f x.at.number (parts_of ps x.at x.decl) (parts_of qs later x.decl) x.place q x.use_ e (expr_span e) w1 w2 h gs
 
@@ -214,7 +214,7 @@ module _ {S : Type 0} (eq : S → S → Bool) (commented : ℕ → ℕ → S →
           (obstacle_if (obstacles.repeated-so ps qs same home now x.at later nums refl x.place q (λ w. (sym (h.at).is w).again) (text-so kind) v) Repeated))))))
 
       free-so : (kind : FormKind) → is_free_form eq commented ps marks x c ch kind ≡ is_free_form eq commented qs marks xa k ch kind
-      free-so kind = λ v. applies_.applies-so eq ps qs same Q home now f x.at.number (parts_of ps x.at x.decl) (parts_of qs later x.decl) x.place q x.use_ e (expr_span e) w1 w2 nums h results ch unnamed dropped kind v && is_none (obstacle-so kind v)
+      free-so kind = λ v. applies_.applies-so eq ps qs same Q home now f x.at.number (parts_of ps x.at x.decl) (parts_of qs later x.decl) x.place q x.use_ e (expr_span e) w1 w2 nums h results ch unnamed kind v && is_none (obstacle-so kind v)
 
       pub first-so : (ks : List FormKind) → first_free eq commented ps marks x c ch ks ≡ first_free eq commented qs marks xa k ch ks
       first-so [] = refl

@@ -41,7 +41,7 @@ use Rattle.order_runs.proofs.CycleRuns.OrderCycles.StepAdded.{added-declare}
 use Rattle.literal_cycles.specs.BodyForms.Uses.{CalledUse}
 use Rattle.literal_cycles.proofs.Agreed.{func_of_decl}
 use Rattle.argument_cycles.specs.ImportingSteps.Puts.{site_there}
-use Rattle.argument_cycles.specs.FoundThere.There.{UseThere, FormThere, AddsApart, NamesStay, NoneDropped}
+use Rattle.argument_cycles.specs.FoundThere.There.{UseThere, FormThere, AddsApart, NamesStay}
 use Rattle.argument_cycles.proofs.FoundThere.Chosen as chosen
 use Rattle.argument_cycles.proofs.FoundThere.Decls as decls
 use Rattle.argument_cycles.proofs.FoundThere.Decls.{same_found, step-parts, names_same}
@@ -261,17 +261,7 @@ module _ (marks : List MarkRef) (st : Standing) (l : Logged) (after : Standing) 
   bound-is : place.bound ≡ x.place.bound
   bound-is = walk.bound_same (world ps) (world mid) Same Q at-use
 
-  module _ (apart : AddsApart n) (stay : NamesStay n x.place (func_binders f)) (none : NoneDropped n u) where
-    abbrev ch : List Bool
-    ch = calls.chosen same_here ps c
-
-    dropped : (is_statement x.use_ ≡ false) ⊎ (forms.result_type same_here ps c unnamed ch ≡ None)
-    dropped = by none
-      where
-        by : NoneDropped n u → (is_statement x.use_ ≡ false) ⊎ (forms.result_type same_here ps c unnamed ch ≡ None)
-        by (inl h) = inl h
-        by (inr h) = inr ((λ v. only_one (calls.func_type_is same_here ps (call_at same_here (is_commented st) ps marks x (home-is v) f (tree-is v))).results) ∙ h)
-
+  module _ (apart : AddsApart n) (stay : NamesStay n x.place (func_binders f)) where
     stays : obstacles.PlainStays ps mid Same home now x.at wa refl refl x.place place
     stays = plain-now marks st l after n new x.mark file apart x.place place bound-is
 
@@ -285,7 +275,7 @@ module _ (marks : List MarkRef) (st : Standing) (l : Logged) (after : Standing) 
 
     again : (r : At) × (m : List Named) × (reduced same_here (is_commented st) mid marks xa ≡ Some (becomes n.found.kind n.found.form r m))
     again =
-        remade.again same_here (is_commented st) ps mid marks Same Q home now f x wa.of wa.source place e refl alike results-at stays refl (path-now marks st l after n) recursive dropped bound-is file.before u.declared t.part file.after_ declared-now n.found.kind n.found.form n.found.range n.found.named
+        remade.again same_here (is_commented st) ps mid marks Same Q home now f x wa.of wa.source place e refl alike results-at stays refl (path-now marks st l after n) recursive bound-is file.before u.declared t.part file.after_ declared-now n.found.kind n.found.form n.found.range n.found.named
         found-form.form_is stay-so
 
     pub form-there : FormThere n place
