@@ -7,10 +7,9 @@
 --   package pow
 --   func Pow(x, n int) int { return x * n }
 -- after the step: package main; import "example.com/m/pow"; func main() { println(pow.Pow(next(), 2)) }
-use Rattle.std.proofs.Common.{◌≡◌, ◌⊎◌, inl, refl, sym, ap, ◌∙◌, subst, ℕ, zero, suc, Bool, true, false, List, [], ◌∷◌, map, Option, Some, None, if◌then◌else◌, codes}
+use Rattle.std.proofs.Common.{◌≡◌, refl, sym, ap, ◌∙◌, subst, ℕ, zero, suc, Bool, true, false, List, [], ◌∷◌, map, Option, Some, None, if◌then◌else◌, codes}
 use Rattle.std.specs.Prelude.{is_some, slice_get}
 use Rattle.std.specs.Fmt.{digits}
-use Rattle.go_tree.specs.ScopeNames.Binders.{func_binders}
 use Rattle.go_tree.specs.GoTypes.Answers.{meets}
 use Rattle.go_tree.specs.GoTypes.Types.{basic}
 use Rattle.go_tree.proofs.GoTypes.Agreeing.{some_same}
@@ -25,8 +24,7 @@ use Rattle.pkg_graph.specs.Package.{SourceTree, Package}
 use Rattle.pkg_graph.specs.ModuleFiles.Internal.{passes}
 use Rattle.run_rules.specs.BodyItems.{number_of}
 use Rattle.run_rules.specs.Calls.{Given, all_params, declared_place}
-use Rattle.run_rules.specs.FormTrees.{ExprForm, as_expr, one_expr, type_expr, top, is_statement}
-use Rattle.run_rules.specs.Naming.{named_packages, names_by}
+use Rattle.run_rules.specs.FormTrees.{ExprForm, as_expr, one_expr, type_expr, top}
 use Rattle.run_rules.specs.Places.{stmts_seen, expr_seen}
 use Rattle.run_rules.specs.Programs.{body_place, decl_seen}
 use Rattle.run_rules.specs.Sites.{MarkRef, Where, Site, an_expr, inlinable, is_function, qualifier, called_mark}

@@ -1,53 +1,44 @@
 -- The same forms apply to a call at two places that differ in nothing but what names mean.
-use Rattle.std.proofs.Common.{◌≡◌, refl, sym, ap, subst, ◌∙◌, ◌⊎◌, inl, inr, ℕ, zero, suc, Bool, true, false, not, ◌&&◌, ◌||◌, List, [], ◌∷◌, ◌++◌, map, Option, Some, None, if◌then◌else◌, nat_eq}
+use Rattle.std.proofs.Common.{◌≡◌, refl, sym, ap, subst, ◌∙◌, ℕ, Bool, true, false, not, ◌&&◌, ◌||◌, List, [], ◌∷◌, Option, Some, None, if◌then◌else◌, nat_eq}
 use Rattle.std.specs.Prelude.{nat_lt, is_some}
-use Rattle.std.specs.List.{list_any, list_all, count_by}
-use Rattle.go_tree.specs.declared.exprs.Rest.TheVariants.{Plain}
-use Rattle.go_tree.specs.Tree.{NameAt, TypeExpr, Param, Expr, ident, selector, call, func_lit, Exprs, no_exprs, expr_and, Stmt, eval, assign, define, inner, return_, label, Stmts, no_stmts, stmt_and}
+use Rattle.std.specs.List.{list_all}
+use Rattle.go_tree.specs.Tree.{TypeExpr, Expr, ident, no_exprs, expr_and, Stmt, eval, assign, return_, label}
 use Rattle.go_tree.specs.File.{Func}
-use Rattle.go_tree.specs.ScopeNames.Identifiers.{name_option, type_identifiers, params_identifiers, expr_identifiers, exprs_identifiers, stmt_identifiers, stmts_identifiers}
+use Rattle.go_tree.specs.ScopeNames.Identifiers.{params_identifiers, expr_identifiers, stmt_identifiers}
 use Rattle.go_tree.specs.ScopeNames.Scopes.{expr_span}
 use Rattle.go_tree.specs.ScopeNames.Means.{means}
 use Rattle.go_tree.specs.declared.const_eval.consts.Const.{Const}
-use Rattle.param_choice.specs.Chosen.{has}
 use Rattle.pkg_graph.specs.Package.{Package}
 use Rattle.go_tree.specs.GoTypes.Agreement.{In, head, tail}
-use Rattle.go_tree.specs.GoTypes.Answers.{given, meets, otherwise, is_empty}
+use Rattle.go_tree.specs.GoTypes.Answers.{given, meets, is_empty}
 use Rattle.go_tree.specs.GoTypes.Bodies.{Ctx, has_names}
 use Rattle.go_tree.specs.GoTypes.Entities.{World, Env, Entity, variable, stand_in, elsewhere, exact}
 use Rattle.go_tree.specs.GoTypes.Operands.{Operand, several, Typed, typed}
-use Rattle.go_tree.specs.GoTypes.Primary.{stands_alone}
 use Rattle.go_tree.specs.GoTypes.Recorded.{recorded_stmt, hardens}
 use Rattle.go_tree.specs.GoTypes.Types.{GoType}
-use Rattle.go_tree.specs.GoTypes.Typing.{parts, stmt, is_call}
+use Rattle.go_tree.specs.GoTypes.Typing.{parts, stmt}
 use Rattle.typed_in_place.specs.SameWorlds.SameWorlds.{SameWorld}
-use Rattle.run_rules.specs.BodyItems.{number_of}
-use Rattle.run_rules.specs.Rewriting.{Changes, new_stmt, new_params}
-use Rattle.run_rules.specs.Calls.{Given, Call, exprs_of, is_recover, declared_place, param_name, blank, is_stored, uses}
+use Rattle.run_rules.specs.Rewriting.{Changes, new_stmt}
+use Rattle.run_rules.specs.Calls.{Given, Call, is_recover, declared_place, blank, is_stored, uses}
 use Rattle.run_rules.specs.Calls as calls
-use Rattle.run_rules.specs.Conversions.{converts}
-use Rattle.run_rules.specs.FormTrees.{FormKind, ConstForm, TypeForm, ExprForm, BlockForm, TailForm, LiteralForm, Form, as_expr, as_dropped, as_block, hole, is_statement, in_list, returned_types, all_identical, only_one, conversion, a_name, one_expr, top, type_expr}
+use Rattle.run_rules.specs.FormTrees.{FormKind, ConstForm, TypeForm, ExprForm, BlockForm, TailForm, LiteralForm, Form, as_expr, as_dropped, hole, is_statement, in_list, returned_types, all_identical, top}
 use Rattle.run_rules.specs.Forms as forms
 use Rattle.run_rules.specs.Forms.{is_at, expr_in_place, stmt_in_place, in_place}
-use Rattle.run_rules.specs.Naming.{Names, type_there}
-use Rattle.run_rules.specs.Programs.{numbered, world, param_types}
+use Rattle.run_rules.specs.Naming.{Names}
+use Rattle.run_rules.specs.Programs.{world}
 use Rattle.run_rules.specs.Sites.{Where, is_deferred}
-use Rattle.run_rules.specs.Surroundings.{Use, whole, returned, deferred_call, other, Around, Place, Seen, seen, seen_stmt, local_at}
-use Rattle.std.specs.Prelude.{is_none, bytes_eq}
+use Rattle.run_rules.specs.Surroundings.{Use, deferred_call, Around, Place, Seen, seen, seen_stmt}
 use Rattle.std.proofs.lemmas.Option.{same_Some}
 use Rattle.go_tree.proofs.GoTypes.Agreeing.{under_same}
 use Rattle.order_runs.proofs.CycleRuns.LedImports.Walk as kept_
 use Rattle.argument_cycles.proofs.FoundThere.Chosen as chosen
 use Rattle.argument_cycles.proofs.FoundThere.Envs as envs
 use Rattle.argument_cycles.proofs.FoundThere.Envs.{Alike}
-use Rattle.argument_cycles.proofs.FoundThere.Names as names_
-use Rattle.argument_cycles.proofs.FoundThere.Names.{Reads}
 use Rattle.argument_cycles.proofs.FoundThere.PutNames.{Puts, stmt-kept}
 use Rattle.argument_cycles.proofs.FoundThere.Read as read
 use Rattle.argument_cycles.proofs.FoundThere.Recorded as told
 use Rattle.argument_cycles.proofs.FoundThere.Rewritten as rewritten
 use Rattle.argument_cycles.proofs.FoundThere.Forms as trees
-use Rattle.argument_cycles.proofs.FoundThere.Walk as walk
 use Rattle.argument_cycles.proofs.FoundThere.Walk.{Both, no_around, one_around, Arounds, Part, Parts}
 
 module _ (left right : World) (same : SameWorld left right) (Q : List ℕ → Type 0) {S : Type 0} (eq : S → S → Bool) (zone z : S) where

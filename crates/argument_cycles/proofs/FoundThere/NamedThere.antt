@@ -1,9 +1,9 @@
 -- With the imports of a step's form added, each package that the form names has at the use the name that it has in the form.
-use Rattle.std.proofs.Common.{◌≡◌, refl, sym, ap, subst, ◌∙◌, ℕ, zero, suc, Bool, true, false, not, ◌&&◌, ◌||◌, if◌then◌else◌, bytes_eq, nat_eq, is_some, List, [], ◌∷◌, ◌++◌, map, Option, Some, None, codes, arith, append_assoc}
+use Rattle.std.proofs.Common.{◌≡◌, refl, sym, subst, ◌∙◌, ℕ, Bool, true, false, not, ◌&&◌, ◌||◌, if◌then◌else◌, bytes_eq, nat_eq, is_some, List, [], ◌∷◌, ◌++◌, map, Option, Some, None, codes, arith}
 use Rattle.std.specs.Prelude.{slice_get}
 use Rattle.std.proofs.lemmas.Bool.{or_parts}
 use Rattle.std.proofs.lemmas.Bool.Decides.{nat_tests}
-use Rattle.std.proofs.lemmas.List.{map-append}
+use Rattle.std.proofs.lemmas.List.{map-append, append_assoc}
 use Rattle.std.proofs.lemmas.Option.{same_Some}
 use Rattle.std.proofs.lemmas.Slice.Eq.{bytes_eq-Decides}
 use Rattle.go_tree.specs.Tree.{NameAt}
@@ -30,7 +30,7 @@ use Rattle.run_rules.specs.ImportRules.Needs.{serving, avoided}
 use Rattle.run_rules.specs.ImportRules.SettledNames.{IsOwnName}
 use Rattle.run_rules.specs.Naming.{no_span, Named, name_added, names_by, imports_added, fresh_name, package_path, own_name, names_here, environment_here, added_import, named_packages}
 use Rattle.run_rules.specs.Run.{Standing, Logged, Next, is_commented, here_of}
-use Rattle.run_rules.specs.Sites.{MarkRef, Where, Inlinable}
+use Rattle.run_rules.specs.Sites.{MarkRef, Where}
 use Rattle.run_rules.specs.Steps.{At, same_here, spec_for, added_decls}
 use Rattle.run_rules.specs.Surroundings.{Place}
 use Rattle.run_rules.proofs.ImportRules.NeededMeans as needed

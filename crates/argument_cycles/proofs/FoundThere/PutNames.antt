@@ -1,6 +1,6 @@
 -- The identifiers of what the replacing walk makes where it puts statements too: those that stood, or of what is put. One
 -- line a clause.
-use Rattle.std.proofs.Common.{◌≡◌, refl, ℕ, suc, Bool, true, false, List, [], ◌∷◌, ◌++◌, Option, Some, None, if◌then◌else◌}
+use Rattle.std.proofs.Common.{◌≡◌, refl, ℕ, suc, Bool, true, false, List, [], ◌∷◌, Option, Some, None, if◌then◌else◌}
 use Rattle.go_tree.specs.Tree.{NameAt, Param, Sig, TypeExpr, Expr, ident, int_lit, rune_lit, str_lit, composite, selector, index, slice, call, func_lit, type_operand, unary, binary, star, Exprs, no_exprs, expr_and, ExprOption, no_expr, some_expr, Elems, no_elems, elem, Value, plain, braced, ValueOption, no_value, some_value, Stmt, const_decl, var_decl, empty, eval, step, assign, define, return_, break_, continue_, inner, if_, for_, range_, switch, defer, label, Stmts, no_stmts, stmt_and, StmtOption, no_stmt, some_stmt, BlockOption, no_block, some_block, RangeLeft, nothing, assigns, defines, Arms, no_arms, arm, Cases, no_cases, case, ValueSpecs, no_specs, spec}
 use Rattle.go_tree.specs.ScopeNames.FreeNames.{names_of}
 use Rattle.go_tree.specs.ScopeNames.Identifiers.{name_option, type_identifiers, type_option_identifiers, params_identifiers, sig_identifiers, expr_identifiers, exprs_identifiers, expr_option_identifiers, elems_identifiers, value_identifiers, value_option_identifiers, stmt_identifiers, stmts_identifiers, stmt_option_identifiers, block_option_identifiers, left_identifiers, arms_identifiers, cases_identifiers, specs_identifiers}

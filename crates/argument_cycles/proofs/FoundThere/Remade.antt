@@ -1,5 +1,5 @@
 -- A use becomes the same form in two programs whose names mean the same, where the form's names for packages are the same.
-use Rattle.std.proofs.Common.{◌≡◌, refl, sym, ◌∙◌, ◌⊎◌, ℕ, Bool, false, List, [], ◌∷◌, ◌++◌, map, Option, Some, None}
+use Rattle.std.proofs.Common.{◌≡◌, refl, sym, ◌∙◌, ℕ, Bool, List, [], ◌∷◌, ◌++◌, map, Option, Some, None}
 use Rattle.go_tree.specs.Tree.{TypeExpr, Expr}
 use Rattle.go_tree.specs.File.{Func}
 use Rattle.go_tree.specs.ScopeNames.Binders.{func_binders}
@@ -11,10 +11,9 @@ use Rattle.typed_in_place.specs.SameWorlds.SameWorlds.{SameWorld}
 use Rattle.run_rules.specs.Calls.{Call}
 use Rattle.run_rules.specs.Calls as calls
 use Rattle.run_rules.specs.Cycles.{is_recursive}
-use Rattle.run_rules.specs.Forms as forms
-use Rattle.run_rules.specs.FormTrees.{FormKind, Form, is_statement}
+use Rattle.run_rules.specs.FormTrees.{FormKind, Form}
 use Rattle.run_rules.specs.ImportRules.Needs.{serving, avoided}
-use Rattle.run_rules.specs.Naming.{Named, unnamed, name_added, environment_here, package_path, names_here, fresh_name, own_name, added_import, named_package, named_packages, names_by}
+use Rattle.run_rules.specs.Naming.{Named, name_added, environment_here, package_path, names_here, fresh_name, own_name, added_import, named_package, named_packages, names_by}
 use Rattle.run_rules.specs.Programs.{world, top_place}
 use Rattle.run_rules.specs.Reduced.{becomes, call_at, needed_by, names_in_form, range_of, reduced_call, reduced_function, reduced_in, reduced}
 use Rattle.run_rules.specs.Sites.{MarkRef, Where, an_expr, Site, a_function, where_is, inlinable, parts_of}
