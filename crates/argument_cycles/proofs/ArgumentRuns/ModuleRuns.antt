@@ -96,7 +96,9 @@ own_next F same zero (p ∷ ps) h = (subst IsOwnName (sym (same p)) h.0, h.1)
 own_next F same (suc k) (p ∷ ps) h = (h.0, own_next F same k ps h.1)
 
 step_own : (marks : List MarkRef) (st : Standing) (l : Logged) (after : Standing) (n : Next marks st l after) → AllOwn st.packages → AllOwn after.packages
-step_own marks st l after n h = subst (λ (qs : List (Package At)). AllOwn qs) (sym n.packages_are) (own_next _ (λ p. refl) n.found.site.at.number st.packages h)
+step_own marks st l after n h =
+    let F : Package At → Package At = λ p. record p { files = change_nth n.found.site.at.file_number (λ (s : SourceTree At). record s { tree = n.tree }) p.files } in
+    subst (λ (qs : List (Package At)). AllOwn qs) (sym n.packages_are) (own_next F (λ p. refl) n.found.site.at.number st.packages h)
 
 run_keeps : (marks : List MarkRef) (st last : Standing) (log : List Logged) (run : Run marks st log last) → Linked st.packages → AllOwn st.packages → ProgramReads st → OnePathEach st.packages → AllKeepCallCycles run → (m : MarkRef) → is_recursive st.packages marks m ≡ is_recursive last.packages marks m
 run_keeps marks _ _ _ (ends st over) h own reads one a m = refl

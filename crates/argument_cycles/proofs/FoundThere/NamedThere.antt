@@ -83,11 +83,14 @@ none-of-path path (k ∷ pre) i e f = by (bytes_eq k.path path) f (none-of-path 
 
 -- ---- numbers of packages
 
+itself : (k : ℕ) → nat_eq k k ≡ true
+itself k = grind (arith, nat_tests)
+
 equal : (i j : ℕ) → nat_eq i j ≡ true → i ≡ j
 equal i j h = grind (arith, nat_tests, h)
 
 not-equal : (i j : ℕ) → nat_eq i j ≡ false → i ≡ j → ⊥
-not-equal i j h e = grind (arith, nat_tests, h, e)
+not-equal i j h e = let no : false ≡ true = sym h ∙ (λ v. nat_eq i (sym e v)) ∙ itself i in absurd cc
 
 both-false : (a b : Bool) → a ≡ false → b ≡ false → (a || b) ≡ false
 both-false a b g h = λ v. g v || h v
