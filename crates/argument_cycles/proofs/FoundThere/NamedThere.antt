@@ -330,11 +330,10 @@ module _ (marks : List MarkRef) (st : Standing) (l : Logged) (after : Standing) 
           → ((c done2 : List (List ℕ)) → EachFresh ps w c (named_packages ps w p c qs) → Led (named_packages ps w p c qs) → Within done2 c → Within bound c → serve.AllNew ls old pk pk2 new bound done2 (imports_added (named_packages ps w p c qs)))
           → serve.AllNew ls old pk pk2 new bound done (imports_added (listed b q qs o))
       by (Some m) e i later = later b done e.1 i d k
-      by None e i later =
-          (
-            new-name b done q e.0 (i (package_path ps q) head) d k,
-            later (fresh_for b q ∷ b) (done ++ fresh_for b q ∷ []) e.1 (λ path t. i path (tail t)) (still-within done b (fresh_for b q) d) (more-within b (fresh_for b q) k),
-          )
+      by None e i later = (
+        new-name b done q e.0 (i (package_path ps q) head) d k,
+        later (fresh_for b q ∷ b) (done ++ fresh_for b q ∷ []) e.1 (λ path t. i path (tail t)) (still-within done b (fresh_for b q) d) (more-within b (fresh_for b q) k),
+      )
 
   each-new : serve.AllNew ls old pk pk2 new bound [] new
   each-new = all-new bound [] asked fresh led (λ m e. refl) (λ m e. e)

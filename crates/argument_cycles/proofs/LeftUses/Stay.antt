@@ -90,11 +90,10 @@ module _ (z : At) (f : Form At) (ps : List (Package At)) (marks : List MarkRef) 
 
   variables-stay : (ss : ValueSpecs At) (p : Place At) → AllQuiet c (variables_seen p ss) → VariablesStay ps marks v at m c p ss
   variables-stay no_specs p h = tt
-  variables-stay (spec s ns t es ss) p h =
-      (
-        (λ w. first_env p (specs-stay p (spec s ns t es ss) h w)),
-        variables-stay ss (after_variables p ns t es) (back (written_seen p t ++ all_seen p (alike (value_use p.env t) ns) es) (variables_seen (after_variables p ns t es) ss) h),
-      )
+  variables-stay (spec s ns t es ss) p h = (
+    (λ w. first_env p (specs-stay p (spec s ns t es ss) h w)),
+    variables-stay ss (after_variables p ns t es) (back (written_seen p t ++ all_seen p (alike (value_use p.env t) ns) es) (variables_seen (after_variables p ns t es) ss) h),
+  )
 
   callee-stays : (p : Place At) (u : Use) (y : Expr At) → LeavesPart c (seen p u y) → CalleeStays ps marks v at m c p y
   callee-stays p u (call s g xs r) h = λ w. called_mark ps marks v p (expr-stays (callee_place (inner_slot p.slot (call s g xs r) 7 true false) g p) called g h w)
