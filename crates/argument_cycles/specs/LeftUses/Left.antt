@@ -1,6 +1,6 @@
 -- Steps that leave what is called in the body around their use, and the values of what is declared there (Go
 -- specification, Calls; Selectors; Short variable declarations; Variable declarations; For statements).
-use Rattle.std.specs.Prelude.{◌≡◌, List, [], ◌∷◌, true, Some, slice_get}
+use Rattle.std.specs.Prelude.{◌≡◌, List, [], ◌∷◌, true, false, Some, slice_get}
 use Rattle.go_tree.specs.Tree.{call, const_decl, var_decl, define, range_}
 use Rattle.go_tree.specs.File.{Func, func}
 use Rattle.go_tree.specs.GoTypes.Declarations.{nothing_to_repeat}
