@@ -16,6 +16,11 @@ pub mod Rises
 pub mod KeptImports
 pub mod KeptUses
 pub mod Members
+pub mod Absent
+pub mod NoBlank
+pub mod NoneWritten
+pub mod BlankUses
+mod BlankExample
 pub mod Led
 pub mod Imports
 pub mod Around

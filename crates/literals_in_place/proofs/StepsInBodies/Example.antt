@@ -60,7 +60,7 @@ stays s t q f e = absurd (grind (arith, ap is_dotted e))
 
 shows : ShowTheSame (is_free rs marks (paths_in packages)) 1 packages (with_form same_span rs use_of_add adding literal Anywhere packages in_main_function)
 unfolding is_literal_use is_plain_call in_main_function
-shows = step_shows same_span itself no_comments rs marks use_of_add is_literal_use is_plain_call packages is_linked [] (called_beside is_called) no_packages literal refl in_main_function blank_alike stays is_translated no_groups
+shows = step_shows same_span itself no_comments rs marks use_of_add is_literal_use is_plain_call packages is_linked [] (called_beside is_called) no_packages literal refl in_main_function stays is_translated no_groups
 
 -- ---- what stands there twice
 

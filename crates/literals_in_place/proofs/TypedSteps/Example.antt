@@ -16,7 +16,7 @@ use Rattle.meaning_in_place.specs.Runs.{ShowTheSame}
 use Rattle.literals_in_place.specs.StepsInBodies.Functions.{use_here, ImportStaysUsed}
 use Rattle.literals_in_place.specs.TypedSteps.Uses.{OutsideGroup, StandsInBody, UseInBody, with_literal}
 use Rattle.literals_in_place.proofs.Example.{at, adding, main, literal, rs, use_of_add, no_comments, marks, packages, packages_after, is_literal_use, is_plain_call, is_linked, is_translated, no_groups}
-use Rattle.literals_in_place.proofs.StepsInBodies.Example.{itself, blank_alike}
+use Rattle.literals_in_place.proofs.StepsInBodies.Example.{itself}
 use Rattle.literals_in_place.proofs.TypedSteps.Shows.{called, step_shows}
 
 in_body : StandsInBody same_span use_of_add rs adding packages
@@ -74,7 +74,7 @@ plainly_named qs s t q f e = absurd (grind (arith, ap is_dotted e))
 
 shows : ShowTheSame (is_free rs marks (paths_in packages)) 1 packages (with_literal use_in_main literal)
 unfolding use_in_main in_body is_literal_use is_plain_call
-shows = step_shows use_in_main literal refl is_translated no_groups blank_alike (plainly_named (with_literal use_in_main literal))
+shows = step_shows use_in_main literal refl is_translated no_groups (plainly_named (with_literal use_in_main literal))
 
 -- ---- in a group of variables
 

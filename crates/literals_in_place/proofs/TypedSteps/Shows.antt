@@ -11,7 +11,7 @@ use Rattle.literal_steps.specs.CalledAt.{CalledAt, PackagesServe}
 use Rattle.literal_steps.specs.RankedMarks.Free.{is_free, Translated, NoConstantGroups}
 use Rattle.literal_steps.specs.RankedMarks.Ranks.{marked_functions}
 use Rattle.meaning_in_place.specs.Runs.{ShowTheSame}
-use Rattle.literals_in_place.specs.StepsInBodies.Functions.{use_here, BlankAlike, ImportStaysUsed}
+use Rattle.literals_in_place.specs.StepsInBodies.Functions.{use_here, ImportStaysUsed}
 use Rattle.literals_in_place.specs.StepsInBodies.Once.{AllClear}
 use Rattle.literals_in_place.specs.TypedSteps.Uses.{UseInBody, with_literal}
 use Rattle.literals_in_place.proofs.StepsInBodies.Around as around
@@ -27,8 +27,8 @@ module _ (x : UseInBody Span) where
   pub stands_clear : AllClear x.same x.site (Unit {0}) (stmts_seen (body_place x.packages x.site.at.number x.site.at.of x.site.at.source.tree x.stands.function) x.stands.function.body)
   stands_clear = uses.clear_there x.same x.itself x.commented x.packages x.marks x.site x.becomes x.by_name x.members x.linked_so x.no_import x.stands (Unit {0}) tt
 
-  pub step_shows : (e : Expr Span) → x.becomes.form ≡ as_expr e → Translated x.packages x.marks x.members → NoConstantGroups x.packages x.marks → BlankAlike x.site.place.env x.becomes.tree e → ImportStaysUsed x.site x.by_name.called x.members (with_literal x e)
+  pub step_shows : (e : Expr Span) → x.becomes.form ≡ as_expr e → Translated x.packages x.marks x.members → NoConstantGroups x.packages x.marks → ImportStaysUsed x.site x.by_name.called x.members (with_literal x e)
       → ShowTheSame (is_free x.packages x.marks (paths_in x.members)) (length (marked_functions x.packages x.marks)) x.members (with_literal x e)
-  step_shows e q all plain blank stays =
+  step_shows e q all plain stays =
       around.step_shows x.same x.itself x.commented x.packages x.marks x.site x.becomes x.by_name x.members x.linked_so [] (called_beside called) serve e q
-      (uses.in_function x.same x.itself x.commented x.packages x.marks x.site x.becomes x.by_name x.members x.linked_so x.no_import x.stands e) blank stays all plain
+      (uses.in_function x.same x.itself x.commented x.packages x.marks x.site x.becomes x.by_name x.members x.linked_so x.no_import x.stands e) stays all plain

@@ -11,7 +11,7 @@ use Rattle.literal_steps.specs.CalledAt.{CalledAt, PackagesServe}
 use Rattle.literal_steps.specs.RankedMarks.Free.{is_free, Translated, NoConstantGroups}
 use Rattle.literal_steps.specs.RankedMarks.Ranks.{marked_functions}
 use Rattle.meaning_in_place.specs.Runs.{ShowTheSame}
-use Rattle.literals_in_place.specs.StepsInBodies.Functions.{use_here, BlankAlike, ImportStaysUsed}
+use Rattle.literals_in_place.specs.StepsInBodies.Functions.{use_here, ImportStaysUsed}
 use Rattle.literals_in_place.specs.StepsInBodies.Once.{AllClear}
 use Rattle.literals_in_place.specs.TypedSteps.Uses.{UseInBody, with_literal}
 
@@ -40,7 +40,6 @@ CallsStandClear =
 abbrev pub TypedStepsShowTheSame : Type 0
 TypedStepsShowTheSame =
     (x : UseInBody Span) (e : Expr Span) → x.becomes.form ≡ as_expr e → Translated x.packages x.marks x.members →
-    NoConstantGroups x.packages x.marks → BlankAlike x.site.place.env x.becomes.tree e →
-    ImportStaysUsed x.site x.by_name.called x.members (with_literal x e) →
+    NoConstantGroups x.packages x.marks → ImportStaysUsed x.site x.by_name.called x.members (with_literal x e) →
     ShowTheSame (is_free x.packages x.marks (paths_in x.members)) (length (marked_functions x.packages x.marks))
     x.members (with_literal x e)
