@@ -14,6 +14,7 @@ pub mod Shows
 pub mod Numbered
 pub mod Rises
 pub mod KeptImports
+pub mod OtherFiles
 pub mod KeptUses
 pub mod Members
 pub mod Absent

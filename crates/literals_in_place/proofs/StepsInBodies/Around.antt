@@ -63,7 +63,7 @@ module _ (same : Span → Span → Bool) (commented : ℕ → ℕ → Span → B
         clear = all_lower same x (λ t. leads_there) (stmts_seen (body_place rs x.at.number x.at.of x.at.source.tree r.function) r.function.body) r.clear;
       }
 
-module _ (same : Span → Span → Bool) (itself : (s : Span) → same s s ≡ true) (commented : ℕ → ℕ → Span → Bool) (rs : List (Package Span)) (marks : List MarkRef) (x : Site Span) (u : LiteralUse same commented rs marks x) (v : PlainCall same commented rs marks x u) (ms : List (translated.Package Span)) (l : Linked rs ms x same commented marks u) (names : Environment Entity) (h : CalledBeside rs ms x names (use_here ms x)) (y : PackagesServe rs ms x same commented marks u (use_here ms x)) (e : Expr Span) (q : u.form ≡ as_expr e) (r : StandsInFunction same rs x u.tree e Anywhere ms) (stays : ImportStaysUsed x v.called ms (with_form same rs x u.tree e Anywhere ms r)) where
+module _ (same : Span → Span → Bool) (itself : (s : Span) → same s s ≡ true) (commented : ℕ → ℕ → Span → Bool) (rs : List (Package Span)) (marks : List MarkRef) (x : Site Span) (u : LiteralUse same commented rs marks x) (v : PlainCall same commented rs marks x u) (ms : List (translated.Package Span)) (l : Linked rs ms x same commented marks u) (names : Environment Entity) (h : CalledBeside rs ms x names (use_here ms x)) (y : PackagesServe rs ms x same commented marks u (use_here ms x)) (e : Expr Span) (q : u.form ≡ as_expr e) (r : StandsInFunction same rs x u.tree e Anywhere ms) (stays : ImportStaysUsed x v.called (with_form same rs x u.tree e Anywhere ms r)) where
   pub imports_right : imports_ok (sources (with_form same rs x u.tree e Anywhere ms r)) ≡ true
   imports_right = right_after same itself commented rs marks x u v ms l names h y e q (around same commented rs marks x u v ms l e r) (blank_alike same commented rs marks x u v ms l names (use_here ms x) h y e q) stays
 

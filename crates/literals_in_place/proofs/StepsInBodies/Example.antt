@@ -55,7 +55,7 @@ is_dotted (selector s e n) = 1
 is_dotted e = 0
 
 -- the call names its function plainly
-stays : ImportStaysUsed use_of_add (ident (at 44) (codes "add")) packages (with_form same_span rs use_of_add adding literal Anywhere packages in_main_function)
+stays : ImportStaysUsed use_of_add (ident (at 44) (codes "add")) (with_form same_span rs use_of_add adding literal Anywhere packages in_main_function)
 stays s t q f e = absurd (grind (arith, ap is_dotted e))
 
 shows : ShowTheSame (is_free rs marks (paths_in packages)) 1 packages (with_form same_span rs use_of_add adding literal Anywhere packages in_main_function)

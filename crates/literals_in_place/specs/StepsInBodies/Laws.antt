@@ -116,7 +116,7 @@ ImportsStayUsed =
     Linked rs ms x same commented marks u → (names : Environment Entity) → CalledBeside rs ms x names (use_here ms x) →
     PackagesServe rs ms x same commented marks u (use_here ms x) → (e : Expr Span) → u.form ≡ as_expr e →
     (r : StandsInFunction same rs x u.tree e Anywhere ms) →
-    ImportStaysUsed x v.called ms (with_form same rs x u.tree e Anywhere ms r) →
+    ImportStaysUsed x v.called (with_form same rs x u.tree e Anywhere ms r) →
     imports_ok (sources (with_form same rs x u.tree e Anywhere ms r)) ≡ true
 
 -- So such a step leaves packages that show the same, beside all further packages.
@@ -129,7 +129,7 @@ StepsInBodiesShowTheSame =
     PackagesServe rs ms x same commented marks u (use_here ms x) → (e : Expr Span) → u.form ≡ as_expr e →
     Translated rs marks ms → NoConstantGroups rs marks →
     (r : StandsInFunction same rs x u.tree e Anywhere ms) →
-    ImportStaysUsed x v.called ms (with_form same rs x u.tree e Anywhere ms r) →
+    ImportStaysUsed x v.called (with_form same rs x u.tree e Anywhere ms r) →
     ShowTheSame (is_free rs marks (paths_in ms)) (length (marked_functions rs marks)) ms
     (with_form same rs x u.tree e Anywhere ms r)
 

@@ -2,8 +2,8 @@
 -- declarations; Function literals; Blank identifier).
 use Rattle.go_tree.specs.Tree.{Expr, composite, selector, index, slice, call, func_lit, unary, binary, star, Exprs}
 use Rattle.go_tree.specs.Tree.{no_exprs, expr_and, ExprOption, no_expr, some_expr, Elems, no_elems, elem, Value, plain}
-use Rattle.go_tree.specs.Tree.{braced, ValueOption, no_value, some_value, Stmt, const_decl, var_decl, eval, step, assign}
-use Rattle.go_tree.specs.Tree.{define, return_, inner, if_, for_, range_, switch, defer, label, Stmts, no_stmts}
+use Rattle.go_tree.specs.Tree.{braced, ValueOption, no_value, some_value, Stmt, const_decl, var_decl, eval, step}
+use Rattle.go_tree.specs.Tree.{assign, define, return_, inner, if_, for_, range_, switch, defer, label, Stmts, no_stmts}
 use Rattle.go_tree.specs.Tree.{stmt_and, StmtOption, no_stmt, some_stmt, BlockOption, no_block, some_block, RangeLeft}
 use Rattle.go_tree.specs.Tree.{assigns, Arms, no_arms, arm, Cases, no_cases, case, ValueSpecs, no_specs, spec}
 
