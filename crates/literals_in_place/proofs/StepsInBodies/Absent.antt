@@ -9,7 +9,7 @@ use Rattle.go_tree.specs.GoTypes.Types.{GoType, FuncType}
 use Rattle.go_tree.specs.GoTypes.Defined.{Defined}
 use Rattle.go_tree.specs.GoTypes.Entities.{Entity, variable, refused, Env, Binds, meaning, defined_in, extend, is_declared_here}
 use Rattle.go_tree.specs.GoTypes.TypeNames.{func_type, written_type}
-use Rattle.go_tree.specs.GoTypes.Operands.{Operand, Typed, all_typed, with_value}
+use Rattle.go_tree.specs.GoTypes.Operands.{Operand, Typed, typed, all_typed}
 use Rattle.go_tree.specs.GoTypes.Declarations.{Declared, no_names, bound_names, bind_all, bind_each, constant_entity, variable_entity, constants_declared, variables_declared, some_declared, new_constants, new_variables, new_by_define, names_once, may_declare, defined_by, assigns_to, binds_or, binds_of, and_then, unused_after, Repeated, nothing_to_repeat}
 use Rattle.go_tree.specs.GoTypes.Bodies.{param_binding, param_binds, body_binds, no_values}
 use Rattle.go_tree.specs.GoTypes.Statements.{right_values, range_types, range_binds, new_by_range}
@@ -186,7 +186,7 @@ module _ (n : List ℕ) (blank : is_blank n ≡ true) where
     clause_unbound (defines ns) a o d e =
         let r = from_given o (new_by_range a (names_of ns)) d e in
         let by : (Typed → Option Binds) = (λ v. given (range_types (defined_in a) v) (range_binds (defined_in a) (names_of ns))) in
-        let k = from_given (Rattle.go_tree.specs.GoTypes.Operands.typed r.0) (λ v. only_if (names_once (names_of ns)) (some_declared (by v))) d r.2 in
+        let k = from_given (typed r.0) (λ v. only_if (names_once (names_of ns)) (some_declared (by v))) d r.2 in
         let m = from_given (range_types (defined_in a) k.0) (range_binds (defined_in a) (names_of ns)) d.binds (declared_as_some (by k.0) d (from_only (names_once (names_of ns)) (some_declared (by k.0)) d k.2)) in
         ranged_unbound (defined_in a) (names_of ns) m.0 d.binds m.2
 

@@ -2,11 +2,10 @@
 use Rattle.std.proofs.Common.{◌≡◌, refl, sym, ap, ◌∙◌, subst, ℕ, Bool, true, false, ◌||◌, List, [], ◌∷◌, ◌++◌, Option, Some, None, arith}
 use Rattle.go_tree.specs.declared.exprs.Rest.TheVariants.{Plain}
 use Rattle.go_tree.specs.declared.spans.Span.{Span}
-use Rattle.go_tree.specs.Bare.{bare_expr}
 use Rattle.go_tree.specs.ScopeNames.FreeNames.{names_of, sig_names}
 use Rattle.go_tree.specs.ScopeNames.Means.{Environment, is_blank}
 use Rattle.go_tree.specs.ScopeNames.Scopes.{not_blank, param_names, sig_declares}
-use Rattle.go_tree.specs.Tree.{Expr, call, const_decl, func_lit}
+use Rattle.go_tree.specs.Tree.{Expr, call, const_decl}
 use Rattle.go_tree.specs.GoTypes.Answers.{given, meets, otherwise, is_among}
 use Rattle.go_tree.specs.GoTypes.Bodies.{Ctx, body_binds, body_ctx, is_body}
 use Rattle.go_tree.specs.GoTypes.Collect.{env_of}

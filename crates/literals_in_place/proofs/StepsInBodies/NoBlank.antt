@@ -10,11 +10,11 @@ use Rattle.go_tree.specs.GoTypes.Types.{GoType, pointer_to, slice_of, map_of, st
 use Rattle.go_tree.specs.GoTypes.Defined.{under, has_keys}
 use Rattle.go_tree.specs.GoTypes.Entities.{Entity, Env, Binds, meaning, package_of, type_of_name, exported, defined_in, extend, in_block}
 use Rattle.go_tree.specs.GoTypes.TypeNames.{field_before, resolved, resolved_fields, type_meant, params_meant, func_type, written_type}
-use Rattle.go_tree.specs.GoTypes.Operands.{Operand, Typed, typed, with_value, named_operand, a_function, takes_all, spread}
+use Rattle.go_tree.specs.GoTypes.Operands.{Operand, a_type, Typed, typed, with_value, named_operand, a_function, takes_all, spread}
 use Rattle.go_tree.specs.GoTypes.Operators.{unary_of, binary_of, star_of}
 use Rattle.go_tree.specs.GoTypes.Primary.{selected, index_of, sliced, call_of, stands_alone, may_be_deferred}
 use Rattle.go_tree.specs.GoTypes.Literals.{Element, is_struct, field_key, built, built_inside, key_type, inner_type, literal_type, of_field, keyed}
-use Rattle.go_tree.specs.GoTypes.Declarations.{Declared, new_variables, new_by_define, binds_or, binds_of, bound_names, beyond, and_then, unused_after, all_used}
+use Rattle.go_tree.specs.GoTypes.Declarations.{Declared, new_variables, new_by_define, binds_or, binds_of, bound_names, may_declare, and_then, unused_after, all_used}
 use Rattle.go_tree.specs.GoTypes.Bodies.{Ctx, in_loop, in_switch, body_binds, body_ctx, no_values, literal_env, is_body, labelled, returns}
 use Rattle.go_tree.specs.GoTypes.Jumps.{breaks, labels_in}
 use Rattle.go_tree.specs.GoTypes.Statements.{Target, blank, target_at, stores_all, updates, step_op, one_more, right_values, package_before, is_blank_name, is_panic, is_empty_stmt, range_assigns, has_last, Clauses, assigned_values}
@@ -96,7 +96,7 @@ module _ (n : List ℕ) (is_blank_so : is_blank n ≡ true) where
 
     -- the type of a spec of variables that is typed
     spec_type : (a : Env) (ns : List (List ℕ)) (t : Option (Option GoType)) (zeros : Bool) (vs : Option (List Typed)) (d : Declared) → new_variables a ns t zeros vs ≡ Some d → (u : Option GoType) × (t ≡ Some u)
-    spec_type a ns None zeros vs d e = absurd (grind (arith, none_made (Rattle.go_tree.specs.GoTypes.Declarations.may_declare a ns) e))
+    spec_type a ns None zeros vs d e = absurd (grind (arith, none_made (may_declare a ns) e))
       where
         none_made : (b : Bool) → only_if b None ≡ Some d → false ≡ true
         none_made true q = absurd (grind (arith, q))
@@ -162,7 +162,7 @@ module _ (n : List ℕ) (is_blank_so : is_blank n ≡ true) where
           let begins : stmts (body_ctx g r.0) (literal_env a g) false y ≡ Some m.0 =
           ap (λ (o : Option FuncType). stmts (body_ctx g r.0) (extend (binds_or (sig_names g) (given o (body_binds [] g))) (in_block a)) false y) r.1 ∙ ap (λ (o : Option Binds). stmts (body_ctx g r.0) (extend (binds_or (sig_names g) o) (in_block a)) false y) h.1 ∙ m.1 in
           absent_both (heads_absent a k g r.0 r.1) (absent_without (sig_names g) (stmts_absent (body_ctx g r.0) (literal_env a g) (behind (literal_binds a g) (in_block a) (after_heads n is_blank_so a g) k) false y c m.0 begins))
-      expr_absent a k (type_operand z t) c o e = let r = from_given (type_meant a t) (λ u. Some (Rattle.go_tree.specs.GoTypes.Operands.a_type u)) o e in meant_absent a k t r.0 r.1
+      expr_absent a k (type_operand z t) c o e = let r = from_given (type_meant a t) (λ u. Some (a_type u)) o e in meant_absent a k t r.0 r.1
       expr_absent a k (unary z op d) c o e = let r = from_given (parts a d) (unary_of (defined_in a) op (place a d)) o e in expr_absent a k d c r.0 r.1
       expr_absent a k (binary z op d j) c o e =
           let r = from_both (parts a d) (parts a j) (binary_of (defined_in a) op) o e in

@@ -1,10 +1,10 @@
 -- What is written at a use for a body that declares no constants declares none: one line a kind of part.
-use Rattle.std.proofs.Common.{◌≡◌, refl, sym, ap, ◌∙◌, subst, ℕ, suc, ◌+◌, Bool, true, false, List, [], ◌∷◌, ◌++◌, Option, Some, None, if◌then◌else◌, arith}
+use Rattle.std.proofs.Common.{◌≡◌, sym, ap, ◌∙◌, subst, ℕ, suc, ◌+◌, Bool, true, false, List, [], ◌∷◌, ◌++◌, Option, Some, None, if◌then◌else◌, arith}
 use Rattle.std.specs.Prelude.{is_some}
-use Rattle.go_tree.specs.Tree.{NameAt, Param, Sig, TypeExpr, Expr, ident, int_lit, rune_lit, str_lit, composite, selector, index, slice, call, func_lit, type_operand, unary, binary, star, Exprs, no_exprs, expr_and, ExprOption, no_expr, some_expr, Elems, no_elems, elem, Value, plain, braced, ValueOption, no_value, some_value, Stmt, const_decl, var_decl, empty, eval, step, assign, define, return_, break_, continue_, inner, if_, for_, range_, switch, defer, label, Stmts, no_stmts, stmt_and, StmtOption, no_stmt, some_stmt, BlockOption, no_block, some_block, RangeLeft, nothing, assigns, defines, Arms, no_arms, arm, Cases, no_cases, case, ValueSpecs, no_specs, spec}
+use Rattle.go_tree.specs.Tree.{NameAt, TypeExpr, Expr, ident, int_lit, rune_lit, str_lit, composite, selector, index, slice, call, func_lit, type_operand, unary, binary, star, Exprs, no_exprs, expr_and, ExprOption, no_expr, some_expr, Elems, no_elems, elem, Value, plain, braced, ValueOption, no_value, some_value, Stmt, const_decl, var_decl, empty, eval, step, assign, define, return_, break_, continue_, inner, if_, for_, range_, switch, defer, label, Stmts, no_stmts, stmt_and, StmtOption, no_stmt, some_stmt, BlockOption, no_block, some_block, RangeLeft, nothing, assigns, defines, Arms, no_arms, arm, Cases, no_cases, case, ValueSpecs, no_specs, spec}
 use Rattle.go_tree.specs.GoWords.Terminals.{level_of}
 use Rattle.go_tree.specs.ScopeNames.Means.{Environment}
-use Rattle.go_tree.specs.GoTypes.Answers.{given, both, otherwise}
+use Rattle.go_tree.specs.GoTypes.Answers.{given, otherwise}
 use Rattle.go_tree.specs.GoTypes.Types.{GoType}
 use Rattle.go_tree.specs.GoTypes.Defined.{under}
 use Rattle.go_tree.specs.GoTypes.Entities.{Entity, World, defined_in}
@@ -12,12 +12,13 @@ use Rattle.go_tree.specs.GoTypes.TypeNames.{type_meant}
 use Rattle.go_tree.specs.GoTypes.Operands.{Operand}
 use Rattle.go_tree.specs.GoTypes.Literals.{Element, is_struct, field_key, built_inside, key_type, inner_type, literal_type, of_field, keyed}
 use Rattle.go_tree.specs.GoTypes.Bodies.{labelled}
+use Rattle.go_tree.specs.GoTypes.Declarations.{nothing_to_repeat}
 use Rattle.go_tree.specs.GoTypes.Typing.{parts, all_parts, elements, element, with_key}
 use Rattle.go_tree.proofs.GoTypes.Agreeing.{from_given, from_both}
 use Rattle.pkg_graph.specs.Package.{Package}
 use Rattle.run_rules.specs.FormTrees.{a_name}
 use Rattle.run_rules.specs.Naming.{Names, member_qualifier}
-use Rattle.run_rules.specs.Places.{type_seen, written_seen, params_seen, sig_seen, old_seen, after_arms, expr_seen, all_seen, option_seen, elems_seen, key_seen, value_seen, stmt_seen, stmts_seen, first_seen, block_seen, left_seen, arms_seen, cases_seen, variables_seen}
+use Rattle.run_rules.specs.Places.{type_seen, written_seen, sig_seen, constants_seen, old_seen, after_arms, expr_seen, all_seen, option_seen, elems_seen, key_seen, value_seen, stmt_seen, stmts_seen, first_seen, block_seen, left_seen, arms_seen, cases_seen, variables_seen}
 use Rattle.run_rules.specs.Respanned.{value_with}
 use Rattle.run_rules.specs.Rewriting.{Changes, new_expr, new_all, new_option, new_elems, new_key, new_value, new_stmt, new_stmts, new_first, new_block, new_left, new_arms, new_cases, new_variables}
 use Rattle.run_rules.specs.Sites.{Where, qualifier}
@@ -160,7 +161,7 @@ module _ {S : Type 0} (ps : List (Package S)) (home there : Where S) (at : Place
 
     stmt_none : (p : Place S) (l : Bool) (s : Stmt S) → Goes (stmt_seen p l s) (NoneInStmt (new_stmt c p l s))
     stmt_none p l (const_decl s g ss) =
-        let xs : List (Seen S) = Rattle.run_rules.specs.Places.constants_seen (plain_slot p) Rattle.go_tree.specs.GoTypes.Declarations.nothing_to_repeat 0 ss in
+        let xs : List (Seen S) = constants_seen (plain_slot p) nothing_to_repeat 0 ss in
         record { run = λ a k. absurd (apart xs (seen_stmt p (const_decl s g ss) ∷ []) a).1.0 }
     stmt_none p l (var_decl s g ss) = fore (seen_stmt p (var_decl s g ss) ∷ []) (specs_none (plain_slot p) ss)
     stmt_none p l (empty s) = plainly tt
