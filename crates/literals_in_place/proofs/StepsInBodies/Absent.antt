@@ -125,6 +125,9 @@ module _ (n : List ℕ) (blank : is_blank n ≡ true) where
   of_unbound ns None f = each_unbound refused ns
   of_unbound ns (Some d) f = f d refl
 
+  nothing_unbound : (d : Declared) → Some no_names ≡ Some d → Unbound d.binds
+  nothing_unbound d e = subst Unbound (binds_same no_names d e) absent_none
+
   module _ {S : Type 0} where
     group_unbound : (a : Env) (r : Repeated) (j : ℕ) (ss : ValueSpecs S) (d : Declared) → declares_constants a r j ss ≡ Some d → Unbound d.binds
     group_unbound a r j no_specs d e = subst Unbound (binds_same no_names d e) absent_none
@@ -147,9 +150,6 @@ module _ (n : List ℕ) (blank : is_blank n ≡ true) where
         let q = from_given (declares_variables (extend (p.0).binds a) ss) (λ y. Some (k p.0 y)) d p.2 in
         subst Unbound (binds_same (k p.0 q.0) d q.2)
         (both_unbound (q.0).binds (p.0).binds (specs_unbound (extend (p.0).binds a) ss q.0 q.1) (variables_unbound a (names_of ns) (written_type a t) (no_values es) vs p.0 p.1))
-
-    nothing_unbound : (d : Declared) → Some no_names ≡ Some d → Unbound d.binds
-    nothing_unbound d e = subst Unbound (binds_same no_names d e) absent_none
 
     stmt_unbound : (s : Stmt S) (a : Env) (d : Declared) → declares a s ≡ Some d → Unbound d.binds
     stmt_unbound (const_decl _ _ ss) a d e = group_unbound a nothing_to_repeat 0 ss d e

@@ -54,6 +54,15 @@ module _ (n : List ℕ) (is_blank_so : is_blank n ≡ true) where
   known_operand a None v e = absurd (grind (arith, e))
   known_operand a (Some d) v e = refl
 
+  -- the type of a spec of variables that is typed
+  spec_type : (a : Env) (ns : List (List ℕ)) (t : Option (Option GoType)) (zeros : Bool) (vs : Option (List Typed)) (d : Declared) → new_variables a ns t zeros vs ≡ Some d → (u : Option GoType) × (t ≡ Some u)
+  spec_type a ns None zeros vs d e = absurd (grind (arith, none_made (may_declare a ns) e))
+    where
+      none_made : (b : Bool) → only_if b None ≡ Some d → false ≡ true
+      none_made true q = absurd (grind (arith, q))
+      none_made false q = absurd (grind (arith, q))
+  spec_type a ns (Some u) zeros vs d e = (u, refl)
+
   module _ {S : Type 0} where
     -- ---- types
 
@@ -93,15 +102,6 @@ module _ (n : List ℕ) (is_blank_so : is_blank n ≡ true) where
     heads_absent a k g f e =
         let r = from_both (params_meant a g.params) (params_meant a g.results) (λ ts us. Some (record { params = ts; results = us })) f e in
         absent_both (params_absent a k g.params r.0 r.2) (params_absent a k g.results r.1 r.3)
-
-    -- the type of a spec of variables that is typed
-    spec_type : (a : Env) (ns : List (List ℕ)) (t : Option (Option GoType)) (zeros : Bool) (vs : Option (List Typed)) (d : Declared) → new_variables a ns t zeros vs ≡ Some d → (u : Option GoType) × (t ≡ Some u)
-    spec_type a ns None zeros vs d e = absurd (grind (arith, none_made (may_declare a ns) e))
-      where
-        none_made : (b : Bool) → only_if b None ≡ Some d → false ≡ true
-        none_made true q = absurd (grind (arith, q))
-        none_made false q = absurd (grind (arith, q))
-    spec_type a ns (Some u) zeros vs d e = (u, refl)
 
     -- ---- parts by themselves
 
