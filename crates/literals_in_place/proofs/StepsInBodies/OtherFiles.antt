@@ -16,6 +16,13 @@ use Rattle.constant_steps.specs.StepLaws.DeclStands.{decl_changed, file_changed}
 use Rattle.constant_steps.specs.StepLaws.SwapPrograms.{headed_there}
 use Rattle.literals_in_place.proofs.StepsInBodies.KeptImports.{decls_names, files_names}
 
+never : (b c : Bool) → (b && (false && c)) ≡ false
+never true c = refl
+never false c = refl
+
+elsewhere : (home file number k : ℕ) → nat_eq k file ≡ false → (c : Bool) → (nat_eq number home && (nat_eq k file && c)) ≡ false
+elsewhere home file number k e c = ap (λ (b : Bool). nat_eq number home && (b && c)) e ∙ never (nat_eq number home) c
+
 module _ {S : Type 0} (w : World) (home file : ℕ) (n : List ℕ) where
   -- a header of the file uses the name
   abbrev Used : List (Headed S) → Bool
@@ -24,18 +31,11 @@ module _ {S : Type 0} (w : World) (home file : ℕ) (n : List ℕ) where
   split : (hs ks : List (Headed S)) → Used (hs ++ ks) ≡ (Used hs || Used ks)
   split hs ks = list_any-append (λ (h : Headed S). nat_eq h.home home && (nat_eq h.file file && is_among n (header_uses w h))) hs ks
 
-  never : (b c : Bool) → (b && (false && c)) ≡ false
-  never true c = refl
-  never false c = refl
-
-  elsewhere : (number k : ℕ) → nat_eq k file ≡ false → (c : Bool) → (nat_eq number home && (nat_eq k file && c)) ≡ false
-  elsewhere number k e c = ap (λ (b : Bool). nat_eq number home && (b && c)) e ∙ never (nat_eq number home) c
-
   -- another file is no matter
   silent : (number : ℕ) (in_main : Bool) (k : ℕ) → nat_eq k file ≡ false → (is : Environment Entity) (before : List (List ℕ)) (hs : List (S × Header S)) → Used (headed_file number in_main k is before hs) ≡ false
   silent number in_main k e is before [] = refl
   silent number in_main k e is before (h ∷ hs) =
-      λ i. elsewhere number k e (is_among n (header_uses w (headed_there number in_main k is h.0 (header_sound before h.1) h.1))) i || silent number in_main k e is (header_names h.1 ++ before) hs i
+      λ i. elsewhere home file number k e (is_among n (header_uses w (headed_there number in_main k is h.0 (header_sound before h.1) h.1))) i || silent number in_main k e is (header_names h.1 ++ before) hs i
 
   module _ (change : Decl S → Decl S) (f g : Func S) (becomes : change (func f) ≡ func g) (names : header_names (a_func f) ≡ header_names (a_func g)) where
     files_stay : (number : ℕ) (in_main : Bool) (members : List (List ℕ)) (i m k d : ℕ) → k ≡ i + m → nat_eq k file ≡ false → (before : List (List ℕ)) (source : SourceFile S) → slice_get source.decls d ≡ Some (func f)
