@@ -1,3 +1,4 @@
+use Rattle.std.specs.Prelude.{false}
 use Rattle.literals_in_place.proofs.StepsInBodies.BlankUses.{blank_alike}
 use Rattle.literals_in_place.proofs.StepsInBodies.NoBlank.{expr_absent, stmts_absent}
 use Rattle.literals_in_place.proofs.steps_in_bodies.typed_parts_use_no_blank.Goals as goal
