@@ -16,8 +16,8 @@ ghost use Rattle.func_types.specs.Answers.{AreTypesOf, GivesFunc, GivesTypes, wi
 
 use go_tree::{ParamList, Sig};
 use std::alloc::Global;
-use type_table::TypeIdList;
 use type_flags::TypeFlags;
+use type_table::TypeIdList;
 use type_table::operand_rules::Refusal;
 use type_table::type_relations::{Env, FuncType};
 use typed_names::type_exprs::type_meant;

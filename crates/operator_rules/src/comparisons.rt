@@ -20,8 +20,8 @@ use crate::truths::truth_value;
 use go_tree::BinOp;
 use go_tree::const_eval::Kind;
 use std::alloc::Global;
-use type_table::TypeId;
 use type_flags::TypeFlags;
+use type_table::TypeId;
 use type_table::operand_rules::{
     ConstTable, Content, Refusal, Value, ValueType, common_type, fits, has_nil,
 };

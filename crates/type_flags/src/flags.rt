@@ -9,10 +9,10 @@ ghost use Rattle.type_flags.specs.Comparable.{AreComparable};
 ghost use Rattle.type_flags.specs.Flags.{ClosedFlags, SoundFlags, flag_at, missing, row_flag, under_flag};
 
 use crate::order::set_in_order;
-use type_table::type_relations::Env;
-use type_table::{Field, TypeId, TypeNode};
 use go_tree::NoMemory;
 use std::alloc::Global;
+use type_table::type_relations::Env;
+use type_table::{Field, TypeId, TypeNode};
 
 /// For each type of the table, by its number, whether it is comparable.
 pub fn comparable_types(alloc: Global, env: &Env) -> Result<Vec<bool>, NoMemory>

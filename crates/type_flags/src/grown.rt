@@ -9,10 +9,10 @@ ghost use Rattle.type_flags.specs.Grown.{AreFlags, AreFlagsSoFar, DefinedBelow, 
 
 use crate::flags::{comparable_types, flag};
 use crate::keys::{all_keyed, keyed_types, row_keyed};
-use type_table::type_relations::Env;
-use type_table::{TypeId, TypeNode};
 use go_tree::NoMemory;
 use std::alloc::Global;
+use type_table::type_relations::Env;
+use type_table::{TypeId, TypeNode};
 
 /// Which types are comparable, and in which each map has a comparable key type, by their numbers.
 #[derive(Drop)]

@@ -8,10 +8,10 @@ ghost use Rattle.type_flags.specs.Flags.{flag_at};
 ghost use Rattle.type_flags.specs.Keys.{AreKeyed, keys_option};
 
 use crate::flags::flag;
-use type_table::type_relations::Env;
-use type_table::{Field, TypeId, TypeNode};
 use go_tree::NoMemory;
 use std::alloc::Global;
+use type_table::type_relations::Env;
+use type_table::{Field, TypeId, TypeNode};
 
 /// For each type of the table, by its number, whether the key type of each map in it is comparable.
 /// A defined type is asked where it is declared.

@@ -6,10 +6,10 @@ ghost use Rattle.type_table.specs.TypeRelations.Environment.{IsEnvironment};
 ghost use Rattle.type_flags.specs.Flags.{SoundFlags};
 
 use crate::flags::set_flag;
-use type_table::type_relations::Env;
-use type_table::{TypeId, TypeNode};
 use go_tree::NoMemory;
 use std::alloc::Global;
+use type_table::type_relations::Env;
+use type_table::{TypeId, TypeNode};
 
 /// A step of the walk: into a type, or out of it after those that it holds.
 #[derive(Clone, Copy, Drop)]

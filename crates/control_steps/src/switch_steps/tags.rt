@@ -18,8 +18,8 @@ ghost use Rattle.control_steps.specs.SwitchSteps.Tags.{as_operand};
 use go_tree::const_eval::{Const, Kind};
 use operand_modes::checker_tables::Tables;
 use operator_rules::settled;
-use type_table::TypeId;
 use type_flags::TypeFlags;
+use type_table::TypeId;
 use type_table::operand_rules::{Content, Refusal, Value, ValueType, folded, has_nil};
 use type_table::type_relations::Env;
 

@@ -50,9 +50,9 @@ fn program_tables(alloc: Global, packages: &[Package], good: &[MarkRef]) -> Resu
 }
 
 /// The program of a module that is read, with this table of the types that it declares, in which the declarations are
-/// marked whose full names begin with `only`; nothing where some mark of the module isn't one of a constant. `bytes` are those of `go.mod` and of all texts. Each
-/// file is as it was read: none is settled, and each part comes from where it stands. Each package may be searched. An
-/// error where memory is refused, or where a file has 2^32 names.
+/// marked whose full names begin with `only`; nothing where some mark of the module isn't one of a constant. `bytes` are
+/// those of `go.mod` and of all texts. Each file is as it was read: none is settled, and each part comes from where it
+/// stands. Each package may be searched. An error where memory is refused, or where a file has 2^32 names.
 ///
 /// One step for each declaration, import and name of a package block, and one look-up for each mark, constant and file;
 /// the texts are copied (Go specification, Packages; Constant declarations; golang.org/x/tools, analyzer inline).

@@ -21,8 +21,8 @@ use crate::type_exprs::exprs::resolved;
 use crate::{Blocks, Scope};
 use go_tree::TypeExpr;
 use std::alloc::Global;
-use type_table::TypeId;
 use type_flags::TypeFlags;
+use type_table::TypeId;
 use type_table::operand_rules::Refusal;
 use type_table::type_relations::Env;
 
