@@ -3,3 +3,5 @@
 
 #[cfg(test)]
 mod literals;
+#[cfg(test)]
+mod qualified;

@@ -11,9 +11,9 @@ use std::alloc::Global;
 use std::test::Fail;
 
 /// Where the forms stand.
-const PLACE: Span = Span { start: 7, end: 9 };
+pub(crate) const PLACE: Span = Span { start: 7, end: 9 };
 
-fn source(alloc: Global, text: &str) -> Result<Box<Source>, Fail> {
+pub(crate) fn source(alloc: Global, text: &str) -> Result<Box<Source>, Fail> {
     let text = text.as_bytes();
     if text.len() > MAX_FILE_BYTES as usize {
         return Err(Fail::new("a text that is too long"));
@@ -24,22 +24,22 @@ fn source(alloc: Global, text: &str) -> Result<Box<Source>, Fail> {
     }
 }
 
-fn only_function(file: &FileTree) -> Result<&FuncDecl, Fail> {
+pub(crate) fn only_function(file: &FileTree) -> Result<&FuncDecl, Fail> {
     match file.decls.items() {
         [Decl::Func(function)] => Ok(function),
         _ => Err(Fail::new("other than one function")),
     }
 }
 
-fn name_of(alloc: Global, word: &str) -> Result<Name, Fail> {
+pub(crate) fn name_of(alloc: Global, word: &str) -> Result<Name, Fail> {
     Ok(Name::of(word.as_bytes().to_vec(alloc)?))
 }
 
-fn name_expr(alloc: Global, word: &str) -> Result<Box<Expr>, Fail> {
+pub(crate) fn name_expr(alloc: Global, word: &str) -> Result<Box<Expr>, Fail> {
     Ok(Box::new(alloc, ident_expr(PLACE, name_of(alloc, word)?))?)
 }
 
-fn one_argument(alloc: Global, e: Box<Expr>) -> Result<ExprList, Fail> {
+pub(crate) fn one_argument(alloc: Global, e: Box<Expr>) -> Result<ExprList, Fail> {
     let mut list = Vec::new(alloc);
     list.push(Box::into_inner(e))?;
     Ok(ExprList::of(list))
