@@ -17,6 +17,14 @@ named_obstacle o None = None
 named_obstacle o (Some n) = Some (o n.now)
 
 module _ (u : CallUse) where
+  -- a name isn't exported
+  abbrev pub hidden_told : Option Obstacle
+  hidden_told = named_obstacle NotAccessible u.hidden
+
+  -- a name means something else at the use
+  abbrev pub shadowed_told : Option Obstacle
+  shadowed_told = named_obstacle Shadowed u.shadowed
+
   -- the path of a package that the package of the use may not import
   abbrev pub refused_path : ℕ → Option (List ℕ)
   refused_path q =
@@ -36,6 +44,4 @@ module _ (u : CallUse) where
 
   -- the first obstacle
   abbrev pub obstacle_told : Option Obstacle
-  obstacle_told =
-      one_of (named_obstacle NotAccessible u.hidden)
-      (one_of internal_told (one_of (named_obstacle Shadowed u.shadowed) spoiled_told))
+  obstacle_told = one_of hidden_told (one_of internal_told (one_of shadowed_told spoiled_told))

@@ -7,13 +7,14 @@ ghost use Rattle.constant_forms.specs.Views.{obstacle_of};
 ghost use Rattle.run_rules.specs.Calls.{Call};
 ghost use Rattle.run_rules.specs.FormTrees.{FormKind};
 ghost use Rattle.run_rules.specs.ImportRules.Laid.{CommentsAscend};
-ghost use Rattle.run_rules.specs.Obstacles.{NotAccessible, Shadowed, first_answer};
+ghost use Rattle.run_rules.specs.Obstacles.{first_answer};
 ghost use Rattle.run_rules.specs.Reduced.{call_obstacle};
 ghost use Rattle.run_rules.specs.Run.{Standing, is_commented};
 ghost use Rattle.run_rules.specs.Sites.{MarkRef, Site};
 ghost use Rattle.run_rules.specs.Steps.{At, same_here};
 ghost use Rattle.call_obstacles.specs.Calls.{IsToldUse};
-ghost use Rattle.call_obstacles.specs.Told.{internal_told, named_obstacle, obstacle_told, refused_path, spoiled_told};
+ghost use Rattle.call_obstacles.specs.Told.{hidden_told, internal_told, obstacle_told, refused_path};
+ghost use Rattle.call_obstacles.specs.Told.{shadowed_told, spoiled_told};
 
 use crate::uses::CallUse;
 use comments_within::comment_lies_in;
@@ -68,7 +69,7 @@ fn internal_package(alloc: Global, use_: &CallUse) -> Result<Option<Obstacle>, N
 }
 
 fn not_accessible(alloc: Global, use_: &CallUse) -> Result<Option<Obstacle>, NoMemory>
-    ensures { IfOk result (λ o. option_map obstacle_of o ≡ named_obstacle NotAccessible use_.now.hidden) }
+    ensures { IfOk result (λ o. option_map obstacle_of o ≡ hidden_told use_.now) }
 {
     match use_.hidden {
         None => Ok(None),
@@ -80,7 +81,7 @@ fn not_accessible(alloc: Global, use_: &CallUse) -> Result<Option<Obstacle>, NoM
 }
 
 fn shadowed(alloc: Global, use_: &CallUse) -> Result<Option<Obstacle>, NoMemory>
-    ensures { IfOk result (λ o. option_map obstacle_of o ≡ named_obstacle Shadowed use_.now.shadowed) }
+    ensures { IfOk result (λ o. option_map obstacle_of o ≡ shadowed_told use_.now) }
 {
     match use_.shadowed {
         None => Ok(None),

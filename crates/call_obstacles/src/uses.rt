@@ -14,8 +14,8 @@ pub struct CallUse<'a> {
     pub hidden: Option<&'a Name>,
     /// The packages that the form needs, by their numbers, in the order of its text.
     pub needed: &'a [usize],
-    /// The first name that the form takes from the function as it stands there and that means something else at the call
-    /// (Go specification, Declarations and scope).
+    /// The first name that the form takes from the function as it stands there, and that means something else at the
+    /// call (Go specification, Declarations and scope).
     pub shadowed: Option<&'a Name>,
     /// Whether the function leads back to itself over marked functions.
     pub recursive: bool,

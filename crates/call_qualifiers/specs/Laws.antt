@@ -24,7 +24,7 @@ FunctionsAreTold =
 -- Of an alias it is told of the names in its type, as `alias_type` and `alias_expr` ask.
 abbrev pub AliasesAreTold : Type 0
 AliasesAreTold =
-    (told : Span → Option (List ℕ)) (ps : List (Package At)) (w : Where At) (there : ℕ) (names : Names) (s : At) (g : Bool)
-    (ts : List (TypeSpec At)) (i : ℕ) (x : TypeSpec At) → slice_get ts i ≡ Some x
+    (told : Span → Option (List ℕ)) (ps : List (Package At)) (w : Where At) (there : ℕ) (names : Names) (s : At)
+    (g : Bool) (ts : List (TypeSpec At)) (i : ℕ) (x : TypeSpec At) → slice_get ts i ≡ Some x
     → AllTold here_of told ps w there names (decl_seen ps w.number w.of w.source.tree (types s g ts))
     → TypesTold here_of told ps w there names (top_place ps w.number w.of w.source.tree) (named_in x.of)

@@ -65,11 +65,11 @@ fn put_uses(
     Ok(())
 }
 
-/// The names of packages before the names of a declaration, where it is written in the package `there`, in which packages
-/// have these names by their numbers: before a member of the declaration's own package, where that is another one, and
-/// before what an import of its file names (Go specification, Qualified identifiers). Before names that are declared in
-/// the declaration, predeclared names, fields and keys that name fields nothing stands. An error where memory is
-/// refused.
+/// The names of packages before the names of a declaration, where it is written in the package `there`, in which
+/// packages have these names by their numbers: before a member of the declaration's own package, where that is another
+/// one, and before what an import of its file names (Go specification, Qualified identifiers). Nothing stands before
+/// names that are declared in the declaration, predeclared names, fields and keys that name fields. An error where
+/// memory is refused.
 ///
 /// Linear in the declaration, with three look-ups for each part that may be a use, and one for each literal.
 pub fn decl_qualifiers(

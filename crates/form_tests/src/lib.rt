@@ -4,4 +4,6 @@
 #[cfg(test)]
 mod literals;
 #[cfg(test)]
+mod obstacles;
+#[cfg(test)]
 mod qualified;

@@ -13,7 +13,8 @@ use scope_tables::{Scopes, scopes};
 use std::alloc::Global;
 use std::test::Fail;
 
-const FUNCTION: &str = "package old\n\nimport \"example.com/m/pow\"\n\nfunc Square(x int) int {\n\treturn pow.Pow(x, Two)\n}\n";
+const FUNCTION: &str =
+    "package old\n\nimport \"example.com/m/pow\"\n\nfunc Square(x int) int {\n\treturn pow.Pow(x, Two)\n}\n";
 
 /// The packages of the function, of its import and of the call.
 const HOME: usize = 0;
@@ -47,12 +48,7 @@ fn packages_there(alloc: Global) -> Result<Vec<Name>, Fail> {
     Ok(packages)
 }
 
-fn found(
-    alloc: Global,
-    scopes: &Scopes,
-    decl: &Decl,
-    there: usize,
-) -> Result<Qualifiers, Fail> {
+fn found(alloc: Global, scopes: &Scopes, decl: &Decl, there: usize) -> Result<Qualifiers, Fail> {
     let types = LiteralTypes::new(alloc);
     let imports = [IMPORTED];
     let scopes = TypeScopes {
