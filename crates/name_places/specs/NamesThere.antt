@@ -62,8 +62,8 @@ module _ {S : Type 0} where
     pub fields_in_value : Place S → Use → Value S → List S
     fields_in_value p u (plain e) = []
     fields_in_value p u (braced s es) =
-        fields_in_elems p (given (into_type u) (λ t. Some (under (defined_in p.env) (literal_type (defined_in p.env) t))))
-        0 es
+        fields_in_elems p
+        (given (into_type u) (λ t. Some (under (defined_in p.env) (literal_type (defined_in p.env) t)))) 0 es
 
   -- those in a part
   abbrev pub fields_in : Seen S → List S
