@@ -1,6 +1,6 @@
 -- What the code is told of a call says what keeps it.
-use Rattle.std.proofs.Common.{◌≡◌, ◌∙◌, ℕ, zero, suc, Bool, List, [], ◌∷◌, map, Option, Some, None, refl, sym, ap}
-use Rattle.std.specs.Prelude.{◌&&◌, if◌then◌else◌, slice_get}
+use Rattle.std.proofs.Common.{◌≡◌, ◌∙◌, ℕ, zero, suc, Bool, List, [], ◌∷◌, map, Option, Some, None, refl, ap}
+use Rattle.std.specs.Prelude.{if◌then◌else◌, slice_get}
 use Rattle.go_tree.specs.declared.spans.Span.{Span}
 use Rattle.go_tree.specs.GoTypes.Answers.{given, one_of}
 use Rattle.pkg_graph.specs.ModuleFiles.Internal.{may_import}
@@ -11,14 +11,14 @@ use Rattle.constant_forms.specs.Told.{path_at}
 use Rattle.run_rules.specs.Calls.{Call}
 use Rattle.run_rules.specs.FormTrees.{FormKind}
 use Rattle.run_rules.specs.Naming.{package_path}
-use Rattle.run_rules.specs.Obstacles.{Obstacle, Internal, Recursive, CommentInside, Spread, Repeated, first_answer, obstacle_if, refused_import}
+use Rattle.run_rules.specs.Obstacles.{Internal, Recursive, CommentInside, Spread, Repeated, first_answer, obstacle_if, refused_import}
 use Rattle.run_rules.specs.Reduced.{call_obstacle}
-use Rattle.run_rules.specs.Respanned.{package_with, packages_with}
+use Rattle.run_rules.specs.Respanned.{packages_with}
 use Rattle.run_rules.specs.Run.{Standing, here_of, is_commented}
 use Rattle.run_rules.specs.Sites.{MarkRef, Site}
 use Rattle.run_rules.specs.Steps.{At, same_here}
 use Rattle.call_obstacles.specs.Calls.{IsToldUse}
-use Rattle.call_obstacles.specs.Told.{refused_path, internal_told, obstacle_told}
+use Rattle.call_obstacles.specs.Told.{refused_path, obstacle_told}
 use Rattle.call_obstacles.specs.declared.uses.CallUse.{CallUse}
 
 -- ---- paths

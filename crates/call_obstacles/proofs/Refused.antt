@@ -4,18 +4,18 @@ use Rattle.go_tree.specs.GoTypes.Answers.{one_of}
 use Rattle.run_rules.specs.Obstacles.{first_answer}
 
 module _ {A B : Type 0} (f : A → Option B) where
-  next : (xs : List A) (i : ℕ) (x : A) → i < length xs → x ≡ get_or xs i x → first_answer f (drop i xs) ≡ one_of (f x) (first_answer f (drop (suc i) xs))
-  next xs i x h e = ap (first_answer f) (drop-cons xs i x h ∙ ap (λ (z : A). z ∷ drop (suc i) xs) (sym e))
+  next : (xs : List A) (i : ℕ) (z x : A) → i < length xs → x ≡ get_or xs i z → first_answer f (drop i xs) ≡ one_of (f x) (first_answer f (drop (suc i) xs))
+  next xs i z x h e = ap (first_answer f) (drop-cons xs i z h ∙ ap (λ (z : A). z ∷ drop (suc i) xs) (sym e))
 
   -- there is none for this one
-  pub none_here : (xs : List A) (i : ℕ) (x : A) (all : Option B) → i < length xs → x ≡ get_or xs i x → f x ≡ None → first_answer f (drop i xs) ≡ all → first_answer f (drop (i + 1) xs) ≡ all
-  none_here xs i x all h e n w =
+  pub none_here : (xs : List A) (i : ℕ) (z x : A) (all : Option B) → i < length xs → x ≡ get_or xs i z → f x ≡ None → first_answer f (drop i xs) ≡ all → first_answer f (drop (i + 1) xs) ≡ all
+  none_here xs i z x all h e n w =
       let on : i + 1 ≡ suc i = omega arith in
-      ap (λ (j : ℕ). first_answer f (drop j xs)) on ∙ sym (next xs i x h e ∙ ap (λ (o : Option B). one_of o (first_answer f (drop (suc i) xs))) n) ∙ w
+      ap (λ (j : ℕ). first_answer f (drop j xs)) on ∙ sym (next xs i z x h e ∙ ap (λ (o : Option B). one_of o (first_answer f (drop (suc i) xs))) n) ∙ w
 
   -- there is one for this one
-  pub one_here : (xs : List A) (i : ℕ) (x : A) (y : B) (all : Option B) → i < length xs → x ≡ get_or xs i x → f x ≡ Some y → first_answer f (drop i xs) ≡ all → Some y ≡ all
-  one_here xs i x y all h e n w = sym (next xs i x h e ∙ ap (λ (o : Option B). one_of o (first_answer f (drop (suc i) xs))) n) ∙ w
+  pub one_here : (xs : List A) (i : ℕ) (z x : A) (y : B) (all : Option B) → i < length xs → x ≡ get_or xs i z → f x ≡ Some y → first_answer f (drop i xs) ≡ all → Some y ≡ all
+  one_here xs i z x y all h e n w = sym (next xs i z x h e ∙ ap (λ (o : Option B). one_of o (first_answer f (drop (suc i) xs))) n) ∙ w
 
   none_left : (xs : List A) (i : ℕ) → length xs ≤ i → drop i xs ≡ []
   none_left [] zero h = refl

@@ -1,6 +1,6 @@
 -- A call of a marked function in a program as it stands, and what the code is told of it (Go specification, Calls;
 -- Exported identifiers; Declarations and scope; Constant declarations).
-use Rattle.std.specs.Prelude.{◌≡◌, ℕ, Bool, ◌&&◌, List, map, Some, slice_get}
+use Rattle.std.specs.Prelude.{◌≡◌, Bool, ◌&&◌, List, map, Some, slice_get}
 use Rattle.std.specs.List.{list_any}
 use Rattle.pkg_graph.specs.Views.{package_view}
 use Rattle.run_rules.specs.Calls.{Call, has_receiver, spread_call}
