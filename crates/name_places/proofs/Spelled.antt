@@ -1,5 +1,5 @@
 -- The names in what tokens spell stand in their order.
-use Rattle.std.proofs.Common.{◌≡◌, ◌≤◌, ◌<◌, ℕ, Bool, List, Option, Some, None, arith}
+use Rattle.std.proofs.Common.{ℕ, Bool, List, Option, arith}
 use Rattle.go_tree.specs.declared.spans.Span.{Span}
 use Rattle.go_tree.specs.declared.exprs.Rest.{Rest}
 use Rattle.go_tree.specs.Tree.{NameAt, TypeExpr, Expr, Exprs, ExprOption, Elems, Value, ValueOption, Stmt, Stmts, StmtOption, BlockOption, RangeLeft, Arms, Cases, ValueSpecs}
@@ -19,7 +19,7 @@ use Rattle.constant_steps.proofs.PlaceMeanings.Behinds.{type_by, sig_by, names_b
 use Rattle.constant_steps.proofs.PlaceMeanings.Beginnings.{operand_begins}
 use Rattle.constant_steps.proofs.PlaceMeanings.Nested.{Lies, Split}
 use Rattle.constant_steps.proofs.PlaceMeanings.Rooms.{Rises, rises_of, Room, room_of, cut, lowered, before, behind, skip, high, begins, begins_past, raise}
-use Rattle.name_places.proofs.Ordered.{ExprIn, ExprsIn, ExprOptionIn, ElemsIn, ValueIn, ValueOptionIn, StmtIn, StmtsIn, StmtOptionIn, BlockOptionIn, LeftIn, ArmsIn, CasesIn, SpecsIn, TypeIn, TypeOptionIn, TypeSpecsIn, ReceiverIn, DeclIn, DeclsIn}
+use Rattle.name_places.proofs.Ordered.{ExprIn, ExprsIn, ExprOptionIn, ElemsIn, ValueIn, ValueOptionIn, StmtIn, StmtsIn, StmtOptionIn, BlockOptionIn, LeftIn, ArmsIn, CasesIn, SpecsIn, TypeIn, TypeOptionIn, TypeSpecsIn, DeclIn, DeclsIn}
 use Rattle.name_places.proofs.TypesSpelled.{type_in, sig_in, names_in, literal_in}
 
 -- the test of an `if` with the statement before it and the block behind it

@@ -1,5 +1,5 @@
 -- The names in types that tokens spell stand in their order.
-use Rattle.std.proofs.Common.{◌≡◌, ◌≤◌, ◌⊎◌, inl, inr, refl, ℕ, Bool, List, [], ◌∷◌, arith}
+use Rattle.std.proofs.Common.{◌≤◌, inl, inr, refl, ℕ, Bool, List, [], ◌∷◌, arith}
 use Rattle.go_tree.specs.declared.spans.Span.{Span}
 use Rattle.go_tree.specs.Tree.{NameAt, TypeExpr, Fields, no_fields, Param, Sig}
 use Rattle.go_read.specs.SpellsTypes.{Lexemes, fields_of, params_of, SpellsType, SpellsFields, SpellsEntries, SpellsRest, SpellsNamed, SpellsUnnamed, SpellsParams, SpellsResults, SpellsSig, SpellsNames, named_rule, qualified_rule, pointer_rule, slice_type_rule, map_type_rule, struct_type_rule, type_parens_rule, no_fields_rule, last_field_rule, more_fields_rule, last_entry_rule, more_entries_rule, rest_rule, named_rest_rule, last_named_rule, comma_named_rule, more_named_rule, rest_named_rule, comma_rest_named_rule, last_unnamed_rule, comma_unnamed_rule, more_unnamed_rule, rest_unnamed_rule, comma_rest_unnamed_rule, no_params_rule, named_params_rule, unnamed_params_rule, no_results_rule, params_results_rule, type_result_rule, sig_rule, last_name_rule, more_names_rule}
@@ -7,8 +7,7 @@ use Rattle.go_read.specs.SpellsSpans.{span_to}
 use Rattle.go_read.specs.Spells.{SpellsLiteralType, named_literal_rule, qualified_literal_rule, type_literal_rule}
 use Rattle.splice_laws.proofs.Grafts.{here, later, drop}
 use Rattle.constant_steps.proofs.PlaceMeanings.Behinds.{type_by, fields_by, entries_by, rest_by, named_by, unnamed_by, params_by, results_by, names_by}
-use Rattle.constant_steps.proofs.PlaceMeanings.Nested.{Lies, Split}
-use Rattle.constant_steps.proofs.PlaceMeanings.Rooms.{Room, cut, before, behind, skip, high, begins, raise}
+use Rattle.constant_steps.proofs.PlaceMeanings.Rooms.{Room, cut, before, skip, high, begins, raise}
 use Rattle.name_places.proofs.Ordered.{Shares, SharesNext, TypeIn, FieldsIn, ParamsIn, SigIn, NamesIn}
 
 -- names that share a type

@@ -1,11 +1,10 @@
 -- The names among the parts of a declaration stand apart, where they stand in their order.
-use Rattle.std.proofs.Common.{◌≡◌, ◌∙◌, ◌≤◌, ◌<◌, ◌⊎◌, inl, inr, ℕ, zero, suc, Bool, true, false, List, [], ◌∷◌, ◌++◌, map, Option, Some, None, refl, sym, ap, subst, arith}
+use Rattle.std.proofs.Common.{◌≡◌, ◌∙◌, ◌≤◌, ◌+◌, ◌⊎◌, inl, inr, ℕ, zero, suc, Bool, true, false, List, [], ◌∷◌, ◌++◌, map, Option, Some, None, refl, sym, ap, subst, arith}
 use Rattle.std.specs.Prelude.{if◌then◌else◌, slice_get}
 use Rattle.std.proofs.lemmas.List.{append_assoc, append-nil}
 use Rattle.std.proofs.lemmas.Option.{same_Some}
 use Rattle.std.specs.Option.{option_map}
 use Rattle.go_tree.specs.declared.spans.Span.{Span}
-use Rattle.go_tree.specs.declared.operators.BinOp.{BinOp}
 use Rattle.go_tree.specs.Tree.{NameAt, TypeExpr, named, pointer, slice_type, map_type, struct_type, Fields, no_fields, field, Param, Sig, Expr, Exprs, ExprOption, Elems, Value, ValueOption, Stmt, Stmts, StmtOption, BlockOption, RangeLeft, Arms, Cases, ValueSpecs, ident, int_lit, rune_lit, str_lit, composite, selector, index, slice, call, func_lit, type_operand, unary, binary, star, no_exprs, expr_and, no_expr, some_expr, no_elems, elem, plain, braced, no_value, some_value, const_decl, var_decl, empty, eval, step, assign, define, return_, break_, continue_, inner, if_, for_, range_, switch, defer, label, no_stmts, stmt_and, no_stmt, some_stmt, no_block, some_block, nothing, assigns, defines, no_arms, arm, no_cases, case, no_specs, spec}
 use Rattle.go_tree.specs.File.{TypeSpec, Receiver, Decl, values, types, func, File}
 use Rattle.go_tree.specs.GoWords.Terminals.{level_of}
@@ -26,9 +25,8 @@ use Rattle.run_rules.specs.Respanned.{name_with, type_with, fields_with, type_op
 use Rattle.run_rules.specs.Sites.{Where, named_in, named_in_fields}
 use Rattle.run_rules.specs.Texts.{FileText}
 use Rattle.run_rules.specs.Inlining.{ReadsAs}
-use Rattle.constant_steps.proofs.PlaceMeanings.Nested.{Lies, Split}
-use Rattle.name_places.specs.NamesThere.{by_itself, behind_dot, NameThere, Among, first, later, type_spelling, type_there, types_there, field_place, names_in, fields_in, fields_in_elems, fields_in_key, fields_in_value, names_among, fields_among, StandApart}
-use Rattle.name_places.proofs.Lists.{among_front, among_back, among_either}
+use Rattle.name_places.specs.NamesThere.{by_itself, NameThere, Among, type_spelling, type_there, types_there, field_place, names_in, fields_in, fields_in_elems, fields_in_key, fields_in_value, names_among, fields_among, StandApart}
+use Rattle.name_places.proofs.Lists.{among_front, among_either}
 use Rattle.name_places.proofs.Ordered.{Shares, SharesNext, TypeIn, FieldsIn, TypeOptionIn, ParamsIn, SigIn, NamesIn, ExprIn, ExprsIn, ExprOptionIn, ElemsIn, ValueIn, ValueOptionIn, StmtIn, StmtsIn, StmtOptionIn, BlockOptionIn, LeftIn, ArmsIn, CasesIn, SpecsIn, TypeSpecsIn, ReceiverIn, DeclIn, DeclsIn}
 use Rattle.name_places.proofs.Far.{Apart, name, key, fewer, wider, both, Far, far_both, far_close, far_selector, stands_apart}
 use Rattle.name_places.proofs.Far as far
@@ -291,25 +289,25 @@ module _ {S : Type 0} (to : S → Span) where
 
   -- ---- declarations
 
-  constants_top : (q : Place S) (i : ℕ) (ss : ValueSpecs S) (lo hi : ℕ) → SpecsIn (specs_with to ss) lo hi → F lo hi (constants_at_top q i ss)
-  constants_top q i no_specs lo hi h = far.nothing to lo hi
-  constants_top q i (spec s ns t es ss) lo hi h = f2 lo h.mid hi (written_seen (in_constant i q) t ++ all_seen (in_constant i q) (alike (value_use q.env t) ns) es) (constants_at_top q (suc i) ss) h.from h.to (f2 lo h.first.mid h.mid (written_seen (in_constant i q) t) (all_seen (in_constant i q) (alike (value_use q.env t) ns) es) h.first.from h.first.to (written_far (in_constant i q) t lo h.first.mid h.first.first) (all_far (in_constant i q) (alike (value_use q.env t) ns) es h.first.mid h.mid h.first.second)) (constants_top q (suc i) ss h.mid hi h.second)
+  constants_top : (ps : List (Package S)) (q : Place S) (i : ℕ) (ss : ValueSpecs S) (lo hi : ℕ) → SpecsIn (specs_with to ss) lo hi → F lo hi (constants_at_top ps q i ss)
+  constants_top ps q i no_specs lo hi h = far.nothing to lo hi
+  constants_top ps q i (spec s ns t es ss) lo hi h = f2 lo h.mid hi (written_seen (in_constant i q) t ++ all_seen (in_constant i q) (alike (value_use q.env t) ns) es) (constants_at_top ps q (suc i) ss) h.from h.to (f2 lo h.first.mid h.mid (written_seen (in_constant i q) t) (all_seen (in_constant i q) (alike (value_use q.env t) ns) es) h.first.from h.first.to (written_far (in_constant i q) t lo h.first.mid h.first.first) (all_far (in_constant i q) (alike (value_use q.env t) ns) es h.first.mid h.mid h.first.second)) (constants_top ps q (suc i) ss h.mid hi h.second)
 
-  variables_top : (q : Place S) (ss : ValueSpecs S) (lo hi : ℕ) → SpecsIn (specs_with to ss) lo hi → F lo hi (variables_at_top q ss)
-  variables_top q no_specs lo hi h = far.nothing to lo hi
-  variables_top q (spec s ns t es ss) lo hi h = f2 lo h.mid hi (written_seen q t ++ all_seen q (alike (value_use q.env t) ns) es) (variables_at_top q ss) h.from h.to (f2 lo h.first.mid h.mid (written_seen q t) (all_seen q (alike (value_use q.env t) ns) es) h.first.from h.first.to (written_far q t lo h.first.mid h.first.first) (all_far q (alike (value_use q.env t) ns) es h.first.mid h.mid h.first.second)) (variables_top q ss h.mid hi h.second)
+  variables_top : (ps : List (Package S)) (q : Place S) (ss : ValueSpecs S) (lo hi : ℕ) → SpecsIn (specs_with to ss) lo hi → F lo hi (variables_at_top ps q ss)
+  variables_top ps q no_specs lo hi h = far.nothing to lo hi
+  variables_top ps q (spec s ns t es ss) lo hi h = f2 lo h.mid hi (written_seen q t ++ all_seen q (alike (value_use q.env t) ns) es) (variables_at_top ps q ss) h.from h.to (f2 lo h.first.mid h.mid (written_seen q t) (all_seen q (alike (value_use q.env t) ns) es) h.first.from h.first.to (written_far q t lo h.first.mid h.first.first) (all_far q (alike (value_use q.env t) ns) es h.first.mid h.mid h.first.second)) (variables_top ps q ss h.mid hi h.second)
 
-  types_top : (q : Place S) (ts : List (TypeSpec S)) (lo hi : ℕ) → TypeSpecsIn (map (type_spec_with to) ts) lo hi → F lo hi (types_at_top q ts)
-  types_top q [] lo hi h = far.nothing to lo hi
-  types_top q (t ∷ ts) lo hi h = f2 lo h.mid hi (seen_type q t.of ∷ []) (types_at_top q ts) h.from h.to (type_far q t.of lo h.mid h.first) (types_top q ts h.mid hi h.second)
+  types_top : (ps : List (Package S)) (q : Place S) (ts : List (TypeSpec S)) (lo hi : ℕ) → TypeSpecsIn (map (type_spec_with to) ts) lo hi → F lo hi (types_at_top ps q ts)
+  types_top ps q [] lo hi h = far.nothing to lo hi
+  types_top ps q (t ∷ ts) lo hi h = f2 lo h.mid hi (seen_type q t.of ∷ []) (types_at_top ps q ts) h.from h.to (type_far q t.of lo h.mid h.first) (types_top ps q ts h.mid hi h.second)
 
-  receiver_far : (q : Place S) (r : Option (Receiver S)) (lo hi : ℕ) → ReceiverIn (option_map (receiver_with to) r) lo hi → F lo hi (receiver_seen q r)
-  receiver_far q None lo hi h = far.nothing to lo hi
-  receiver_far q (Some r) lo hi h = name to lo hi (to r.of.span) (by_itself r.of.name) h
+  receiver_far : (ps : List (Package S)) (q : Place S) (r : Option (Receiver S)) (lo hi : ℕ) → ReceiverIn (option_map (receiver_with to) r) lo hi → F lo hi (receiver_seen ps q r)
+  receiver_far ps q None lo hi h = far.nothing to lo hi
+  receiver_far ps q (Some r) lo hi h = name to lo hi (to r.of.span) (by_itself r.of.name) h
 
   decl_far : (ps : List (Package S)) (k : ℕ) (p : Package S) (file : File S) (d : Decl S) (lo hi : ℕ) → DeclIn (decl_with to d) lo hi → F lo hi (decl_seen ps k p file d)
-  decl_far ps k p file (values (const_decl s g ss)) lo hi h = constants_top (top_place ps k p file) 0 ss lo hi h
-  decl_far ps k p file (values (var_decl s g ss)) lo hi h = variables_top (top_place ps k p file) ss lo hi h
+  decl_far ps k p file (values (const_decl s g ss)) lo hi h = constants_top ps (top_place ps k p file) 0 ss lo hi h
+  decl_far ps k p file (values (var_decl s g ss)) lo hi h = variables_top ps (top_place ps k p file) ss lo hi h
   decl_far ps k p file (values (empty s)) lo hi h = far.nothing to lo hi
   decl_far ps k p file (values (eval s e)) lo hi h = far.nothing to lo hi
   decl_far ps k p file (values (step s e b)) lo hi h = far.nothing to lo hi
@@ -325,8 +323,8 @@ module _ {S : Type 0} (to : S → Span) where
   decl_far ps k p file (values (switch s i t cs)) lo hi h = far.nothing to lo hi
   decl_far ps k p file (values (defer s e)) lo hi h = far.nothing to lo hi
   decl_far ps k p file (values (label s n x)) lo hi h = far.nothing to lo hi
-  decl_far ps k p file (types s g ts) lo hi h = types_top (top_place ps k p file) ts lo hi h
-  decl_far ps k p file (func f) lo hi h = f2 lo h.mid hi (receiver_seen (top_place ps k p file) f.receiver ++ sig_seen (top_place ps k p file) f.sig) (stmts_seen (body_place ps k p file f) f.body) h.from h.to (f2 lo h.first.mid h.mid (receiver_seen (top_place ps k p file) f.receiver) (sig_seen (top_place ps k p file) f.sig) h.first.from h.first.to (receiver_far (top_place ps k p file) f.receiver lo h.first.mid h.first.first) (sig_far (top_place ps k p file) f.sig h.first.mid h.mid h.first.second)) (stmts_far (body_place ps k p file f) f.body h.mid hi h.second)
+  decl_far ps k p file (types s g ts) lo hi h = types_top ps (top_place ps k p file) ts lo hi h
+  decl_far ps k p file (func f) lo hi h = f2 lo h.mid hi (receiver_seen ps (top_place ps k p file) f.receiver ++ sig_seen (top_place ps k p file) f.sig) (stmts_seen (body_place ps k p file f) f.body) h.from h.to (f2 lo h.first.mid h.mid (receiver_seen ps (top_place ps k p file) f.receiver) (sig_seen (top_place ps k p file) f.sig) h.first.from h.first.to (receiver_far ps (top_place ps k p file) f.receiver lo h.first.mid h.first.first) (sig_far (top_place ps k p file) f.sig h.first.mid h.mid h.first.second)) (stmts_far (body_place ps k p file f) f.body h.mid hi h.second)
 
   nth_far : (ps : List (Package S)) (k : ℕ) (p : Package S) (file : File S) (ds : List (Decl S)) (i : ℕ) (d : Decl S) → DeclsIn (decls_with to ds) → slice_get ds i ≡ Some d → StandApart to (decl_seen ps k p file d)
   nth_far ps k p file [] i d h e = absurd cc

@@ -1,9 +1,9 @@
 -- The names in parts of a declaration before which a package's name may stand, each where it stands and as it is
 -- written, and the keys of composite literals that name fields (Go specification, Qualified identifiers; Selectors;
 -- Types; Composite literals).
-use Rattle.std.specs.Prelude.{◌≡◌, ℕ, suc, List, [], ◌∷◌, ◌++◌, Option, Some, None, if◌then◌else◌}
+use Rattle.std.specs.Prelude.{◌≡◌, ℕ, suc, false, List, [], ◌∷◌, ◌++◌, Option, Some, None, if◌then◌else◌}
 use Rattle.go_tree.specs.declared.spans.Span.{Span}
-use Rattle.go_tree.specs.Tree.{NameAt, TypeExpr, named, Expr, ident, composite, selector, Elems, no_elems, elem, Value}
+use Rattle.go_tree.specs.Tree.{NameAt, TypeExpr, named, ident, composite, selector, Elems, no_elems, elem, Value}
 use Rattle.go_tree.specs.Tree.{plain, braced, ValueOption, no_value, some_value}
 use Rattle.go_tree.specs.GoTypes.Answers.{given, meets}
 use Rattle.go_tree.specs.GoTypes.Types.{GoType}
