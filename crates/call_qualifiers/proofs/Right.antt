@@ -29,7 +29,7 @@ use Rattle.call_qualifiers.proofs.Meant.{own_told, import_told}
 use Rattle.name_places.proofs.Lists.{among_front, among_back}
 use Rattle.call_qualifiers.proofs.Fields.{elems_told}
 
-module _ (ps : List (Package At)) (w : Where At) (f : Names) (k : Knows here_of (file_with here_of) ps w f) (named : k.names ≡ names_standing ps w)
+module _ (ps : List (Package At)) (w : Where At) (f : Names) (k : Knows here_of (file_with here_of) ps w f) (standing : k.names ≡ names_standing ps w)
     (there : ℕ) (names : naming.Names) (t : Told) (home_named : slice_get t.packages w.number ≡ Some (names w.number))
     (imports_named : (j q : ℕ) → slice_get f.imports j ≡ Some q → slice_get t.packages q ≡ Some (names q))
     (imports_others : (j : ℕ) → slice_get f.imports j ≡ Some w.number → ⊥)
@@ -51,10 +51,10 @@ module _ (ps : List (Package At)) (w : Where At) (f : Names) (k : Knows here_of 
   told_none s m = ap named_as (put (here_of s) ∙ none_at f f.home there (here_of s) (names_among here_of all) (λ x a e. apart.fields x s a m e) None)
 
   own : (s : Span) (n : List ℕ) (p : Place At) → AgreesAt ps w f.table p s.start → Among (s, by_itself n) (names_among here_of all) → told s ≡ naming.member_qualifier ps w there names p n
-  own s n p a m = told_at s (by_itself n) m ∙ own_told ps w f k named there names t.packages home_named imports_named imports_others p s a n
+  own s n p a m = told_at s (by_itself n) m ∙ own_told ps w f k standing there names t.packages home_named imports_named imports_others p s a n
 
   imported : (s : Span) (q : List ℕ) (p : Place At) → AgreesAt ps w f.table p s.start → Among (s, behind_dot (Some q)) (names_among here_of all) → told s ≡ naming.import_qualifier ps w there names p q
-  imported s q p a m = told_at s (behind_dot (Some q)) m ∙ import_told ps w f k named there names t.packages home_named imports_named imports_others p s a q
+  imported s q p a m = told_at s (behind_dot (Some q)) m ∙ import_told ps w f k standing there names t.packages home_named imports_named imports_others p s a q
 
   -- ---- types
 
