@@ -26,9 +26,9 @@ module _ {S : Type 0} (to : S → Span) (told : Span → Option (List ℕ)) (ps 
       let top : Place S = top_place ps w.number w.of w.source.tree in
       let sig : List (Seen S) = sig_seen (top_place ps w.number w.of w.source.tree) f.sig in
       let body : List (Seen S) = stmts_seen (body_place ps w.number w.of w.source.tree f) f.body in
-      in_two sig body (subst AllRight (ap (λ (r : Option (Receiver S)). receiver_seen top r ++ sig ++ body) e) h)
+      in_two sig body (subst AllRight (ap (λ (r : Option (Receiver S)). receiver_seen ps top r ++ sig ++ body) e) h)
 
-  pub alias_told : (p : Place S) (ts : List (TypeSpec S)) (i : ℕ) (x : TypeSpec S) → slice_get ts i ≡ Some x → AllRight (types_at_top p ts) → TypesTold to told ps w there names p (named_in x.of)
+  pub alias_told : (p : Place S) (ts : List (TypeSpec S)) (i : ℕ) (x : TypeSpec S) → slice_get ts i ≡ Some x → AllRight (types_at_top ps p ts) → TypesTold to told ps w there names p (named_in x.of)
   alias_told p [] i x e h = absurd cc
   alias_told p (t ∷ ts) zero x e h = subst (λ (y : TypeSpec S). TypesTold to told ps w there names p (named_in y.of)) (same_Some t x e) h.0
   alias_told p (t ∷ ts) (suc i) x e h = alias_told p ts i x e h.1
