@@ -1,20 +1,19 @@
 -- What the code puts before the names of a declaration is what run_rules writes there.
-use Rattle.std.proofs.Common.{◌≡◌, ◌∙◌, ℕ, List, [], ◌∷◌, map, Option, Some, None, refl, sym, ap}
-use Rattle.std.specs.Prelude.{Bool, slice_get}
+use Rattle.std.proofs.Common.{◌≡◌, ◌∙◌, ℕ, List, [], ◌∷◌, map, None, refl, sym, ap}
+use Rattle.std.specs.Prelude.{slice_get}
 use Rattle.go_tree.specs.declared.spans.Span.{Span}
 use Rattle.go_tree.specs.File.{Decl}
 use Rattle.pkg_graph.specs.Package.{Package}
 use Rattle.run_rules.specs.Naming as naming
 use Rattle.run_rules.specs.Programs.{decl_seen}
-use Rattle.run_rules.specs.Respanned.{file_with, decl_with}
+use Rattle.run_rules.specs.Respanned.{decl_with}
 use Rattle.run_rules.specs.Run.{here_of}
 use Rattle.run_rules.specs.Sites.{Where}
 use Rattle.run_rules.specs.Steps.{At}
 use Rattle.member_uses.specs.PossibleUses.Parts.{parts_of}
-use Rattle.member_uses.specs.Uses.{Used, Names}
+use Rattle.member_uses.specs.Uses.{Names}
 use Rattle.member_uses.specs.Views.{names_in}
 use Rattle.member_uses.proofs.PlacesMean.{places_mean, blocks_local}
-use Rattle.repeated_parts.specs.declared.literal_types.table.LiteralTypes.{LiteralTypes}
 use Rattle.repeated_parts.specs.declared.literal_types.table.TypeScopes.{TypeScopes}
 use Rattle.repeated_parts.specs.declared.uses_repeated.uses.FlaggedUse.{FlaggedUse}
 use Rattle.repeated_parts.specs.Flags.{flags_of}

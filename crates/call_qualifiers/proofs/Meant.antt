@@ -13,14 +13,14 @@ use Rattle.run_rules.specs.Respanned.{file_with}
 use Rattle.run_rules.specs.Run.{here_of}
 use Rattle.run_rules.specs.Steps.{At}
 use Rattle.run_rules.specs.Surroundings.{Place}
-use Rattle.run_rules.specs.Sites.{MarkRef, Where, mark_of, outer_meaning, qualifier}
+use Rattle.run_rules.specs.Sites.{MarkRef, Where, mark_of, outer_meaning}
 use Rattle.run_rules.specs.Naming as naming
 use Rattle.run_rules.specs.Naming.{member_qualifier, import_qualifier}
 use Rattle.constant_forms.specs.Uses.{IsMember}
 use Rattle.constant_forms.proofs.Members.{table_members}
 use Rattle.member_uses.specs.Agreement.{target_of, AgreesAt}
 use Rattle.member_uses.specs.Laws.{Knows}
-use Rattle.member_uses.specs.Uses.{Names, own_package, imported_package, package_at, import_at}
+use Rattle.member_uses.specs.Uses.{Names, own_package, imported_package, package_at}
 use Rattle.member_uses.proofs.MembersMeant.{before_dot}
 use Rattle.constant_steps.specs.FormImports.ImportLaws.Steps.{names_standing}
 use Rattle.name_places.specs.NamesThere.{by_itself, behind_dot}

@@ -1,5 +1,5 @@
 -- The number that is found at the span of a name.
-use Rattle.std.proofs.Common.{◌≡◌, ◌∙◌, ℕ, nat_eq, Bool, true, false, not, ◌&&◌, List, [], ◌∷◌, ◌++◌, Option, Some, None, ◌⊎◌, inl, inr, refl, sym, ap, arith}
+use Rattle.std.proofs.Common.{◌≡◌, ◌∙◌, ℕ, Bool, true, false, ◌&&◌, List, [], ◌∷◌, ◌++◌, Option, Some, None, ◌⊎◌, inl, inr, refl, sym, ap, arith}
 use Rattle.std.specs.Prelude.{if◌then◌else◌}
 use Rattle.std.proofs.lemmas.Bool.{true≢false}
 use Rattle.std.proofs.lemmas.Bool.Decides.{nat_tests}
@@ -9,7 +9,7 @@ use Rattle.run_rules.specs.ImportRules.Removed.{same_span}
 use Rattle.member_uses.specs.Uses.{Names, package_at, import_at}
 use Rattle.name_places.proofs.Lists.{among_case, none_of}
 use Rattle.name_places.specs.NamesThere.{Spelling, by_itself, behind_dot, NameThere, Among, first, later}
-use Rattle.call_qualifiers.specs.Numbers.{MemberThere, is_written, number_put, numbers_put}
+use Rattle.call_qualifiers.specs.Numbers.{MemberThere, is_written, numbers_put}
 
 is_same : (a b : Span) → same_span a b ≡ true → a ≡ b
 is_same a b e = grind (arith, nat_tests, e)

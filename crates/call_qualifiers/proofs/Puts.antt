@@ -2,7 +2,6 @@
 use Rattle.std.proofs.Common.{◌≡◌, ◌∙◌, ◌<◌, ◌≤◌, ◌+◌, ℕ, zero, suc, List, [], ◌∷◌, map, length, drop, get_or, Option, refl, sym, ap, drop-cons, arith}
 use Rattle.go_tree.specs.declared.spans.Span.{Span}
 use Rattle.repeated_parts.specs.declared.uses_repeated.uses.FlaggedUse.{FlaggedUse}
-use Rattle.call_forms.specs.Qualifiers.{at_span}
 use Rattle.call_qualifiers.specs.Numbers.{there_of, number_put, numbers_put}
 
 none_left : (us : List FlaggedUse) (i : ℕ) → length us ≤ i → drop i us ≡ []

@@ -1,5 +1,5 @@
 -- Where names stand apart, what the code puts before each is what run_rules writes there.
-use Rattle.std.proofs.Common.{◌≡◌, ◌∙◌, ℕ, Bool, true, false, List, [], ◌∷◌, ◌++◌, Option, Some, None, refl, sym, ap, subst}
+use Rattle.std.proofs.Common.{◌≡◌, ◌∙◌, ℕ, false, List, [], ◌∷◌, Option, Some, None, refl, ap}
 use Rattle.std.specs.Prelude.{slice_get}
 use Rattle.go_tree.specs.declared.spans.Span.{Span}
 use Rattle.go_tree.specs.Tree.{NameAt, TypeExpr, named, pointer, slice_type, map_type, struct_type, Expr, ident, int_lit, rune_lit, str_lit, composite, selector, index, slice, call, func_lit, type_operand, unary, binary, star}
@@ -22,7 +22,7 @@ use Rattle.member_uses.specs.PossibleUses.Among.{Keyed}
 use Rattle.member_uses.specs.Uses.{Names, name_alone}
 use Rattle.call_forms.specs.Qualifiers.{Told, at_span, qualifier_at}
 use Rattle.call_forms.specs.ToldNames.{TypeTold, TypesTold, ExprTold, PartTold, AllTold}
-use Rattle.name_places.specs.NamesThere.{Spelling, by_itself, behind_dot, NameThere, Among, first, later, type_there, types_there, names_in, names_among, fields_in, fields_among, StandApart}
+use Rattle.name_places.specs.NamesThere.{Spelling, by_itself, behind_dot, NameThere, Among, first, type_there, types_there, names_in, names_among, fields_in, fields_among, StandApart}
 use Rattle.call_qualifiers.specs.Numbers.{numbers_put}
 use Rattle.call_qualifiers.proofs.Numbers.{members, number_at, none_at, found_at}
 use Rattle.call_qualifiers.proofs.Meant.{own_told, import_told}

@@ -1,6 +1,5 @@
 -- The members that the code finds named in a declaration are those that the names among all its parts name.
 use Rattle.std.proofs.Common.{◌≡◌, ◌∙◌, ℕ, ◌+◌, length, arith, Bool, true, false, ◌&&◌, not, List, [], ◌∷◌, ◌++◌, map, Option, Some, None, refl, sym, ap}
-use Rattle.std.specs.Prelude.{if◌then◌else◌}
 use Rattle.std.proofs.lemmas.List.{append_assoc, append-nil, map-append, length-append, length-map}
 use Rattle.go_tree.specs.declared.spans.Span.{Span}
 use Rattle.go_tree.specs.declared.scope_names.names.Entity.{Entity}
@@ -11,21 +10,21 @@ use Rattle.go_tree.specs.GoTypes.Answers.{given}
 use Rattle.go_tree.specs.GoTypes.Entities.{is_declared_here}
 use Rattle.pkg_graph.specs.Package as packages
 use Rattle.scope_tables.specs.Table.{meaning_in}
-use Rattle.run_rules.specs.Surroundings.{Use, stored, Place, Seen, seen, seen_type, seen_stmt, is_local, is_old}
+use Rattle.run_rules.specs.Surroundings.{Use, stored, Place, Seen, seen, seen_type, seen_stmt, is_old}
 use Rattle.run_rules.specs.Sites.{Where, an_expr, a_type_part, named_in}
 use Rattle.member_uses.specs.PossibleUses.Candidates.{Candidate, plain_part}
 use Rattle.member_uses.specs.PossibleUses.Parts.{put}
 use Rattle.member_uses.specs.PossibleUses.Among.{may_be_use}
 use Rattle.member_uses.specs.Agreement.{BlockIsLocal, AgreesAt, means_local}
 use Rattle.member_uses.specs.Parts.{AtParts}
-use Rattle.member_uses.specs.Uses.{Used, Names, used, name_alone, own_package, package_at, import_at, type_package, part_uses}
+use Rattle.member_uses.specs.Uses.{Used, Names, used, name_alone, own_package, package_at, import_at, part_uses}
 use Rattle.repeated_parts.specs.Flags.{Flags, put_flag, put_field}
 use Rattle.repeated_parts.specs.Along.{is_again, key_as, FlagsAlong, past_a_use, past_no_use, past_a_key, past_a_field, past_an_old_name, past_a_type, past_a_statement}
 use Rattle.repeated_parts.specs.Along as along
 use Rattle.repeated_parts.specs.UsesRepeated.Uses.{with_flag, under_flag, flagged_uses}
-use Rattle.name_places.specs.NamesThere.{Spelling, by_itself, behind_dot, NameThere, type_spelling, type_there, types_there, names_in, names_among}
+use Rattle.name_places.specs.NamesThere.{type_there, types_there, names_in, names_among}
 use Rattle.call_qualifiers.specs.Numbers.{MemberThere}
-use Rattle.call_qualifiers.proofs.Numbers.{and_member, number_of, members, members_both}
+use Rattle.call_qualifiers.proofs.Numbers.{and_member, members, members_both}
 
 -- where uses stand, and the members' packages
 abbrev pub places_of : List (Used × Bool) → List MemberThere
