@@ -6,20 +6,6 @@ use constant_forms::Obstacle;
 use go_tree::{Comment, Span};
 use std::test::Fail;
 
-/// A call with no obstacle.
-const FREE: CallUse<'static> = CallUse {
-    packages: &[],
-    there: 0,
-    hidden: None,
-    needed: &[],
-    shadowed: None,
-    recursive: false,
-    span: PLACE,
-    comments: &[],
-    spread: false,
-    repeated: false,
-};
-
 fn is_shadowed(found: &Option<Obstacle>, want: &[u8]) -> bool {
     match found {
         Some(Obstacle::Shadowed(name)) => name.items() == want,
@@ -39,13 +25,25 @@ fn is_comment(found: &Option<Obstacle>) -> bool {
 #[test]
 fn first_obstacles(rt: HostRuntime) -> Result<(), Fail> {
     let alloc = rt.alloc();
-    let none = obstacle_of_call(alloc, &FREE)?;
+    let free = CallUse {
+        packages: &[],
+        there: 0,
+        hidden: None,
+        needed: &[],
+        shadowed: None,
+        recursive: false,
+        span: PLACE,
+        comments: &[],
+        spread: false,
+        repeated: false,
+    };
+    let none = obstacle_of_call(alloc, &free)?;
     assert!(rt; none.is_none());
     let len = name_of(alloc, "len")?;
     let shadowed = CallUse {
         shadowed: Some(&len),
         recursive: true,
-        ..FREE
+        ..free
     };
     assert!(rt; is_shadowed(&obstacle_of_call(alloc, &shadowed)?, b"len"));
     let comments = [Comment {
@@ -54,7 +52,7 @@ fn first_obstacles(rt: HostRuntime) -> Result<(), Fail> {
     let commented = CallUse {
         comments: &comments,
         repeated: true,
-        ..FREE
+        ..free
     };
     assert!(rt; is_comment(&obstacle_of_call(alloc, &commented)?));
     let recursive = CallUse {
