@@ -9,7 +9,7 @@ ghost use Rattle.run_plans.specs.PlannedModules.Modules.{imports_apart, is_forme
 
 use crate::planned_modules::dots::without_dots;
 use go_tree::{FileTree, ImportSpec};
-use module_reading::ScannedFile;
+use module_texts::ScannedFile;
 use pkg_graph::Package;
 use universe_block::predeclared;
 
