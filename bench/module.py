@@ -150,12 +150,16 @@ def measure(source, wanted, uses, work):
     return best
 
 
+def build():
+    """Builds the program where it isn't built: the word is refused, so this changes nothing."""
+    subprocess.run([f"{TOP}/gofix", "--help"], cwd=TOP, stdout=subprocess.DEVNULL, check=False)
+
+
 def main():
     files = int(sys.argv[1]) if len(sys.argv) > 1 else 500
     if files % PACKAGES or files < 2 * PACKAGES:
         sys.exit(f"usage: bench/module.py [FILES], a multiple of {PACKAGES} from {2 * PACKAGES} on")
-    # The word is refused, so this changes nothing; it builds the program where it isn't built.
-    subprocess.run([f"{TOP}/gofix", "--help"], cwd=TOP, stdout=subprocess.DEVNULL, check=False)
+    build()
     uses = USES * files
     with tempfile.TemporaryDirectory() as work:
         write_module(f"{work}/old", files, False)

@@ -45,14 +45,17 @@ add() {
     fi
 }
 
-# modules, what their programs print, what is refused of them, what they declare, those that are too large, fronts of
-# files, tokens and trees of files, files printed, rows of types, and what documents name
+# modules, what their programs print, what is refused of them, what they declare, rows of types and how types stand to one
+# another, modules that are too large, folders in which the system fails, fronts of files, tokens and trees of files, files
+# printed, what names mean, parts, marks and imports of files, and what documents name
 add runs.sh
 add outputs.sh
 add modules.sh
 add declared.sh
 add types.sh
+add relations.sh
 add limits.sh
+add folders.sh
 add fronts.sh
 add tokens.sh
 add trees.sh

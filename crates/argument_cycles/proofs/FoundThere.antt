@@ -9,6 +9,7 @@ pub mod Items
 pub mod Chosen
 pub mod Names
 pub mod Forms
+pub mod PutNames
 pub mod Applies
 pub mod Obstacles
 pub mod Reduces
@@ -16,4 +17,6 @@ pub mod Files
 pub mod Remade
 pub mod Step
 pub mod Apart
+pub mod Serving
+pub mod NamedThere
 pub mod Becoming

@@ -7,10 +7,9 @@
 --   package pow
 --   func Pow(x, n int) int { return x * n }
 -- after the step: package main; import "example.com/m/pow"; func main() { println(pow.Pow(next(), 2)) }
-use Rattle.std.proofs.Common.{◌≡◌, ◌⊎◌, inl, refl, sym, ap, ◌∙◌, subst, ℕ, zero, suc, Bool, true, false, List, [], ◌∷◌, map, Option, Some, None, if◌then◌else◌, codes}
+use Rattle.std.proofs.Common.{◌≡◌, refl, sym, ap, ◌∙◌, subst, ℕ, zero, suc, Bool, true, false, List, [], ◌∷◌, map, Option, Some, None, if◌then◌else◌, codes}
 use Rattle.std.specs.Prelude.{is_some, slice_get}
 use Rattle.std.specs.Fmt.{digits}
-use Rattle.go_tree.specs.ScopeNames.Binders.{func_binders}
 use Rattle.go_tree.specs.GoTypes.Answers.{meets}
 use Rattle.go_tree.specs.GoTypes.Types.{basic}
 use Rattle.go_tree.proofs.GoTypes.Agreeing.{some_same}
@@ -25,8 +24,7 @@ use Rattle.pkg_graph.specs.Package.{SourceTree, Package}
 use Rattle.pkg_graph.specs.ModuleFiles.Internal.{passes}
 use Rattle.run_rules.specs.BodyItems.{number_of}
 use Rattle.run_rules.specs.Calls.{Given, all_params, declared_place}
-use Rattle.run_rules.specs.FormTrees.{ExprForm, as_expr, one_expr, type_expr, top, is_statement}
-use Rattle.run_rules.specs.Naming.{named_packages, names_by}
+use Rattle.run_rules.specs.FormTrees.{ExprForm, as_expr, one_expr, type_expr, top}
 use Rattle.run_rules.specs.Places.{stmts_seen, expr_seen}
 use Rattle.run_rules.specs.Programs.{body_place, decl_seen}
 use Rattle.run_rules.specs.Sites.{MarkRef, Where, Site, an_expr, inlinable, is_function, qualifier, called_mark}
@@ -45,7 +43,7 @@ use Rattle.literal_cycles.specs.BodyForms.Steps.{AllStayThere}
 use Rattle.argument_cycles.specs.Uses.{nth_param, ParametersApart, its_call, TypesCallNothing, UnusedCallNothing, PlacedArguments, NamesPackage}
 use Rattle.argument_cycles.specs.ImportingSteps.Puts.{site_there, FreeExpression, PutsAddedExpression}
 use Rattle.argument_cycles.proofs.ImportText.{module_, start, the_next}
-use Rattle.argument_cycles.specs.FoundThere.There.{UseThere, NamesStay, NoneDropped}
+use Rattle.argument_cycles.specs.FoundThere.There.{UseThere}
 use Rattle.argument_cycles.specs.FoundThere.Steps.{CallFound, PutsFoundExpression}
 use Rattle.argument_cycles.specs.ArgumentRuns.Runs.{KeepsCallCycles, puts_arguments, a_found_expression}
 
@@ -348,32 +346,22 @@ added_step = record {
 old_use : CalledUse same_here in_comments rs marks use_of_square
 old_use = record { tree = the_call; part = refl; home = record { number = 1; of = wrappers; file_number = 0; source = wrapper_file }; stands = refl; callee = square; declared = refl }
 
--- what is asked of a use that is found
+-- the use that is found
 record Asked (f : Found At) : Type 0 where
   use_ : CalledUse same_here in_comments start.packages module_.marks f.site
-  no_statement : is_statement f.site.use_ ≡ false
-  same_names : (j : ℕ) → names_by (named_packages (packages_added start.packages f) (where_added f) f.site.place (func_binders use_.callee) (map (λ m. m.of) f.named)) j ≡ names_by f.named j
 
 asked : Asked found
-unfolding old_use
-asked = record { use_ = old_use; no_statement = refl; same_names = λ j. refl }
+asked = record { use_ = old_use }
 
 asked_so : Asked the_next.found
 asked_so = subst Asked (sym found_is) asked
-
--- with the import there `pow` has its name still
-stay : NamesStay the_next ((the_next.found).site).place (func_binders asked_so.use_.callee)
-stay = asked_so.same_names
-
-none_dropped : NoneDropped the_next asked_so.use_
-none_dropped = inl asked_so.no_statement
 
 -- the use stands there where it stood
 use_stands : UseThere the_next
 use_stands = record { tree = the_call; part = known.part; place = there; alike = known.alike; nth = 5; was_seen = known.was_seen; is_seen = known.is_seen }
 
 call_found : CallFound the_next
-call_found = record { use_ = asked_so.use_; no_statement = none_dropped; same_names = stay; there = use_stands; around = known.around_it }
+call_found = record { use_ = asked_so.use_; there = use_stands; around = known.around_it }
 
 found_there : FreeExpression in_comments (packages_added start.packages the_next.found) module_.marks (site_there the_next.found (call_found.there).place)
 unfolding call_found use_stands

@@ -32,6 +32,7 @@ pub mod TypedBodies
 pub mod ImportingSteps
 pub mod TypedMethods
 pub mod FoundThere
+pub mod LeftUses
 pub mod ArgumentRuns
 mod MethodExample
 mod TailExample

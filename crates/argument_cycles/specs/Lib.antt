@@ -12,4 +12,5 @@ pub mod TypedBodies
 pub mod ImportingSteps
 pub mod TypedMethods
 pub mod FoundThere
+pub mod LeftUses
 pub mod ArgumentRuns

@@ -9,6 +9,7 @@ pub mod argument_runs;
 pub mod found_there;
 pub mod importing_steps;
 mod laws;
+pub mod left_uses;
 pub mod typed_bodies;
 pub mod typed_methods;
 

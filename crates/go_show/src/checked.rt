@@ -1,7 +1,7 @@
 //! Whether the module in a folder is well typed (Go specification, Packages; Declarations and scope; Function
 //! declarations; Method declarations; Program execution).
 
-ghost use Rattle.std.specs.Prelude.{◌≡◌, ◌<◌, ◌≤◌, ◌^◌, All, None, OnOk, length};
+ghost use Rattle.std.specs.Prelude.{◌≡◌, ◌<◌, ◌≤◌, ◌^◌, All, IfOk, None, OnOk, length};
 ghost use Rattle.go_tree.specs.GoTypes.WellTyped.{refused_place};
 ghost use Rattle.package_blocks.specs.Collected.{AreOrdered};
 ghost use Rattle.package_blocks.specs.Imports.{views};
@@ -11,7 +11,7 @@ ghost use Rattle.collected.specs.ValueHeaders.SpelledDecls.{PackagesAreSpelled};
 ghost use Rattle.checked_modules.specs.FunctionBodies.Walked.{PackagesAreWalked};
 ghost use Rattle.module_texts.specs.Modules.{IsReadFrom};
 
-use crate::declared::{no_module, tell_of};
+use crate::declared::{flushed, no_module, tell_of};
 use crate::folder::{Unread, source_files};
 use crate::places::path_of;
 use checked_modules::{RefusedPlace, refused_place};
@@ -107,8 +107,38 @@ fn check_files(alloc: Global, files: &[SourceFile]) -> Result<(), Unread>
 /// Writes that a module is well typed.
 fn write_typed<R: Print + AllocGlobal>(rt: &R) -> io::Result<()> {
     let mut out = BufWriter::new(rt.alloc(), io::writer(rt))?;
-    out.write_all(b"typed\n")?;
-    out.flush()
+    let written = out.write_all(b"typed\n");
+    flushed(&mut out, written)
+}
+
+/// Whether a module is well typed, as is written of it.
+fn answer_of<R: Files + Print + AllocGlobal>(
+    rt: &R,
+    tree: &RealTree<R>,
+    checked: Result<(), Unread>,
+) -> io::Result<bool> {
+    match checked {
+        Ok(()) => {
+            write_typed(rt)?;
+            Ok(true)
+        }
+        Err(unread) => tell_of(rt, tree, &unread),
+    }
+}
+
+/// Checks the module that the files of a folder are, if they were had.
+fn check_found<R: Files + Print + AllocGlobal>(
+    rt: &R,
+    tree: &RealTree<R>,
+    found: Result<Vec<SourceFile>, Unread>,
+) -> io::Result<bool>
+    requires count { IfOk found (λ files. length files.items ≤ MAX_FILES) }
+    requires small { IfOk found (λ files. All (λ f. length f.bytes ≤ MAX_FILE_BYTES) files.items) }
+{
+    match found {
+        Ok(files) => answer_of(rt, tree, check_files(rt.alloc(), &files)),
+        Err(unread) => tell_of(rt, tree, &unread),
+    }
 }
 
 /// Writes `typed` of a folder that holds a module that is well typed, and of another gofix's line that says why it
@@ -118,17 +148,7 @@ pub(crate) fn check_folder<R: Env + Files + Print + AllocGlobal>(
     folder: &str,
 ) -> io::Result<bool> {
     env::set_current_dir(rt, folder)?;
-    let alloc = rt.alloc();
-    let mut tree = RealTree::new(rt, alloc)?;
-    let files = match source_files(alloc, &mut tree) {
-        Ok(files) => files,
-        Err(unread) => return tell_of(rt, &tree, &unread),
-    };
-    match check_files(alloc, &files) {
-        Ok(()) => {
-            write_typed(rt)?;
-            Ok(true)
-        }
-        Err(unread) => tell_of(rt, &tree, &unread),
-    }
+    let mut tree = RealTree::new(rt, rt.alloc())?;
+    let found = source_files(rt.alloc(), &mut tree);
+    check_found(rt, &tree, found)
 }

@@ -76,6 +76,21 @@ fn settled(
     apply(alloc, text, &edits)
 }
 
+/// The text of a file that is read with its imports settled as words ask.
+fn new_text(
+    alloc: Global,
+    text: &[u8],
+    source: &Source,
+    words: &[String],
+) -> Result<Vec<u8>, NoMemory>
+    requires size { length text.now ≤ MAX_FILE_BYTES }
+    requires read { IsSource text.now source.now.tokens.items source.now.tokens.comments (file_of source.now.tree) }
+{
+    let added = new_imports(alloc, words)?;
+    let unused = unused_imports(alloc, &source.tree, words)?;
+    settled(alloc, text, source, &added, &unused)
+}
+
 /// Writes the text of a file that is read with its imports settled.
 fn write_settled<W: Write>(
     alloc: Global,
@@ -87,9 +102,7 @@ fn write_settled<W: Write>(
     requires size { length text.now ≤ MAX_FILE_BYTES }
     requires read { IsSource text.now source.now.tokens.items source.now.tokens.comments (file_of source.now.tree) }
 {
-    let added = new_imports(alloc, words)?;
-    let unused = unused_imports(alloc, &source.tree, words)?;
-    let text = settled(alloc, text, source, &added, &unused)?;
+    let text = new_text(alloc, text, source, words)?;
     out.write_all(&text)
 }
 

@@ -56,7 +56,7 @@ mod uses;
 mod values;
 
 use checked::check_folder;
-use declared::show_declared;
+use declared::{flushed, show_declared};
 use go_parse::read_file;
 use go_print::print_file;
 use go_scan::{ScanError, scan};
@@ -126,54 +126,71 @@ fn takes_words(part: Part) -> bool {
 }
 
 /// What the command's words ask for: what the module in a folder declares, whether one is well typed, or a part of a
-/// file, with the words behind the file's name.
-#[derive(Drop)]
+/// file.
+#[derive(Clone, Copy)]
 enum Request {
-    Declared(String),
-    Check(String),
-    File(Part, String, Vec<String>),
+    Declared,
+    Check,
+    File(Part),
 }
 
-fn asked_by(word: &str, path: String, more: Vec<String>) -> Option<Request> {
-    if word == "declared" && more.is_empty() {
-        return Some(Request::Declared(path));
-    }
-    if word == "check" && more.is_empty() {
-        return Some(Request::Check(path));
-    }
-    let part = part_of(word)?;
-    if more.is_empty() || takes_words(part) {
-        Some(Request::File(part, path, more))
-    } else {
-        None
+/// What the first word asks for, where others stand behind the path or none do.
+fn request_of(word: &str, has_more: bool) -> Option<Request> {
+    match part_of(word) {
+        Some(part) => {
+            if has_more && !takes_words(part) {
+                None
+            } else {
+                Some(Request::File(part))
+            }
+        }
+        None => {
+            if has_more {
+                None
+            } else if word == "declared" {
+                Some(Request::Declared)
+            } else if word == "check" {
+                Some(Request::Check)
+            } else {
+                None
+            }
+        }
     }
 }
 
-fn asked<R: Env + AllocGlobal>(rt: &R) -> Result<Request, Fault> {
-    let mut words = env::args(rt)?;
-    let _program = words.next();
-    let Some(word) = words.next() else {
-        return Err(Fault::Usage);
-    };
-    let Some(path) = words.next() else {
-        return Err(Fault::Usage);
-    };
-    let more: Vec<String> = match words.collect(rt.alloc()) {
-        Ok(more) => more,
-        Err(fault) => return Err(Fault::Io(io::Error::from(fault))),
-    };
-    asked_by(word.as_str(), path, more).ok_or(Fault::Usage)
+/// The words of the command, the program's name before them.
+fn words_of<R: Env + AllocGlobal>(rt: &R) -> Result<Vec<String>, Fault> {
+    let words = env::args(rt)?;
+    match words.collect::<Vec<String>>(rt.alloc()) {
+        Ok(words) => Ok(words),
+        Err(fault) => Err(Fault::Io(io::Error::from(fault))),
+    }
 }
 
-fn text_of<R: Files + AllocGlobal>(rt: &R, path: String) -> Result<Vec<u8>, Fault>
+/// That a path can't be read. Where there is no memory for the path, why it can't.
+fn unreadable(alloc: Global, path: &str, fault: io::Error) -> Fault {
+    match String::from_str(alloc, path) {
+        Ok(path) => Fault::Unreadable(path, fault),
+        Err(_) => Fault::Io(fault),
+    }
+}
+
+fn too_large(alloc: Global, path: &str) -> Fault {
+    match String::from_str(alloc, path) {
+        Ok(path) => Fault::Large(path),
+        Err(_) => Fault::Io(io::Error::from(io::ErrorKind::OutOfMemory)),
+    }
+}
+
+fn text_of<R: Files + AllocGlobal>(rt: &R, path: &str) -> Result<Vec<u8>, Fault>
     ensures { IfOk result (λ text. vec_len text ≤ MAX_FILE_BYTES) }
 {
-    let text = match fs::read(rt, path.as_str()) {
+    let text = match fs::read(rt, path) {
         Ok(text) => text,
-        Err(fault) => return Err(Fault::Unreadable(path, fault)),
+        Err(fault) => return Err(unreadable(rt.alloc(), path, fault)),
     };
     if text.len() > MAX_FILE_BYTES as usize {
-        return Err(Fault::Large(path));
+        return Err(too_large(rt.alloc(), path));
     }
     Ok(text)
 }
@@ -225,60 +242,96 @@ fn write_print<W: Write>(alloc: Global, out: &mut W, text: &[u8]) -> io::Result<
 
 /// The answer for a folder of which was told whether it holds such a module as was asked for. Where it doesn't, gofix's
 /// line was written.
-fn answer_of(folder: String, told: io::Result<bool>) -> Result<(), Fault> {
+fn answer_of(alloc: Global, folder: &str, told: io::Result<bool>) -> Result<(), Fault> {
     match told {
         Ok(true) => Ok(()),
         Ok(false) => Err(Fault::NoModule),
-        Err(fault) => Err(Fault::Unreadable(folder, fault)),
+        Err(fault) => Err(unreadable(alloc, folder, fault)),
     }
 }
 
-/// Shows what the module in a folder declares.
-fn show_module<R: Env + Files + Print + AllocGlobal>(rt: &R, path: String) -> Result<(), Fault> {
-    let told = show_declared(rt, path.as_str());
-    answer_of(path, told)
+/// Writes a part of a file of this text.
+fn write_part<W: Write>(
+    alloc: Global,
+    out: &mut W,
+    part: Part,
+    text: &[u8],
+    more: &[String],
+) -> io::Result<()>
+    requires { length text.now ≤ MAX_FILE_BYTES }
+{
+    match part {
+        Part::Tokens => write_scan(alloc, out, text),
+        Part::Tree => write_tree(alloc, out, text),
+        Part::Print => write_print(alloc, out, text),
+        Part::Names => write_names(alloc, out, text),
+        Part::Parts => write_parts(alloc, out, text),
+        Part::Marks => write_marks(alloc, out, text),
+        Part::Uses => write_uses(alloc, out, text),
+        Part::Imports => write_imports(alloc, out, text, more),
+        Part::Need => write_need(alloc, out, text, more),
+    }
 }
 
-/// Shows whether the module in a folder is well typed.
-fn check_module<R: Env + Files + Print + AllocGlobal>(rt: &R, path: String) -> Result<(), Fault> {
-    let told = check_folder(rt, path.as_str());
-    answer_of(path, told)
+/// Writes a part of a file of this text to standard output.
+fn show_text<R: Print + AllocGlobal>(
+    rt: &R,
+    part: Part,
+    text: &[u8],
+    more: &[String],
+) -> io::Result<()>
+    requires { length text.now ≤ MAX_FILE_BYTES }
+{
+    let mut out = BufWriter::new(rt.alloc(), io::writer(rt))?;
+    let written = write_part(rt.alloc(), &mut out, part, text, more);
+    flushed(&mut out, written)
 }
 
 /// Shows a part of a file.
 fn show_file<R: Files + Print + AllocGlobal>(
     rt: &R,
     part: Part,
-    path: String,
+    path: &str,
     more: &[String],
 ) -> Result<(), Fault> {
     let text = text_of(rt, path)?;
-    let mut out = BufWriter::new(rt.alloc(), io::writer(rt))?;
-    match part {
-        Part::Tokens => write_scan(rt.alloc(), &mut out, &text)?,
-        Part::Tree => write_tree(rt.alloc(), &mut out, &text)?,
-        Part::Print => write_print(rt.alloc(), &mut out, &text)?,
-        Part::Names => write_names(rt.alloc(), &mut out, &text)?,
-        Part::Parts => write_parts(rt.alloc(), &mut out, &text)?,
-        Part::Marks => write_marks(rt.alloc(), &mut out, &text)?,
-        Part::Uses => write_uses(rt.alloc(), &mut out, &text)?,
-        Part::Imports => write_imports(rt.alloc(), &mut out, &text, more)?,
-        Part::Need => write_need(rt.alloc(), &mut out, &text, more)?,
+    match show_text(rt, part, &text, more) {
+        Ok(()) => Ok(()),
+        Err(fault) => Err(Fault::Io(fault)),
     }
-    out.flush()?;
-    Ok(())
 }
 
-fn show<R: Env + Files + Print + AllocGlobal>(rt: &R) -> Result<(), Fault> {
-    match asked(rt)? {
-        Request::Declared(path) => show_module(rt, path),
-        Request::Check(path) => check_module(rt, path),
-        Request::File(part, path, more) => show_file(rt, part, path, &more),
+fn show<R: Env + Files + Print + AllocGlobal>(
+    rt: &R,
+    request: Request,
+    path: &str,
+    more: &[String],
+) -> Result<(), Fault> {
+    match request {
+        Request::Declared => answer_of(rt.alloc(), path, show_declared(rt, path)),
+        Request::Check => answer_of(rt.alloc(), path, check_folder(rt, path)),
+        Request::File(part) => show_file(rt, part, path, more),
     }
+}
+
+/// Shows what words ask for.
+fn show_words<R: Env + Files + Print + AllocGlobal>(rt: &R, words: &[String]) -> Result<(), Fault> {
+    let [_, word, path, more @ ..] = words else {
+        return Err(Fault::Usage);
+    };
+    match request_of(word.as_str(), !more.is_empty()) {
+        Some(request) => show(rt, request, path.as_str(), more),
+        None => Err(Fault::Usage),
+    }
+}
+
+fn show_asked<R: Env + Files + Print + AllocGlobal>(rt: &R) -> Result<(), Fault> {
+    let words = words_of(rt)?;
+    show_words(rt, &words)
 }
 
 fn main(rt: HostRuntime) -> ExitCode {
-    match show(&rt) {
+    match show_asked(&rt) {
         Ok(()) => ExitCode::SUCCESS,
         // gofix's line says why.
         Err(Fault::NoModule) => ExitCode::from(1),

@@ -39,19 +39,24 @@ fn write_bad<W: Write>(out: &mut W, mark: &BadMark) -> io::Result<()> {
     writeln!(out, "{} bad: {reason}", mark.at)
 }
 
+/// Writes marks that mean something, and then others.
+fn write_each<W: Write>(out: &mut W, good: &[Mark], bad: &[BadMark]) -> io::Result<()> {
+    for mark in good {
+        write_good(out, mark)?;
+    }
+    for mark in bad {
+        write_bad(out, mark)?;
+    }
+    Ok(())
+}
+
 /// Writes the marks of a file that is read.
 fn write_both<W: Write>(alloc: Global, out: &mut W, text: &[u8], source: &Source) -> io::Result<()>
     requires { length text.now ≤ MAX_FILE_BYTES }
 {
     let blocks = file_blocks(alloc, &source.tree)?;
     let marks = marks(alloc, text, &source.tokens, &source.tree, &blocks.names)?;
-    for mark in marks.good() {
-        write_good(out, mark)?;
-    }
-    for mark in marks.bad() {
-        write_bad(out, mark)?;
-    }
-    Ok(())
+    write_each(out, marks.good(), marks.bad())
 }
 
 /// Writes each mark of a file that means something as `OFFSET KIND NAME`, where the name stands, and then each other as

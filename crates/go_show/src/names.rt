@@ -5,7 +5,7 @@ ghost use Rattle.go_tree.specs.FileView.{file_of};
 ghost use Rattle.scope_tables.specs.Table as rows;
 ghost use Rattle.scope_tables.specs.Table.{IsTableOf};
 
-use crate::blocks::{FileBlocks, file_blocks};
+use crate::blocks::file_blocks;
 use crate::tree::write_fault;
 use go_parse::{Source, read_file};
 use go_tree::scope_names::{Entity, FileNames};
@@ -52,9 +52,9 @@ fn write_identifier<W: Write>(
     token: &Token,
 ) -> io::Result<()> {
     let at = token.span.start;
-    let name = Name::copied(alloc, token.spelling.items())?;
     write!(out, "{at} ")?;
-    out.write_all(name.items())?;
+    out.write_all(token.spelling.items())?;
+    let name = Name::copied(alloc, token.spelling.items())?;
     let (entity, captured) = (table.lookup(&name, at), table.captured(&name, at));
     write_meaning(out, members, entity, captured)
 }
@@ -70,16 +70,27 @@ pub fn table_of(alloc: Global, file: &FileTree, names: &FileNames) -> io::Result
     Ok(scopes(alloc, file, names)?)
 }
 
-/// Writes the identifiers of a file that is read.
-fn write_identifiers<W: Write>(alloc: Global, out: &mut W, source: &Source) -> io::Result<()> {
-    let FileBlocks { names, members } = file_blocks(alloc, &source.tree)?;
-    let table = table_of(alloc, &source.tree, &names)?;
-    for token in source.tokens.items() {
+/// Writes those of the tokens that are identifiers.
+fn write_each<W: Write>(
+    alloc: Global,
+    out: &mut W,
+    table: &Scopes,
+    members: &[Span],
+    tokens: &[Token],
+) -> io::Result<()> {
+    for token in tokens {
         if token.kind == TokenKind::Ident {
-            write_identifier(alloc, out, &table, &members, token)?;
+            write_identifier(alloc, out, table, members, token)?;
         }
     }
     Ok(())
+}
+
+/// Writes the identifiers of a file that is read.
+fn write_identifiers<W: Write>(alloc: Global, out: &mut W, source: &Source) -> io::Result<()> {
+    let blocks = file_blocks(alloc, &source.tree)?;
+    let table = table_of(alloc, &source.tree, &blocks.names)?;
+    write_each(alloc, out, &table, &blocks.members, source.tokens.items())
 }
 
 /// Writes each identifier of a file as `OFFSET NAME` and what the name means there: `local`, `import` or `package` with

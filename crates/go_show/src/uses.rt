@@ -29,6 +29,17 @@ fn unknown_place(alloc: Global) -> Scope
     }
 }
 
+/// The names that were found, if the walk ended.
+fn found_by(
+    walked: Result<(), NoMemory>,
+    tables: Tables,
+    found: NameSet,
+) -> Result<NameSet, NoMemory> {
+    drop(tables);
+    walked?;
+    Ok(found)
+}
+
 /// The names that declarations use, where nothing is known of what names mean.
 fn used_by(alloc: Global, decls: &[Decl]) -> Result<NameSet, NoMemory> {
     let tables = Tables::new(alloc)?;
@@ -37,9 +48,7 @@ fn used_by(alloc: Global, decls: &[Decl]) -> Result<NameSet, NoMemory> {
     let mut uses = NameUses::new(alloc, tables, &blocks, &[], &scope);
     let walked = decls_uses(alloc, &mut uses, decls);
     let (tables, found) = uses.finish();
-    drop(tables);
-    walked?;
-    Ok(found)
+    found_by(walked, tables, found)
 }
 
 fn write_import<W: Write>(out: &mut W, import: &ImportName, used: &NameSet) -> io::Result<()> {
@@ -51,14 +60,18 @@ fn write_import<W: Write>(out: &mut W, import: &ImportName, used: &NameSet) -> i
     }
 }
 
+fn write_each<W: Write>(out: &mut W, imports: &[ImportName], used: &NameSet) -> io::Result<()> {
+    for import in imports {
+        write_import(out, import, used)?;
+    }
+    Ok(())
+}
+
 /// Writes the imports of a file that is read.
 fn write_imports<W: Write>(alloc: Global, out: &mut W, file: &FileTree) -> io::Result<()> {
     let imports = file_imports(alloc, file)?;
     let used = used_by(alloc, file.decls.items())?;
-    for import in imports.items() {
-        write_import(out, import, &used)?;
-    }
-    Ok(())
+    write_each(out, imports.items(), &used)
 }
 
 /// Writes the name of each import of a file, and whether its declarations use it, `used` or `unused`; of a file without a

@@ -14,8 +14,14 @@ pub mod Shows
 pub mod Numbered
 pub mod Rises
 pub mod KeptImports
+pub mod OtherFiles
 pub mod KeptUses
 pub mod Members
+pub mod Absent
+pub mod NoBlank
+pub mod NoneWritten
+pub mod BlankUses
+mod BlankExample
 pub mod Led
 pub mod Imports
 pub mod Around

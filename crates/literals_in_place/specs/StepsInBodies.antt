@@ -2,4 +2,5 @@
 -- specification, Blocks; Calls; Function declarations).
 pub mod Once
 pub mod Functions
+pub mod NoConstants
 pub mod Laws

@@ -15,5 +15,6 @@ pub use laws::{
 };
 pub use steps_in_bodies::{
     found_uses_stand_once, steps_in_bodies_show_the_same, steps_put_literals_in_bodies,
+    typed_parts_use_no_blank,
 };
-pub use typed_steps::{typed_steps_show_the_same, typing_clears_uses};
+pub use typed_steps::{literal_steps_keep_programs, typed_steps_show_the_same, typing_clears_uses};

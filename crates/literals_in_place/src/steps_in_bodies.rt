@@ -2,7 +2,8 @@
 
 ghost use Rattle.literals_in_place.specs.StepsInBodies.Laws.{BodiesWithForms, BodiesWithFormsAreTyped};
 ghost use Rattle.literals_in_place.specs.StepsInBodies.Laws.{FoundUsesStandOnce, FunctionsAroundLead};
-ghost use Rattle.literals_in_place.specs.StepsInBodies.Laws.{ImportsStayUsed, PackagesWithForms};
+ghost use Rattle.literals_in_place.specs.StepsInBodies.Laws.{ImportsStayUsed, LiteralsUseBlankAlike};
+ghost use Rattle.literals_in_place.specs.StepsInBodies.Laws.{PackagesWithForms, TypedPartsUseNoBlank};
 ghost use Rattle.literals_in_place.specs.StepsInBodies.Laws.{StepsInBodiesShowTheSame};
 
 /// What a run makes of a body, with the form of a call in its place, is a body in which the form stands in the
@@ -13,6 +14,13 @@ pub fn steps_put_literals_in_bodies()
     ensures bodies { BodiesWithForms }
     ensures packages { PackagesWithForms }
     ensures typed { BodiesWithFormsAreTyped }
+{}
+
+/// What is typed and declares no constants doesn't use `_`, where that means nothing (Go specification, Blank
+/// identifier). So a call and its literal use it alike: a body that is written at a call declares no constants.
+pub fn typed_parts_use_no_blank()
+    ensures parts { TypedPartsUseNoBlank }
+    ensures literals { LiteralsUseBlankAlike }
 {}
 
 /// Where the function around is marked, and the one that is called, it leads to that one. After a step of a run that

@@ -1,4 +1,4 @@
-//! Tests of the calls of lower crates: a crate with tests of its own is proved twice.
+//! Tests of the calls of lower crates that no program makes: a crate with tests of its own is proved twice.
 #![tactic(auto)]
 
 #[cfg(test)]
@@ -9,11 +9,3 @@ mod edits;
 mod hazards;
 #[cfg(test)]
 mod io;
-#[cfg(test)]
-mod tokens;
-#[cfg(test)]
-mod value_rows;
-#[cfg(test)]
-mod values;
-#[cfg(test)]
-mod words;

@@ -146,6 +146,8 @@ func unescaped(text string) string {
 			out = append(out, '\n')
 		case 't':
 			out = append(out, '\t')
+		case 'r':
+			out = append(out, '\r')
 		case '\\':
 			out = append(out, '\\')
 		case 'x':

@@ -9,7 +9,10 @@ use Rattle.run_rules.specs.Respanned.{source_with, packages_with}
 use Rattle.run_rules.specs.Texts.{FileText}
 use Rattle.run_rules.specs.Sites.{MarkRef}
 use Rattle.run_rules.specs.Cycles.{is_recursive}
-use Rattle.run_rules.specs.Steps.{At}
+use Rattle.run_rules.specs.Steps.{At, change_nth}
+use Rattle.run_rules.specs.ImportRules.SettledNames.{IsOwnName}
+use Rattle.constant_steps.specs.FormImports.OwnNames.{AllOwn}
+use Rattle.constant_steps.proofs.FormImports.OwnNames.{read_packages_are_named}
 use Rattle.run_rules.specs.Run.{Standing, Logged, Next, Run, ends, goes_on, as_read}
 use Rattle.run_rules.specs.Inlining.{ModuleReads, standing_as_read}
 use Rattle.splice_laws.specs.RunLaws.Reading.{ProgramReads, FileAt, OnePathEach}
@@ -65,32 +68,43 @@ literal_way marks st l after n h reads s (puts_body b k) m = body_step marks st 
 literal_way marks st l after n h reads s (puts_block b k) m = block_step marks st l after n k h reads s b m
 literal_way marks st l after n h reads s (puts_expression b k) m = expression_step marks st l after n k h reads s b m
 
-arguments_way : (marks : List MarkRef) (st : Standing) (l : Logged) (after : Standing) (n : Next marks st l after) → Linked st.packages → ProgramReads st → SettlesFile n → StandsInFunction n → PutsArgumentsPlaced n → (m : MarkRef) → is_recursive st.packages marks m ≡ is_recursive after.packages marks m
-arguments_way marks st l after n h reads s b (an_expression k) m = placed_step marks st l after n k h reads s b m
-arguments_way marks st l after n h reads s b (a_block k) m = placed_block_step marks st l after n k h reads s b m
-arguments_way marks st l after n h reads s b (a_literal k) m = placed_literal_step marks st l after n k h reads s b m
-arguments_way marks st l after n h reads s b (a_free_block k) m = free_block_step marks st l after n k h reads s b m
-arguments_way marks st l after n h reads s b (a_free_literal k) m = free_literal_step marks st l after n k h reads s b m
-arguments_way marks st l after n h reads s b (a_typed_block k) m = typed_block_step marks st l after n k h reads s b m
-arguments_way marks st l after n h reads s b (a_typed_literal k) m = typed_literal_step marks st l after n k h reads s b m
-arguments_way marks st l after n h reads s b (a_block_with_methods k) m = methods_block_step marks st l after n k h reads s b m
-arguments_way marks st l after n h reads s b (a_literal_with_methods k) m = methods_literal_step marks st l after n k h reads s b m
-arguments_way marks st l after n h reads s b (an_added_expression k) m = added.expression_step marks st l after n k h reads s b m
-arguments_way marks st l after n h reads s b (an_added_block k) m = added.block_step marks st l after n k h reads s b m
-arguments_way marks st l after n h reads s b (an_added_literal k) m = added.literal_step marks st l after n k h reads s b m
-arguments_way marks st l after n h reads s b (a_found_expression k) m = added.expression_step marks st l after n (becoming.expression_added marks st l after n h s k) h reads s b m
-arguments_way marks st l after n h reads s b (a_found_block k) m = added.block_step marks st l after n (becoming.block_added marks st l after n h s k) h reads s b m
-arguments_way marks st l after n h reads s b (a_found_literal k) m = added.literal_step marks st l after n (becoming.literal_added marks st l after n h s k) h reads s b m
+arguments_way : (marks : List MarkRef) (st : Standing) (l : Logged) (after : Standing) (n : Next marks st l after) → Linked st.packages → AllOwn st.packages → ProgramReads st → SettlesFile n → StandsInFunction n → PutsArgumentsPlaced n → (m : MarkRef) → is_recursive st.packages marks m ≡ is_recursive after.packages marks m
+arguments_way marks st l after n h own reads s b (an_expression k) m = placed_step marks st l after n k h reads s b m
+arguments_way marks st l after n h own reads s b (a_block k) m = placed_block_step marks st l after n k h reads s b m
+arguments_way marks st l after n h own reads s b (a_literal k) m = placed_literal_step marks st l after n k h reads s b m
+arguments_way marks st l after n h own reads s b (a_free_block k) m = free_block_step marks st l after n k h reads s b m
+arguments_way marks st l after n h own reads s b (a_free_literal k) m = free_literal_step marks st l after n k h reads s b m
+arguments_way marks st l after n h own reads s b (a_typed_block k) m = typed_block_step marks st l after n k h reads s b m
+arguments_way marks st l after n h own reads s b (a_typed_literal k) m = typed_literal_step marks st l after n k h reads s b m
+arguments_way marks st l after n h own reads s b (a_block_with_methods k) m = methods_block_step marks st l after n k h reads s b m
+arguments_way marks st l after n h own reads s b (a_literal_with_methods k) m = methods_literal_step marks st l after n k h reads s b m
+arguments_way marks st l after n h own reads s b (an_added_expression k) m = added.expression_step marks st l after n k h reads s b m
+arguments_way marks st l after n h own reads s b (an_added_block k) m = added.block_step marks st l after n k h reads s b m
+arguments_way marks st l after n h own reads s b (an_added_literal k) m = added.literal_step marks st l after n k h reads s b m
+arguments_way marks st l after n h own reads s b (a_found_expression k) m = added.expression_step marks st l after n (becoming.expression_added marks st l after n h s own k) h reads s b m
+arguments_way marks st l after n h own reads s b (a_found_block k) m = added.block_step marks st l after n (becoming.block_added marks st l after n h s own k) h reads s b m
+arguments_way marks st l after n h own reads s b (a_found_literal k) m = added.literal_step marks st l after n (becoming.literal_added marks st l after n h s own k) h reads s b m
 
-one_way : (marks : List MarkRef) (st : Standing) (l : Logged) (after : Standing) (n : Next marks st l after) → Linked st.packages → ProgramReads st → SettlesFile n → KeepsCallCycles n → (m : MarkRef) → is_recursive st.packages marks m ≡ is_recursive after.packages marks m
-one_way marks st l after n h reads s (keeps_cycles k) m = literal_way marks st l after n h reads s k m
-one_way marks st l after n h reads s (puts_arguments b k) m = arguments_way marks st l after n h reads s b k m
+one_way : (marks : List MarkRef) (st : Standing) (l : Logged) (after : Standing) (n : Next marks st l after) → Linked st.packages → AllOwn st.packages → ProgramReads st → SettlesFile n → KeepsCallCycles n → (m : MarkRef) → is_recursive st.packages marks m ≡ is_recursive after.packages marks m
+one_way marks st l after n h own reads s (keeps_cycles k) m = literal_way marks st l after n h reads s k m
+one_way marks st l after n h own reads s (puts_arguments b k) m = arguments_way marks st l after n h own reads s b k m
 
-run_keeps : (marks : List MarkRef) (st last : Standing) (log : List Logged) (run : Run marks st log last) → Linked st.packages → ProgramReads st → OnePathEach st.packages → AllKeepCallCycles run → (m : MarkRef) → is_recursive st.packages marks m ≡ is_recursive last.packages marks m
-run_keeps marks _ _ _ (ends st over) h reads one a m = refl
-run_keeps marks _ _ _ (goes_on st next last l log n run) h reads one a m =
-    one_way marks st l next n h reads a.0 a.1.0 m ∙ run_keeps marks next last log run (step-linked marks st l next n h (writes-of a.0)) (next_reads marks st l next n reads one) (next_paths marks st l next n reads one) a.1.1 m
+-- a step leaves the names of packages
+own_next : (F : Package At → Package At) → ((p : Package At) → (F p).name ≡ p.name) → (k : ℕ) (ps : List (Package At)) → AllOwn ps → AllOwn (change_nth k F ps)
+own_next F same k [] h = tt
+own_next F same zero (p ∷ ps) h = (subst IsOwnName (sym (same p)) h.0, h.1)
+own_next F same (suc k) (p ∷ ps) h = (h.0, own_next F same k ps h.1)
+
+step_own : (marks : List MarkRef) (st : Standing) (l : Logged) (after : Standing) (n : Next marks st l after) → AllOwn st.packages → AllOwn after.packages
+step_own marks st l after n h =
+    let F : Package At → Package At = λ p. record p { files = change_nth n.found.site.at.file_number (λ (s : SourceTree At). record s { tree = n.tree }) p.files } in
+    subst (λ (qs : List (Package At)). AllOwn qs) (sym n.packages_are) (own_next F (λ p. refl) n.found.site.at.number st.packages h)
+
+run_keeps : (marks : List MarkRef) (st last : Standing) (log : List Logged) (run : Run marks st log last) → Linked st.packages → AllOwn st.packages → ProgramReads st → OnePathEach st.packages → AllKeepCallCycles run → (m : MarkRef) → is_recursive st.packages marks m ≡ is_recursive last.packages marks m
+run_keeps marks _ _ _ (ends st over) h own reads one a m = refl
+run_keeps marks _ _ _ (goes_on st next last l log n run) h own reads one a m =
+    one_way marks st l next n h own reads a.0 a.1.0 m ∙ run_keeps marks next last log run (step-linked marks st l next n h (writes-of a.0)) (step_own marks st l next n own) (next_reads marks st l next n reads one) (next_paths marks st l next n reads one) a.1.1 m
 
 pub call_runs_keep : (files : List Source) (ps : List (Package Span)) (texts : List (List ℕ × FileText)) (marks : List MarkRef) (last : Standing) (log : List Logged) → ModuleReads files ps texts → Linked (standing_as_read ps texts).packages
     → (run : Run marks (standing_as_read ps texts) log last) → AllKeepCallCycles run → (m : MarkRef) → is_recursive (standing_as_read ps texts).packages marks m ≡ is_recursive last.packages marks m
-call_runs_keep files ps texts marks last log r h run a m = run_keeps marks (standing_as_read ps texts) last log run h (modules_read files ps texts r) (paths_as_read ps (paths_own files ps texts r).0) a m
+call_runs_keep files ps texts marks last log r h run a m = run_keeps marks (standing_as_read ps texts) last log run h (read_packages_are_named files ps texts r) (modules_read files ps texts r) (paths_as_read ps (paths_own files ps texts r).0) a m

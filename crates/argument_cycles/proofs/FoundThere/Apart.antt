@@ -114,7 +114,7 @@ module _ (ps : List (Package At)) (w : Where At) where
       no-member (package_block k w.of) (numbered predeclared 0 scope.predeclared) m ((λ v. is_among (files-so k 0 0 w.of.files v) m) ∙ c.1) (no-predeclared 0 scope.predeclared m a.1)
 
   module _ (qs : List (Package At)) (h : PackagesBeside ps qs) (paths : NamesByPath ps) (z : At) where
-    import-named : (q : ℕ) (n : List ℕ) → import_name qs (spec_for z (added_import ps q n)) ≡ n
+    pub import-named : (q : ℕ) (n : List ℕ) → import_name qs (spec_for z (added_import ps q n)) ≡ n
     import-named q n = by (bytes_eq n (own_name ps q)) refl
       where
         by : (b : Bool) → bytes_eq n (own_name ps q) ≡ b → name_or (if not b then Some (record { span = z; name = n }) else None) (package_name qs (package_path ps q)) ≡ n
@@ -141,7 +141,7 @@ append-none : {A : Type 0} (xs : List A) → xs ++ [] ≡ xs
 append-none [] = refl
 append-none (x ∷ xs) = λ v. x ∷ append-none xs v
 
-specs-added : (z : At) (is : List NewImport) → specs_in (added_decls z is) ≡ map (spec_for z) is
+pub specs-added : (z : At) (is : List NewImport) → specs_in (added_decls z is) ≡ map (spec_for z) is
 specs-added z [] = refl
 specs-added z (i ∷ is) = append-none (map (spec_for z) (i ∷ is))
 

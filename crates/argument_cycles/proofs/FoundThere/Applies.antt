@@ -1,54 +1,44 @@
--- The same forms apply to a call at two places that differ in nothing but what names mean, if the call of a function with one
--- result isn't a statement of its own.
-use Rattle.std.proofs.Common.{◌≡◌, refl, sym, ap, subst, ◌∙◌, ◌⊎◌, inl, inr, ℕ, zero, suc, Bool, true, false, not, ◌&&◌, ◌||◌, List, [], ◌∷◌, ◌++◌, map, Option, Some, None, if◌then◌else◌, nat_eq}
+-- The same forms apply to a call at two places that differ in nothing but what names mean.
+use Rattle.std.proofs.Common.{◌≡◌, refl, sym, ap, subst, ◌∙◌, ℕ, Bool, true, false, not, ◌&&◌, ◌||◌, List, [], ◌∷◌, Option, Some, None, if◌then◌else◌, nat_eq}
 use Rattle.std.specs.Prelude.{nat_lt, is_some}
-use Rattle.std.specs.List.{list_any, list_all, count_by}
-use Rattle.go_tree.specs.declared.exprs.Rest.TheVariants.{Plain}
-use Rattle.go_tree.specs.Tree.{NameAt, TypeExpr, Param, Expr, ident, selector, call, func_lit, Exprs, no_exprs, expr_and, Stmt, eval, assign, define, inner, return_, label, Stmts, no_stmts, stmt_and}
+use Rattle.std.specs.List.{list_all}
+use Rattle.go_tree.specs.Tree.{TypeExpr, Expr, ident, no_exprs, expr_and, Stmt, eval, assign, return_, label}
 use Rattle.go_tree.specs.File.{Func}
-use Rattle.go_tree.specs.ScopeNames.Identifiers.{name_option, type_identifiers, params_identifiers, expr_identifiers, exprs_identifiers, stmt_identifiers, stmts_identifiers}
+use Rattle.go_tree.specs.ScopeNames.Identifiers.{params_identifiers, expr_identifiers, stmt_identifiers}
 use Rattle.go_tree.specs.ScopeNames.Scopes.{expr_span}
 use Rattle.go_tree.specs.ScopeNames.Means.{means}
 use Rattle.go_tree.specs.declared.const_eval.consts.Const.{Const}
-use Rattle.param_choice.specs.Chosen.{has}
 use Rattle.pkg_graph.specs.Package.{Package}
 use Rattle.go_tree.specs.GoTypes.Agreement.{In, head, tail}
-use Rattle.go_tree.specs.GoTypes.Answers.{given, meets, otherwise, is_empty}
-use Rattle.go_tree.specs.GoTypes.Bodies.{has_names}
+use Rattle.go_tree.specs.GoTypes.Answers.{given, meets, is_empty}
+use Rattle.go_tree.specs.GoTypes.Bodies.{Ctx, has_names}
 use Rattle.go_tree.specs.GoTypes.Entities.{World, Env, Entity, variable, stand_in, elsewhere, exact}
 use Rattle.go_tree.specs.GoTypes.Operands.{Operand, several, Typed, typed}
-use Rattle.go_tree.specs.GoTypes.Primary.{stands_alone}
 use Rattle.go_tree.specs.GoTypes.Recorded.{recorded_stmt, hardens}
 use Rattle.go_tree.specs.GoTypes.Types.{GoType}
-use Rattle.go_tree.specs.GoTypes.Typing.{parts, stmt, is_call}
+use Rattle.go_tree.specs.GoTypes.Typing.{parts, stmt}
 use Rattle.typed_in_place.specs.SameWorlds.SameWorlds.{SameWorld}
-use Rattle.run_rules.specs.BodyItems.{number_of}
-use Rattle.run_rules.specs.Rewriting.{Changes, new_stmt, new_params}
-use Rattle.run_rules.specs.Calls.{Given, Call, exprs_of, is_recover, declared_place, param_name, blank, is_stored, uses}
+use Rattle.run_rules.specs.Rewriting.{Changes, new_stmt}
+use Rattle.run_rules.specs.Calls.{Given, Call, is_recover, declared_place, blank, is_stored, uses}
 use Rattle.run_rules.specs.Calls as calls
-use Rattle.run_rules.specs.Conversions.{converts}
-use Rattle.run_rules.specs.FormTrees.{FormKind, ConstForm, TypeForm, ExprForm, BlockForm, TailForm, LiteralForm, Form, as_expr, as_dropped, as_block, hole, is_statement, in_list, returned_types, all_identical, only_one, conversion, a_name, one_expr, top, type_expr}
+use Rattle.run_rules.specs.FormTrees.{FormKind, ConstForm, TypeForm, ExprForm, BlockForm, TailForm, LiteralForm, Form, as_expr, as_dropped, hole, is_statement, in_list, returned_types, all_identical, top}
 use Rattle.run_rules.specs.Forms as forms
 use Rattle.run_rules.specs.Forms.{is_at, expr_in_place, stmt_in_place, in_place}
-use Rattle.run_rules.specs.Naming.{Names, type_there}
-use Rattle.run_rules.specs.Programs.{numbered, world, param_types}
+use Rattle.run_rules.specs.Naming.{Names}
+use Rattle.run_rules.specs.Programs.{world}
 use Rattle.run_rules.specs.Sites.{Where, is_deferred}
-use Rattle.run_rules.specs.Surroundings.{Use, whole, returned, deferred_call, other, Around, Place, Seen, seen, seen_stmt, local_at}
-use Rattle.std.specs.Prelude.{is_none, bytes_eq}
+use Rattle.run_rules.specs.Surroundings.{Use, deferred_call, Around, Place, Seen, seen, seen_stmt}
 use Rattle.std.proofs.lemmas.Option.{same_Some}
 use Rattle.go_tree.proofs.GoTypes.Agreeing.{under_same}
 use Rattle.order_runs.proofs.CycleRuns.LedImports.Walk as kept_
-use Rattle.order_runs.proofs.CycleRuns.LedImports.Walk.{Keeps, Puts, stmt-kept}
 use Rattle.argument_cycles.proofs.FoundThere.Chosen as chosen
 use Rattle.argument_cycles.proofs.FoundThere.Envs as envs
 use Rattle.argument_cycles.proofs.FoundThere.Envs.{Alike}
-use Rattle.argument_cycles.proofs.FoundThere.Names as names_
-use Rattle.argument_cycles.proofs.FoundThere.Names.{Reads}
+use Rattle.argument_cycles.proofs.FoundThere.PutNames.{Puts, stmt-kept}
 use Rattle.argument_cycles.proofs.FoundThere.Read as read
 use Rattle.argument_cycles.proofs.FoundThere.Recorded as told
 use Rattle.argument_cycles.proofs.FoundThere.Rewritten as rewritten
 use Rattle.argument_cycles.proofs.FoundThere.Forms as trees
-use Rattle.argument_cycles.proofs.FoundThere.Walk as walk
 use Rattle.argument_cycles.proofs.FoundThere.Walk.{Both, no_around, one_around, Arounds, Part, Parts}
 
 module _ (left right : World) (same : SameWorld left right) (Q : List ℕ → Type 0) {S : Type 0} (eq : S → S → Bool) (zone z : S) where
@@ -56,8 +46,21 @@ module _ (left right : World) (same : SameWorld left right) (Q : List ℕ → Ty
   abbrev pub H : Expr S
   H = ident z hole
 
-  abbrev pub C : Changes S
-  C = in_place eq zone (as_expr H)
+  -- the form that it is, or that it is assigned in to `_`
+  abbrev pub put : Bool → Form S
+  put dropped = if dropped then as_dropped H else as_expr H
+
+  abbrev pub C : Bool → Changes S
+  C dropped = in_place eq zone (put dropped)
+
+  expr-put-so : (t : Bool) (p q : Place S) (u : Use) (x : Expr S) → expr_in_place eq zone (put t) p u x ≡ expr_in_place eq zone (put t) q u x
+  expr-put-so true p q u x = refl
+  expr-put-so false p q u x = refl
+
+  stmt-put-so : (t : Bool) (p q : Place S) (s : Stmt S) → stmt_in_place eq zone (put t) p s ≡ stmt_in_place eq zone (put t) q s
+  stmt-put-so true p q (eval y x) = refl
+  stmt-put-so true p q s = refl
+  stmt-put-so false p q s = refl
 
   -- further knowledge of names is let go
   let-go : {ns : List (List ℕ)} {a b : Env} → Alike left right same Q ns a b → Alike left right same (λ n. Unit {0}) ns a b
@@ -71,21 +74,43 @@ module _ (left right : World) (same : SameWorld left right) (Q : List ℕ → Ty
     of-hole _ head = refl
     of-hole n (tail i) = elim i [ ]
 
-    puts : Puts Means C
-    puts = record { expr = λ p w x y r. record { go = λ old n i. by x y (is_at eq zone x) r n i }; types = λ p t. kept_.same Means refl; no_stmt = λ p s. refl }
-      where
-        by : (x y : Expr S) (t : Bool) → (if t then Some H else None) ≡ Some y → (n : List ℕ) → In n (expr_identifiers y) → Means n
-        by x y true r n i = of-hole n (subst (λ (k : Expr S). In n (expr_identifiers k)) (sym (same_Some H y r)) i)
-        by x y false r n i = absurd cc
+    -- what is assigned to `_` brings this name besides
+    of-both : (n : List ℕ) → In n (blank ∷ hole ∷ []) → Means n
+    of-both _ head = under_same blank ((hole, d) ∷ []) a.names b.names ((h.agrees).blank blank refl)
+    of-both n (tail i) = of-hole n i
 
-    abbrev T : Stmt S
-    T = new_stmt C p true s
+    expr-puts : (t : Bool) (q : Place S) (u : Use) (x y : Expr S) → expr_in_place eq zone (put t) q u x ≡ Some y → (n : List ℕ) → In n (expr_identifiers y) → Means n
+    expr-puts true q u x y r n i = absurd cc
+    expr-puts false q u x y r n i = by (is_at eq zone x) r
+      where
+        by : (t : Bool) → (if t then Some H else None) ≡ Some y → Means n
+        by true r = of-hole n (subst (λ (k : Expr S). In n (expr_identifiers k)) (sym (same_Some H y r)) i)
+        by false r = absurd cc
+
+    stmt-puts : (t : Bool) (q : Place S) (s r : Stmt S) → stmt_in_place eq zone (put t) q s ≡ Some r → (n : List ℕ) → In n (stmt_identifiers r) → Means n
+    stmt-puts true q (eval y x) r e n i = by (is_at eq zone x) e
+      where
+        by : (t : Bool) → (if t then Some (assign y (expr_and (ident y blank) no_exprs) None (expr_and H no_exprs)) else None) ≡ Some r → Means n
+        by true e = of-both n (subst (λ (k : Stmt S). In n (stmt_identifiers k)) (sym (same_Some (assign y (expr_and (ident y blank) no_exprs) None (expr_and H no_exprs)) r e)) i)
+        by false e = absurd cc
+    stmt-puts true q s r e n i = absurd cc
+    stmt-puts false q s r e n i = absurd cc
+
+    puts : (t : Bool) → Puts Means (C t)
+    puts t = record {
+      expr = λ q u x y r. record { go = λ old n i. expr-puts t q u x y r n i };
+      types = λ q t. kept_.same Means refl;
+      stmt = λ q s r e. record { go = λ old n i. stmt-puts t q s r e n i };
+    }
+
+    abbrev T : Bool → Stmt S
+    T t = new_stmt (C t) p true s
 
     -- with a meaning of the name, the names of what is written mean the same
-    pub with-hole : Alike left right same (λ n. Unit {0}) (stmt_identifiers T) (record a { names = (hole, d) ∷ a.names }) (record b { names = (hole, d) ∷ b.names })
-    with-hole =
+    pub with-hole : (t : Bool) → Alike left right same (λ n. Unit {0}) (stmt_identifiers (T t)) (record a { names = (hole, d) ∷ a.names }) (record b { names = (hole, d) ∷ b.names })
+    with-hole t =
         let g = envs.named left right same (λ n. Unit {0}) {bs = (hole, d) ∷ []} {cs = (hole, d) ∷ []} refl (let-go h) in
-        record { world = g.world; is = g.is; agrees = g.agrees; on = λ n i. (stmt-kept Means C puts p true s).go (λ m j. under_same m ((hole, d) ∷ []) a.names b.names (h.on m j)) n i; so = λ n i. tt }
+        record { world = g.world; is = g.is; agrees = g.agrees; on = λ n i. (stmt-kept Means (C t) (puts t) p true s).go (λ m j. under_same m ((hole, d) ∷ []) a.names b.names (h.on m j)) n i; so = λ n i. tt }
 
 module _ {S : Type 0} (eq : S → S → Bool) (ps qs : List (Package S)) (same : SameWorld (world ps) (world qs)) (Q : List ℕ → Type 0) (home now : Where S) (f : Func S) (number : ℕ) (xs ys : List (Seen S)) (p q : Place S) (u : Use) (e : Expr S) (z : S)
     (w1 w2 : TypeExpr S → TypeExpr S) (nums : now.number ≡ home.number) where
@@ -104,7 +129,7 @@ module _ {S : Type 0} (eq : S → S → Bool) (ps qs : List (Package S)) (same :
   abbrev k : Call S
   k = trees.k eq ps qs same Q home now f number xs ys p q u e z w1 w2 nums
 
-  module _ (h : trees.Alike_ eq ps qs same Q home now f number xs ys p q u e z w1 w2 nums) (results : Both L R same P (params_identifiers f.sig.results) (top ps c) (top qs k)) (kept : List Bool) (names : Names) (dropped : (is_statement u ≡ false) ⊎ (forms.result_type eq ps c names kept ≡ None)) where
+  module _ (h : trees.Alike_ eq ps qs same Q home now f number xs ys p q u e z w1 w2 nums) (results : Both L R same P (params_identifiers f.sig.results) (top ps c) (top qs k)) (kept : List Bool) (names : Names) where
     abbrev AtBody : Expr S → Type 0
     AtBody x = Both L R same P (expr_identifiers x) (calls.start_with eq ps c kept) (calls.start_with eq qs k kept)
 
@@ -126,41 +151,49 @@ module _ {S : Type 0} (eq : S → S → Bool) (ps qs : List (Package S)) (same :
     zone = expr_span e
 
     -- the statement with the name in the call's place
-    abbrev written : Place S → Around S → Stmt S
-    written r a = new_stmt (C L R same Q eq zone z) (record r { env = a.env; ctx = a.ctx; bound = a.bound }) true a.stmt
+    abbrev written : Bool → Place S → Around S → Stmt S
+    written d r a = new_stmt (C L R same Q eq zone z d) (record r { env = a.env; ctx = a.ctx; bound = a.bound }) true a.stmt
 
-    module _ (ns : is_statement u ≡ false) (x : Expr S) where
-      holed-here : (a : Around S) → forms.holed eq ps c names kept a x ≡ written p a
-      holed-here a = λ v. new_stmt (in_place eq zone (if ns v && not (forms.is_statement_call eq ps c names kept x) then as_dropped (ident z hole) else as_expr (ident z hole))) (record p { env = a.env; ctx = a.ctx; bound = a.bound }) true a.stmt
+    -- it is assigned to `_` there
+    abbrev dropped : Expr S → Bool
+    dropped x = is_statement u && not (forms.is_statement_call eq ps c names kept x)
 
-      holed-there : (b : Around S) → forms.holed eq qs k names kept b x ≡ written q b
-      holed-there b = λ v. new_stmt (in_place eq zone (if ns v && not (forms.is_statement_call eq qs k names kept x) then as_dropped (ident z hole) else as_expr (ident z hole))) (record q { env = b.env; ctx = b.ctx; bound = b.bound }) true b.stmt
+    abbrev dropped_there : Expr S → Bool
+    dropped_there x = is_statement u && not (forms.is_statement_call eq qs k names kept x)
 
-      module _ (a b : Around S) (w : b ≡ record a { env = b.env }) (g : Alike L R same Q (stmt_identifiers a.stmt) a.env b.env) where
-        places : Both L R same Q (stmt_identifiers a.stmt) (record p { env = a.env; ctx = a.ctx; bound = a.bound }) (record q { env = b.env; ctx = a.ctx; bound = a.bound })
-        places = record { env = g; is = λ v. record ((h.at).is v) { env = b.env; ctx = a.ctx; bound = a.bound }; around = (h.at).around }
+    dropped-so : (x : Expr S) → AtBody x → dropped x ≡ dropped_there x
+    dropped-so x g = λ v. is_statement u && not (trees.call-so eq ps qs same Q home now f number xs ys p q u e z w1 w2 nums h results kept names x g v)
 
-        written-so : written p a ≡ written q b
-        written-so =
-            rewritten.stmt-so L R same Q (λ y. y) (expr_in_place eq zone (as_expr (ident z hole))) (expr_in_place eq zone (as_expr (ident z hole))) (λ r t. t) (λ r t. t) (stmt_in_place eq zone (as_expr (ident z hole))) (stmt_in_place eq zone (as_expr (ident z hole)))
-            (λ r s w x i. refl) (λ r s t i. refl) (λ r s t. refl) true a.stmt places
-            ∙ sym (λ v. new_stmt (C L R same Q eq zone z) (record q { env = b.env; ctx = (w v).ctx; bound = (w v).bound }) true (w v).stmt)
+    -- with a constant in the call's place the statement isn't typed, or a shift in it is constant only then
+    abbrev faulty : Ctx → Env → Stmt S → GoType → Const → Bool
+    faulty j a s t y =
+        not (is_some (stmt j (record a { names = (hole, stand_in elsewhere t (exact y)) ∷ a.names }) s))
+        || hardens (recorded_stmt (record a { names = (hole, variable t) ∷ a.names }) s) (recorded_stmt (record a { names = (hole, stand_in elsewhere t (exact y)) ∷ a.names }) s)
 
-        module _ (t : GoType) (y : Const) where
-          with_ : (d : Entity) → Alike L R same (λ n. Unit {0}) (stmt_identifiers (written p a)) (record a.env { names = (hole, d) ∷ a.env.names }) (record b.env { names = (hole, d) ∷ b.env.names })
-          with_ d = with-hole L R same Q eq zone z a.env b.env a.stmt (record p { env = a.env; ctx = a.ctx; bound = a.bound }) d g
+    module _ (a b : Around S) (w : b ≡ record a { env = b.env }) (g : Alike L R same Q (stmt_identifiers a.stmt) a.env b.env) (d : Bool) where
+      places : Both L R same Q (stmt_identifiers a.stmt) (record p { env = a.env; ctx = a.ctx; bound = a.bound }) (record q { env = b.env; ctx = a.ctx; bound = a.bound })
+      places = record { env = g; is = λ v. record ((h.at).is v) { env = b.env; ctx = a.ctx; bound = a.bound }; around = (h.at).around }
 
-          faulty-so : forms.faulty_with eq ps c names kept a x t y ≡ forms.faulty_with eq qs k names kept b x t y
-          faulty-so =
-              (λ v.
-              not (is_some (stmt a.ctx (record a.env { names = (hole, stand_in elsewhere t (exact y)) ∷ a.env.names }) (holed-here a v)))
-              || hardens (recorded_stmt (record a.env { names = (hole, variable t) ∷ a.env.names }) (holed-here a v)) (recorded_stmt (record a.env { names = (hole, stand_in elsewhere t (exact y)) ∷ a.env.names }) (holed-here a v)))
-              ∙ (λ v.
-              not (is_some (envs.stmt_read L R same (λ n. Unit {0}) a.ctx (written p a) (with_ (stand_in elsewhere t (exact y))) v))
-              || hardens (told.stmt-so L R same (λ n. Unit {0}) (written p a) (with_ (variable t)) v) (told.stmt-so L R same (λ n. Unit {0}) (written p a) (with_ (stand_in elsewhere t (exact y))) v))
-              ∙ (λ v.
-              not (is_some (stmt (sym w v).ctx (record b.env { names = (hole, stand_in elsewhere t (exact y)) ∷ b.env.names }) ((written-so ∙ sym (holed-there b)) v)))
-              || hardens (recorded_stmt (record b.env { names = (hole, variable t) ∷ b.env.names }) ((written-so ∙ sym (holed-there b)) v)) (recorded_stmt (record b.env { names = (hole, stand_in elsewhere t (exact y)) ∷ b.env.names }) ((written-so ∙ sym (holed-there b)) v)))
+      written-so : written d p a ≡ written d q b
+      written-so =
+          rewritten.stmt-so L R same Q (λ y. y) (expr_in_place eq zone (put L R same Q eq zone z d)) (expr_in_place eq zone (put L R same Q eq zone z d)) (λ r t. t) (λ r t. t)
+          (stmt_in_place eq zone (put L R same Q eq zone z d)) (stmt_in_place eq zone (put L R same Q eq zone z d))
+          (λ r s w x i. expr-put-so L R same Q eq zone z d r s w x) (λ r s t i. refl) (λ r s t. stmt-put-so L R same Q eq zone z d r s t) true a.stmt places
+          ∙ sym (λ v. new_stmt (C L R same Q eq zone z d) (record q { env = b.env; ctx = (w v).ctx; bound = (w v).bound }) true (w v).stmt)
+
+      with_ : (m : Entity) → Alike L R same (λ n. Unit {0}) (stmt_identifiers (written d p a)) (record a.env { names = (hole, m) ∷ a.env.names }) (record b.env { names = (hole, m) ∷ b.env.names })
+      with_ m = with-hole L R same Q eq zone z a.env b.env a.stmt (record p { env = a.env; ctx = a.ctx; bound = a.bound }) m g d
+
+      faulty-same : (t : GoType) (y : Const) → faulty a.ctx a.env (written d p a) t y ≡ faulty b.ctx b.env (written d q b) t y
+      faulty-same t y =
+          (λ v.
+          not (is_some (envs.stmt_read L R same (λ n. Unit {0}) a.ctx (written d p a) (with_ (stand_in elsewhere t (exact y))) v))
+          || hardens (told.stmt-so L R same (λ n. Unit {0}) (written d p a) (with_ (variable t)) v) (told.stmt-so L R same (λ n. Unit {0}) (written d p a) (with_ (stand_in elsewhere t (exact y))) v))
+          ∙ (λ v. faulty (sym w v).ctx b.env (written-so v) t y)
+
+    faulty-so : (x : Expr S) → AtBody x → (a b : Around S) → b ≡ record a { env = b.env } → Alike L R same Q (stmt_identifiers a.stmt) a.env b.env → (t : GoType) (y : Const)
+        → forms.faulty_with eq ps c names kept a x t y ≡ forms.faulty_with eq qs k names kept b x t y
+    faulty-so x i a b w g t y = faulty-same a b w g (dropped x) t y ∙ (λ v. faulty b.ctx b.env (written (dropped-so x i v) q b) t y)
 
     content-same : (o : Option Typed) → forms.constant_content eq ps c names kept o ≡ forms.constant_content eq qs k names kept o
     content-same (Some (t, exact y)) = refl
@@ -171,32 +204,21 @@ module _ {S : Type 0} (eq : S → S → Bool) (ps qs : List (Package S)) (same :
     content-so x g = (λ v. forms.constant_content eq ps c names kept (given (envs.parts_read L R same P x g.env v) typed)) ∙ content-same (given (parts (calls.start_with eq qs k kept).env x) typed)
 
     value-faulty-so : (x : Expr S) → AtBody x → forms.value_is_faulty eq ps c names kept x ≡ forms.value_is_faulty eq qs k names kept x
-    value-faulty-so x g = by dropped (h.at).around
+    value-faulty-so x g = by p.statement q.statement (h.at).around
       where
-        no-result : (a b : Option (Around S)) → Arounds L R same Q a b → meets a (λ y. false) ≡ meets b (λ y. false)
-        no-result _ _ no_around = refl
-        no-result _ _ (one_around w i) = refl
-
         meets-so : {B : Type 0} (o : Option B) (g1 g2 : B → Bool) → ((y : B) → g1 y ≡ g2 y) → meets o g1 ≡ meets o g2
         meets-so None g1 g2 i = refl
         meets-so (Some y) g1 g2 i = i y
 
-        by-around : is_statement u ≡ false → (o r : Option (Around S)) → Arounds L R same Q o r
+        by : (o r : Option (Around S)) → Arounds L R same Q o r
             → meets o (λ a. meets (forms.result_type eq ps c names kept) (λ t. meets (forms.constant_content eq ps c names kept (given (parts (calls.start_with eq ps c kept).env x) typed)) (λ y. forms.faulty_with eq ps c names kept a x t y)))
             ≡ meets r (λ b. meets (forms.result_type eq qs k names kept) (λ t. meets (forms.constant_content eq qs k names kept (given (parts (calls.start_with eq qs k kept).env x) typed)) (λ y. forms.faulty_with eq qs k names kept b x t y)))
-        by-around ns _ _ no_around = refl
-        by-around ns _ _ (one_around {a = a} {b = b} w i) =
+        by _ _ no_around = refl
+        by _ _ (one_around {a = a} {b = b} w i) =
             meets-so (forms.result_type eq ps c names kept) (λ t. meets (forms.constant_content eq ps c names kept (given (parts (calls.start_with eq ps c kept).env x) typed)) (λ y. forms.faulty_with eq ps c names kept a x t y))
             (λ t. meets (forms.constant_content eq ps c names kept (given (parts (calls.start_with eq ps c kept).env x) typed)) (λ y. forms.faulty_with eq qs k names kept b x t y))
-            (λ t. meets-so (forms.constant_content eq ps c names kept (given (parts (calls.start_with eq ps c kept).env x) typed)) (λ y. forms.faulty_with eq ps c names kept a x t y) (λ y. forms.faulty_with eq qs k names kept b x t y) (λ y. faulty-so ns x a b w i t y))
+            (λ t. meets-so (forms.constant_content eq ps c names kept (given (parts (calls.start_with eq ps c kept).env x) typed)) (λ y. forms.faulty_with eq ps c names kept a x t y) (λ y. forms.faulty_with eq qs k names kept b x t y) (λ y. faulty-so x g a b w i t y))
             ∙ (λ v. meets (result-so v) (λ t. meets (content-so x g v) (λ y. forms.faulty_with eq qs k names kept b x t y)))
-
-        by : (is_statement u ≡ false) ⊎ (forms.result_type eq ps c names kept ≡ None) → Arounds L R same Q p.statement q.statement → forms.value_is_faulty eq ps c names kept x ≡ forms.value_is_faulty eq qs k names kept x
-        by (inl ns) r = by-around ns p.statement q.statement r
-        by (inr none) r =
-            (λ v. meets p.statement (λ a. meets (none v) (λ t. meets (forms.constant_content eq ps c names kept (given (parts (calls.start_with eq ps c kept).env x) typed)) (λ y. forms.faulty_with eq ps c names kept a x t y))))
-            ∙ no-result p.statement q.statement r
-            ∙ sym (λ v. meets q.statement (λ b. meets ((sym result-so ∙ none) v) (λ t. meets (forms.constant_content eq qs k names kept (given (parts (calls.start_with eq qs k kept).env x) typed)) (λ y. forms.faulty_with eq qs k names kept b x t y))))
 
     -- ---- the expression form
 

@@ -1,6 +1,5 @@
 -- The use of a step that settles its file becomes the step's form with the imports of the form added, so what is put there is this form.
 use Rattle.std.proofs.Common.{◌≡◌, sym, ap, ◌∙◌, List, Option, Some}
-use Rattle.go_tree.specs.ScopeNames.Binders.{func_binders}
 use Rattle.go_tree.specs.GoTypes.Answers.{meets}
 use Rattle.run_rules.specs.FormTrees.{FormKind, ExprForm, LiteralForm, Form}
 use Rattle.run_rules.specs.Reduced.{Reduced, becomes}
@@ -8,15 +7,17 @@ use Rattle.run_rules.specs.Run.{Standing, Logged, Next, is_commented}
 use Rattle.run_rules.specs.Sites.{MarkRef, is_function}
 use Rattle.run_rules.specs.Steps.{At, same_here}
 use Rattle.run_rules.specs.Surroundings.{Place}
+use Rattle.constant_steps.specs.FormImports.OwnNames.{AllOwn}
 use Rattle.order_runs.specs.CycleRuns.ImportCycles.ImportSteps.{packages_added}
 use Rattle.order_runs.specs.CycleRuns.OrderCycles.Steps.{KeepsImportNames}
 use Rattle.order_runs.specs.CycleRuns.Linked.{Linked, SettlesFile}
 use Rattle.order_runs.proofs.CycleRuns.Runs.{linked-names, step-names}
 use Rattle.literal_cycles.specs.BodyForms.Uses.{CalledUse, Becomes}
 use Rattle.argument_cycles.specs.ImportingSteps.Puts.{UseAdded, PutsAddedBlock, PutsAddedLiteral, PutsAddedExpression, site_there}
-use Rattle.argument_cycles.specs.FoundThere.There.{UseThere, FormThere, NamesStay, NoneDropped}
+use Rattle.argument_cycles.specs.FoundThere.There.{UseThere, FormThere}
 use Rattle.argument_cycles.specs.FoundThere.Steps.{CallFound, PutsFoundBlock, PutsFoundLiteral, PutsFoundExpression}
 use Rattle.argument_cycles.proofs.FoundThere.Apart.{adds-apart}
+use Rattle.argument_cycles.proofs.FoundThere.NamedThere.{names-stay}
 use Rattle.argument_cycles.proofs.FoundThere.Step.{form-there}
 use Rattle.argument_cycles.proofs.FoundThere.UsesThere.{use_there}
 
@@ -31,18 +32,18 @@ module _ (marks : List MarkRef) (st : Standing) (l : Logged) (after : Standing) 
   pub stands_there : CalledUse same_here (is_commented st) st.packages marks n.found.site → UseThere n
   stands_there u = use_there marks st l after n names.new_names names.ordered names.ordered_added u.tree u.part (λ m. Unit {0}) (λ m i. tt)
 
-  pub becomes_the_same : (u : CalledUse same_here (is_commented st) st.packages marks n.found.site) → NoneDropped n u → NamesStay n n.found.site.place (func_binders u.callee) → (t : UseThere n) → FormThere n t.place
-  becomes_the_same u none stay t =
-      form-there marks st l after n names.new_names names.ordered names.ordered_added u t (adds-apart marks st l after n s.few (linked-names st.packages h)) stay none
+  pub becomes_the_same : AllOwn st.packages → CalledUse same_here (is_commented st) st.packages marks n.found.site → (t : UseThere n) → FormThere n t.place
+  becomes_the_same own u t =
+      form-there marks st l after n names.new_names names.ordered names.ordered_added u t (adds-apart marks st l after n s.few (linked-names st.packages h)) (names-stay marks st l after n h s own u)
 
   -- at one site there is one form
   same-form : (p : Place At) → FormThere n p → (u : CalledUse same_here (is_commented st) (packages_added st.packages n.found) marks (site_there n.found p)) (k : FormKind)
       (b : Becomes same_here (is_commented st) (packages_added st.packages n.found) marks (site_there n.found p) u k) → b.form ≡ n.found.form
   same-form p f u k b = (λ v. form_or b.form ((sym b.reduces ∙ f.becomes.reduces) v)) ∙ f.same_form
 
-  module _ (k : CallFound n) where
+  module _ (own : AllOwn st.packages) (k : CallFound n) where
     there : FormThere n k.there.place
-    there = becomes_the_same k.use_ k.no_statement k.same_names k.there
+    there = becomes_the_same own k.use_ k.there
 
     abbrev its_use : UseAdded n
     its_use = record {
@@ -55,11 +56,11 @@ module _ (marks : List MarkRef) (st : Standing) (l : Logged) (after : Standing) 
       around = k.around;
     }
 
-  pub block_added : PutsFoundBlock n → PutsAddedBlock n
-  block_added k = record { added = its_use k.call; block = k.block; same_form = same-form k.call.there.place (there k.call) k.block.use_ k.block.kind k.block.becomes }
+  pub block_added : AllOwn st.packages → PutsFoundBlock n → PutsAddedBlock n
+  block_added own k = record { added = its_use own k.call; block = k.block; same_form = same-form k.call.there.place (there own k.call) k.block.use_ k.block.kind k.block.becomes }
 
-  pub literal_added : PutsFoundLiteral n → PutsAddedLiteral n
-  literal_added k = record { added = its_use k.call; literal = k.literal; same_form = same-form k.call.there.place (there k.call) k.literal.use_ LiteralForm k.literal.becomes }
+  pub literal_added : AllOwn st.packages → PutsFoundLiteral n → PutsAddedLiteral n
+  literal_added own k = record { added = its_use own k.call; literal = k.literal; same_form = same-form k.call.there.place (there own k.call) k.literal.use_ LiteralForm k.literal.becomes }
 
-  pub expression_added : PutsFoundExpression n → PutsAddedExpression n
-  expression_added k = record { added = its_use k.call; expression = k.expression; same_form = same-form k.call.there.place (there k.call) k.expression.use_ ExprForm k.expression.placed.becomes }
+  pub expression_added : AllOwn st.packages → PutsFoundExpression n → PutsAddedExpression n
+  expression_added own k = record { added = its_use own k.call; expression = k.expression; same_form = same-form k.call.there.place (there own k.call) k.expression.use_ ExprForm k.expression.placed.becomes }

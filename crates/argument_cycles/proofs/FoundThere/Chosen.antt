@@ -1,46 +1,42 @@
 -- The same parameters of a call are chosen at two places that differ in nothing but what names mean, where the names of the
 -- call and those of the function mean the same.
-use Rattle.std.proofs.Common.{◌≡◌, refl, sym, ap, ◌∙◌, ℕ, ◌-◌, zero, suc, Bool, true, false, not, ◌&&◌, ◌||◌, List, [], ◌∷◌, ◌++◌, map, length, Option, Some, None, if◌then◌else◌, nat_eq}
+use Rattle.std.proofs.Common.{◌≡◌, refl, sym, ◌∙◌, ℕ, ◌-◌, suc, Bool, true, false, not, ◌&&◌, ◌||◌, List, [], ◌∷◌, ◌++◌, map, length, Option, Some, None, if◌then◌else◌, nat_eq}
 use Rattle.std.specs.Prelude.{is_some, take}
-use Rattle.std.specs.List.{list_any, count_by}
+use Rattle.std.specs.List.{list_any}
 use Rattle.go_tree.specs.declared.operators.UnOp.TheVariants.{Address}
-use Rattle.go_tree.specs.Tree.{NameAt, TypeExpr, Param, Expr, ident, int_lit, rune_lit, str_lit, composite, selector, index, slice, call, func_lit, type_operand, unary, binary, star, Exprs, no_exprs, expr_and, Stmt, Stmts}
+use Rattle.go_tree.specs.Tree.{TypeExpr, Param, Expr, ident, selector, call, unary, star, Exprs, no_exprs, expr_and, Stmt}
 use Rattle.go_tree.specs.File.{Receiver, Func}
 use Rattle.go_tree.specs.ScopeNames.FreeNames.{names_of, free_expr, free_type}
 use Rattle.go_tree.specs.ScopeNames.Identifiers.{type_identifiers, expr_identifiers, exprs_identifiers, stmts_identifiers}
 use Rattle.go_tree.specs.ScopeNames.Means.{binding}
 use Rattle.go_tree.specs.ScopeNames.Scopes.{not_blank, param_names}
-use Rattle.order_hazards.specs.declared.facts.Item.{Item}
 use Rattle.order_hazards.specs.declared.facts.Item.TheVariants.{Write}
 use Rattle.order_hazards.specs.Items.{is_write}
 use Rattle.param_choice.specs.Chosen.{has}
 use Rattle.pkg_graph.specs.Package.{Package}
-use Rattle.go_tree.specs.GoTypes.Agreement.{In, head}
 use Rattle.go_tree.specs.GoTypes.Answers.{given, meets, otherwise, is_among}
 use Rattle.go_tree.specs.GoTypes.Types.{GoType, untyped_nil, base_of, is_untyped}
 use Rattle.go_tree.specs.GoTypes.Identical.{identical}
 use Rattle.go_tree.specs.GoTypes.Bodies.{is_body}
 use Rattle.go_tree.specs.GoTypes.Defined.{Method, methods}
-use Rattle.go_tree.specs.GoTypes.Entities.{run, World, Env, Binds, defined_in}
-use Rattle.go_tree.specs.GoTypes.Operands.{Typed, typed}
+use Rattle.go_tree.specs.GoTypes.Entities.{run, World, defined_in}
+use Rattle.go_tree.specs.GoTypes.Operands.{typed}
 use Rattle.go_tree.specs.GoTypes.Primary.{find_method}
-use Rattle.go_tree.specs.GoTypes.Recorded.{recorded_stmts, hardens}
-use Rattle.go_tree.specs.GoTypes.Typing.{parts, all_parts, stmts}
+use Rattle.go_tree.specs.GoTypes.Recorded.{hardens}
+use Rattle.go_tree.specs.GoTypes.Typing.{stmts}
 use Rattle.typed_in_place.specs.ProgramsAlike.{no_more, and_more}
 use Rattle.typed_in_place.specs.SameWorlds.SameWorlds.{SameWorld}
 use Rattle.run_rules.specs.BodyItems.{up_to_stop, stmts_items}
-use Rattle.run_rules.specs.Calls.{Given, Call, is_several, givens, param_name, declared_place, list_of, place_of, receiver_for, receiver_of, receiver_in, arguments, is_spread, is_duplicable, is_recover, takes_variable, uses, changes, changes_param, locals_named, is_stored, is_use_of, declared_in_part, assigns_outside}
+use Rattle.run_rules.specs.Calls.{Given, Call, is_several, givens, param_name, declared_place, list_of, place_of, receiver_for, receiver_in, arguments, is_spread, is_duplicable, is_recover, takes_variable, uses, changes, changes_param, locals_named, is_stored, is_use_of, declared_in_part, assigns_outside}
 use Rattle.run_rules.specs.Calls as calls
 use Rattle.run_rules.specs.Choice.{best}
-use Rattle.run_rules.specs.Classes.{address_taken, type_at, points, is_constant, is_held, class_of, root}
+use Rattle.run_rules.specs.Classes.{address_taken, type_at, points, class_of}
 use Rattle.run_rules.specs.Conversions.{chosen_entity}
 use Rattle.run_rules.specs.FormTrees.{top}
-use Rattle.run_rules.specs.Places.{expr_seen, stmts_seen}
-use Rattle.run_rules.specs.Programs.{numbered_from, numbered, world, with_receiver, receiver_param, params_of, receiver_types, param_types, type_of_func, body_place}
+use Rattle.run_rules.specs.Programs.{numbered_from, numbered, world, with_receiver, param_types}
 use Rattle.run_rules.specs.Sites.{Where, is_deferred}
-use Rattle.run_rules.specs.Surroundings.{Use, stored, updated, addressed, other, Place, Seen, seen, seen_type, seen_stmt, local_at}
+use Rattle.run_rules.specs.Surroundings.{Use, stored, updated, addressed, other, Place, Seen, seen, seen_type, seen_stmt}
 use Rattle.argument_cycles.proofs.FoundThere.Envs as envs
-use Rattle.argument_cycles.proofs.FoundThere.Envs.{Alike}
 use Rattle.argument_cycles.proofs.FoundThere.Items as item
 use Rattle.argument_cycles.proofs.FoundThere.Read as read
 use Rattle.argument_cycles.proofs.FoundThere.Recorded as told

@@ -10,7 +10,7 @@ use Rattle.go_tree.specs.GoTypes.Answers.{given, meets}
 use Rattle.go_tree.specs.GoTypes.Types.{GoType, GoFields, fields_of, element_of, map_parts}
 use Rattle.go_tree.specs.GoTypes.Defined.{under, methods}
 use Rattle.go_tree.specs.GoTypes.Operands.{Operand, several, a_function, a_builtin, typed}
-use Rattle.go_tree.specs.GoTypes.Entities.{Builtin, Append, Delete, World, Env, Entity, Binds, meaning, defined_in, package_of, extend, in_block}
+use Rattle.go_tree.specs.GoTypes.Entities.{Builtin, Append, Delete, World, Env, Binds, meaning, defined_in, package_of, extend, in_block}
 use Rattle.go_tree.specs.GoTypes.TypeNames.{type_meant, func_type, written_type}
 use Rattle.go_tree.specs.GoTypes.Literals.{literal_type}
 use Rattle.go_tree.specs.GoTypes.Statements.{is_blank_name, package_before, right_values}
@@ -25,10 +25,10 @@ use Rattle.typed_in_place.proofs.ImportsMoved.{func_type-moved}
 use Rattle.typed_in_place.proofs.SameWorlds.DefinedSame.{under-same, methods-same}
 use Rattle.typed_in_place.proofs.SameWorlds.DeclarationsSame.{new_constants-same, new_variables-same}
 use Rattle.typed_in_place.proofs.SameWorlds.LiteralsSame.{inner_type-same, key_type-same, literal_type-same}
-use Rattle.typed_in_place.proofs.SameWorlds.StatementsSame.{right_values-same, package_before-same}
+use Rattle.typed_in_place.proofs.SameWorlds.StatementsSame.{right_values-same}
 use Rattle.typed_in_place.proofs.SameWorlds.TypeNamesSame.{type_meant-same, func_type-same, written_type-same}
 use Rattle.typed_in_place.proofs.SameWorlds.TypingSame.{parts-same, all_parts-same, places-same, declares-same, declares_first-same, range_declares-same, stmt-same, stmts-same}
-use Rattle.run_rules.specs.Surroundings.{Use, into_type, elem_use, key_use, into_or, field_set, repeated_by, alike, first_typed, builtin_uses, arg_uses, is_shift_op, other, beside_value, operand_use, first_operand_use, right_uses, whole, value_use}
+use Rattle.run_rules.specs.Surroundings.{Use, into_type, elem_use, key_use, into_or, field_set, repeated_by, alike, first_typed, builtin_uses, arg_uses, is_shift_op, other, beside_value, operand_use, first_operand_use, right_uses, value_use}
 use Rattle.order_runs.proofs.CycleLaws.Called.{at_member}
 use Rattle.order_runs.proofs.CycleRuns.ImportCycles.CallsMoved.{agrees-kept, agrees-in-member, type-alike, written-alike, elem-use-alike}
 use Rattle.order_runs.proofs.CycleRuns.ImportCycles.FreeIdentifiers.{in-left, in-right, in-either, type-in, written-in, params-in, expr-in, exprs-in, stmt-in, stmts-in, first-in, left-in}

@@ -160,7 +160,7 @@ module _ (marks : List MarkRef) (st : Standing) (l : Logged) (after : Standing) 
   source-itself : (f : SourceTree At) → SourceNow f f
   source-itself f = record { decls = refl; specs = inl refl }
 
-  specs-added : import_specs (file_added n.found) ≡ import_specs x.at.source.tree ++ extra
+  pub specs-added : import_specs (file_added n.found) ≡ import_specs x.at.source.tree ++ extra
   specs-added = specs-of-both x.at.source.tree.imports (added_decls n.found.range (imports_added n.found.named))
 
   files-now : OneByOne SourceNow x.at.of.files (in_package x.at.of).files
@@ -215,7 +215,7 @@ module _ (marks : List MarkRef) (st : Standing) (l : Logged) (after : Standing) 
 
   -- ---- what names mean outside declarations
 
-  name-now : (s : ImportSpec At) → import_name mid s ≡ import_name st.packages s
+  pub name-now : (s : ImportSpec At) → import_name mid s ≡ import_name st.packages s
   name-now s = λ v. name_or s.name (names-stay st.packages [] mid beside s.path v)
 
   names-now : (ss : List (ImportSpec At)) → map (import_name st.packages) ss ≡ map (import_name mid) ss

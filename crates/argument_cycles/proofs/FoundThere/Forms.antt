@@ -1,46 +1,38 @@
 -- Which forms apply to a call, and what they write, is the same at two places that differ in nothing but what names mean.
-use Rattle.std.proofs.Common.{◌≡◌, refl, sym, ap, subst, ◌∙◌, ◌⊎◌, inl, inr, ℕ, zero, suc, Bool, true, false, not, ◌&&◌, ◌||◌, List, [], ◌∷◌, ◌++◌, map, Option, Some, None, if◌then◌else◌, nat_eq}
-use Rattle.std.specs.Prelude.{nat_lt, is_some}
-use Rattle.std.specs.List.{list_any, list_all, count_by}
+use Rattle.std.proofs.Common.{◌≡◌, refl, ◌∙◌, ℕ, zero, suc, Bool, true, false, ◌||◌, List, [], ◌∷◌, ◌++◌, map, Option, Some, None, if◌then◌else◌}
+use Rattle.std.specs.Prelude.{nat_lt}
+use Rattle.std.specs.List.{list_any}
 use Rattle.go_tree.specs.declared.exprs.Rest.TheVariants.{Plain}
-use Rattle.go_tree.specs.Tree.{NameAt, TypeExpr, Param, Expr, ident, selector, call, func_lit, Exprs, no_exprs, expr_and, Stmt, eval, assign, define, inner, return_, label, Stmts, no_stmts, stmt_and}
+use Rattle.go_tree.specs.Tree.{TypeExpr, Param, Expr, ident, selector, call, func_lit, no_exprs, expr_and, eval, assign, define, return_, Stmts, no_stmts, stmt_and}
 use Rattle.go_tree.specs.File.{Func}
-use Rattle.go_tree.specs.ScopeNames.Identifiers.{name_option, type_identifiers, params_identifiers, expr_identifiers, exprs_identifiers, stmt_identifiers, stmts_identifiers}
-use Rattle.go_tree.specs.ScopeNames.Scopes.{expr_span}
-use Rattle.go_tree.specs.ScopeNames.Means.{means}
-use Rattle.go_tree.specs.declared.const_eval.consts.Const.{Const}
+use Rattle.go_tree.specs.ScopeNames.Identifiers.{name_option, type_identifiers, params_identifiers, expr_identifiers, exprs_identifiers, stmts_identifiers}
 use Rattle.param_choice.specs.Chosen.{has}
 use Rattle.pkg_graph.specs.Package.{Package}
-use Rattle.go_tree.specs.GoTypes.Agreement.{In, head, tail}
-use Rattle.go_tree.specs.GoTypes.Answers.{given, meets, otherwise}
-use Rattle.go_tree.specs.GoTypes.Bodies.{has_names}
-use Rattle.go_tree.specs.GoTypes.Entities.{World, Env, Entity, variable, stand_in, elsewhere, exact}
-use Rattle.go_tree.specs.GoTypes.Operands.{Operand, several, Typed, typed}
+use Rattle.go_tree.specs.GoTypes.Agreement.{head}
+use Rattle.go_tree.specs.GoTypes.Answers.{given, meets}
+use Rattle.go_tree.specs.GoTypes.Entities.{World}
+use Rattle.go_tree.specs.GoTypes.Operands.{typed}
 use Rattle.go_tree.specs.GoTypes.Primary.{stands_alone}
-use Rattle.go_tree.specs.GoTypes.Recorded.{recorded_stmt, hardens}
-use Rattle.go_tree.specs.GoTypes.Types.{GoType}
-use Rattle.go_tree.specs.GoTypes.Typing.{parts, stmt, is_call}
 use Rattle.typed_in_place.specs.SameWorlds.SameWorlds.{SameWorld}
 use Rattle.run_rules.specs.BodyItems.{number_of}
 use Rattle.run_rules.specs.Rewriting.{new_params}
-use Rattle.run_rules.specs.Calls.{Given, Call, exprs_of, is_recover, declared_place, param_name, blank, is_stored, uses}
+use Rattle.run_rules.specs.Calls.{Given, Call, exprs_of, declared_place, param_name, blank, uses}
 use Rattle.run_rules.specs.Calls as calls
 use Rattle.run_rules.specs.Conversions.{converts}
-use Rattle.run_rules.specs.FormTrees.{FormKind, ConstForm, TypeForm, ExprForm, BlockForm, TailForm, LiteralForm, Form, as_expr, as_dropped, as_block, hole, is_statement, in_list, returned_types, all_identical, only_one, conversion, a_name, one_expr, top, type_expr}
+use Rattle.run_rules.specs.FormTrees.{FormKind, ConstForm, TypeForm, ExprForm, BlockForm, TailForm, LiteralForm, as_expr, as_dropped, as_block, is_statement, only_one, conversion, a_name, one_expr, top}
 use Rattle.run_rules.specs.Forms as forms
-use Rattle.run_rules.specs.Naming.{Names, type_there}
-use Rattle.run_rules.specs.Programs.{numbered, world, param_types}
-use Rattle.run_rules.specs.Sites.{Where, is_deferred}
-use Rattle.run_rules.specs.Surroundings.{Use, whole, returned, deferred_call, other, Around, Place, Seen, seen, seen_stmt, local_at}
+use Rattle.run_rules.specs.Naming.{Names}
+use Rattle.run_rules.specs.Programs.{world}
+use Rattle.run_rules.specs.Sites.{Where}
+use Rattle.run_rules.specs.Surroundings.{Use, whole, returned, other, Place, Seen}
 use Rattle.argument_cycles.proofs.FoundThere.Chosen as chosen
 use Rattle.argument_cycles.proofs.FoundThere.Envs as envs
-use Rattle.argument_cycles.proofs.FoundThere.Envs.{Alike}
 use Rattle.argument_cycles.proofs.FoundThere.Names as names_
 use Rattle.argument_cycles.proofs.FoundThere.Names.{Reads}
 use Rattle.argument_cycles.proofs.FoundThere.Read as read
 use Rattle.argument_cycles.proofs.FoundThere.Rewritten as rewritten
 use Rattle.argument_cycles.proofs.FoundThere.Walk as walk
-use Rattle.argument_cycles.proofs.FoundThere.Walk.{Both, Part, Parts}
+use Rattle.argument_cycles.proofs.FoundThere.Walk.{Both, Parts}
 
 module _ {S : Type 0} (eq : S → S → Bool) (ps qs : List (Package S)) (same : SameWorld (world ps) (world qs)) (Q : List ℕ → Type 0) (home now : Where S) (f : Func S) (number : ℕ) (xs ys : List (Seen S)) (p q : Place S) (u : Use) (e : Expr S) (z : S)
     (w1 w2 : TypeExpr S → TypeExpr S) (nums : now.number ≡ home.number) where

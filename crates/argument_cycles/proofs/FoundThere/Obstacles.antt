@@ -1,18 +1,18 @@
 -- The same obstacles stand in a form's way at two places that differ in nothing but what names mean, if what the form takes
 -- plainly means there what it meant.
-use Rattle.std.proofs.Common.{◌≡◌, refl, sym, ap, subst, ◌∙◌, ℕ, Bool, true, false, not, ◌&&◌, ◌||◌, List, [], ◌∷◌, ◌++◌, map, Option, Some, None, if◌then◌else◌, nat_eq}
+use Rattle.std.proofs.Common.{◌≡◌, refl, sym, ◌∙◌, ℕ, Bool, true, false, not, ◌&&◌, ◌||◌, List, [], ◌∷◌, ◌++◌, Option, Some, None, if◌then◌else◌, nat_eq}
 use Rattle.std.specs.List.{list_any}
-use Rattle.go_tree.specs.Tree.{NameAt, TypeExpr, named, pointer, slice_type, map_type, struct_type, Fields, no_fields, field, Param, Expr, ident, int_lit, rune_lit, str_lit, composite, selector, index, slice, call, func_lit, type_operand, unary, binary, star, Elems, no_elems, elem, Value, plain, braced, ValueOption, no_value, some_value, Stmt}
+use Rattle.go_tree.specs.Tree.{TypeExpr, named, pointer, slice_type, map_type, struct_type, Fields, no_fields, field, Expr, ident, composite, selector, Elems, no_elems, elem, Value, plain, braced, ValueOption, no_value, some_value}
 use Rattle.go_tree.specs.ScopeNames.FreeNames.{names_of}
 use Rattle.go_tree.specs.ScopeNames.Means.{means}
 use Rattle.go_tree.specs.ScopeNames.Identifiers.{type_identifiers, fields_identifiers, expr_identifiers, elems_identifiers, value_identifiers, value_option_identifiers}
 use Rattle.pkg_graph.specs.Members.{Target, local, imported, member, predeclared}
 use Rattle.pkg_graph.specs.ModuleFiles.Internal.{may_import}
 use Rattle.pkg_graph.specs.Package.{Package}
-use Rattle.go_tree.specs.GoTypes.Agreement.{In, head, tail}
+use Rattle.go_tree.specs.GoTypes.Agreement.{head}
 use Rattle.go_tree.specs.GoTypes.Answers.{given, one_of, is_among, is_empty}
 use Rattle.go_tree.specs.GoTypes.Defined.{under}
-use Rattle.go_tree.specs.GoTypes.Entities.{World, Env, defined_in}
+use Rattle.go_tree.specs.GoTypes.Entities.{Env, defined_in}
 use Rattle.go_tree.specs.GoTypes.Literals.{key_type, inner_type, literal_type}
 use Rattle.go_tree.specs.GoTypes.TypeNames.{type_meant}
 use Rattle.go_tree.specs.GoTypes.Types.{GoType, GoFields, fields_of}
@@ -21,10 +21,10 @@ use Rattle.typed_in_place.specs.SameWorlds.SameWorlds.{SameWorld}
 use Rattle.typed_in_place.proofs.SameWorlds.DefinedSame.{under-same}
 use Rattle.typed_in_place.proofs.SameWorlds.LiteralsSame.{inner_type-same, key_type-same, literal_type-same}
 use Rattle.run_rules.specs.Naming.{package_path}
-use Rattle.run_rules.specs.Obstacles.{Obstacle, NotAccessible, Internal, Shadowed, first_answer, unless_exported, is_elsewhere, hidden_key, hidden_in_type, hidden_in_fields, hidden_in_elems, hidden_in_key, hidden_in_value, hidden_selection, hidden_here, not_accessible, refused_import, internal_package, is_taken_plainly, means_this, shadowed_meaning, shadowed_name, shadowed_in_type, shadowed_in_fields, shadowed_here, shadowed, is_qualified_there, means_another, repeats_here, is_repeated}
+use Rattle.run_rules.specs.Obstacles.{NotAccessible, Internal, Shadowed, first_answer, unless_exported, is_elsewhere, hidden_key, hidden_in_type, hidden_in_fields, hidden_in_elems, hidden_in_key, hidden_in_value, hidden_selection, hidden_here, not_accessible, refused_import, internal_package, is_taken_plainly, means_this, shadowed_meaning, shadowed_name, shadowed_in_type, shadowed_in_fields, shadowed_here, shadowed, is_qualified_there, repeats_here, is_repeated}
 use Rattle.run_rules.specs.Programs.{world}
-use Rattle.run_rules.specs.Sites.{Where, mark_of, outer, outer_meaning, qualifier}
-use Rattle.run_rules.specs.Surroundings.{Use, Place, Seen, seen, seen_type, seen_stmt}
+use Rattle.run_rules.specs.Sites.{Where, mark_of, outer, outer_meaning}
+use Rattle.run_rules.specs.Surroundings.{Use, Place, Seen, seen}
 use Rattle.argument_cycles.proofs.FoundThere.Envs as envs
 use Rattle.argument_cycles.proofs.FoundThere.Envs.{Alike}
 use Rattle.argument_cycles.proofs.FoundThere.Names as names_

@@ -1,22 +1,20 @@
 -- What is read of expressions and of parts at two places that differ in nothing but what names mean, where they mean the
 -- same: types, classes, roots, and what is counted among parts.
-use Rattle.std.proofs.Common.{◌≡◌, refl, sym, ap, ◌∙◌, ℕ, ◌+◌, Bool, true, false, not, ◌&&◌, ◌||◌, List, [], ◌∷◌, ◌++◌, map, Option, Some, None, if◌then◌else◌}
+use Rattle.std.proofs.Common.{◌≡◌, refl, sym, ◌∙◌, ℕ, ◌+◌, Bool, not, ◌&&◌, ◌||◌, List, [], ◌∷◌, ◌++◌, Option, Some, None, if◌then◌else◌}
 use Rattle.std.specs.Prelude.{is_some, cond, fold}
-use Rattle.std.specs.List.{list_any, list_all, count_by}
+use Rattle.std.specs.List.{list_any, count_by}
 use Rattle.go_tree.specs.declared.operators.UnOp.TheVariants.{Address}
 use Rattle.go_tree.specs.declared.operators.BinOp.{BinOp}
 use Rattle.go_tree.specs.declared.operators.BinOp.TheVariants.{Div, Rem, Shl, Shr}
-use Rattle.go_tree.specs.Tree.{NameAt, TypeExpr, Expr, ident, int_lit, rune_lit, str_lit, composite, selector, index, slice, call, func_lit, type_operand, unary, binary, star, Exprs, no_exprs, expr_and, Elems, no_elems, elem, Value, plain, braced, Stmt}
+use Rattle.go_tree.specs.Tree.{TypeExpr, Expr, ident, int_lit, rune_lit, str_lit, composite, selector, index, slice, call, func_lit, type_operand, unary, binary, star, Exprs, no_exprs, expr_and, Elems, no_elems, elem, Value, plain, braced, Stmt}
 use Rattle.go_tree.specs.declared.const_eval.kinds.Kind.{Kind}
 use Rattle.go_tree.specs.ConstEval.Exact.{is_text_kind}
 use Rattle.go_tree.specs.ScopeNames.FreeNames.{names_of}
 use Rattle.go_tree.specs.ScopeNames.Identifiers.{type_identifiers, expr_identifiers, exprs_identifiers, elems_identifiers, value_identifiers, value_option_identifiers}
 use Rattle.order_hazards.specs.declared.facts.Class.{Class}
 use Rattle.order_hazards.specs.declared.facts.Class.TheVariants.{Steady, Looks, Acts}
-use Rattle.go_tree.specs.GoTypes.Agreement.{In, head}
 use Rattle.go_tree.specs.GoTypes.Answers.{given, meets, is_among}
 use Rattle.go_tree.specs.GoTypes.Types.{GoType, base_of, element_of, map_parts}
-use Rattle.go_tree.specs.GoTypes.Defined.{under, methods}
 use Rattle.go_tree.specs.GoTypes.Entities.{Cap, Len, World, Env, defined_in}
 use Rattle.go_tree.specs.GoTypes.Literals.{is_struct}
 use Rattle.go_tree.specs.GoTypes.Operands.{Operand, a_type, a_builtin, typed, kind_passes}

@@ -1,63 +1,44 @@
 -- A call becomes the same form in two programs, at two places that differ in nothing but what names mean, if the call of a
 -- function with one result isn't a statement of its own.
-use Rattle.std.proofs.Common.{◌≡◌, refl, sym, ap, subst, ◌∙◌, ◌⊎◌, inl, inr, ℕ, zero, suc, Bool, true, false, not, ◌&&◌, ◌||◌, List, [], ◌∷◌, ◌++◌, map, Option, Some, None, if◌then◌else◌, nat_eq}
-use Rattle.std.specs.Prelude.{nat_lt, is_some}
-use Rattle.std.specs.List.{list_any, list_all, count_by}
-use Rattle.go_tree.specs.declared.exprs.Rest.TheVariants.{Plain}
-use Rattle.go_tree.specs.Tree.{NameAt, TypeExpr, Param, Expr, ident, selector, call, func_lit, Exprs, no_exprs, expr_and, Stmt, eval, assign, define, inner, return_, label, Stmts, no_stmts, stmt_and}
+use Rattle.std.proofs.Common.{◌≡◌, refl, sym, subst, ◌∙◌, ℕ, suc, Bool, true, false, not, ◌&&◌, List, [], ◌∷◌, ◌++◌, Option, Some, None, if◌then◌else◌}
+use Rattle.std.specs.Prelude.{is_some}
+use Rattle.go_tree.specs.Tree.{TypeExpr, Param, Expr, no_exprs, expr_and, Stmt, eval, return_}
 use Rattle.go_tree.specs.File.{Func}
-use Rattle.go_tree.specs.ScopeNames.Identifiers.{name_option, type_identifiers, params_identifiers, expr_identifiers, exprs_identifiers, stmt_identifiers, stmts_identifiers}
+use Rattle.go_tree.specs.ScopeNames.Identifiers.{name_option, type_identifiers, params_identifiers, expr_identifiers, stmts_identifiers}
 use Rattle.go_tree.specs.ScopeNames.Scopes.{expr_span}
-use Rattle.go_tree.specs.ScopeNames.Means.{means}
-use Rattle.go_tree.specs.declared.const_eval.consts.Const.{Const}
 use Rattle.param_choice.specs.Chosen.{has}
 use Rattle.pkg_graph.specs.Package.{SourceTree, Package}
-use Rattle.go_tree.specs.GoTypes.Agreement.{In, head, tail}
-use Rattle.go_tree.specs.GoTypes.Answers.{given, meets, otherwise}
-use Rattle.go_tree.specs.GoTypes.Bodies.{has_names}
-use Rattle.go_tree.specs.GoTypes.Entities.{World, Env, Entity, variable, stand_in, elsewhere, exact}
-use Rattle.go_tree.specs.GoTypes.Operands.{Operand, several, Typed, typed}
-use Rattle.go_tree.specs.GoTypes.Primary.{stands_alone}
-use Rattle.go_tree.specs.GoTypes.Recorded.{recorded_stmt, hardens}
-use Rattle.go_tree.specs.GoTypes.Types.{GoType}
-use Rattle.go_tree.specs.GoTypes.Typing.{parts, stmt, is_call}
+use Rattle.go_tree.specs.GoTypes.Answers.{given}
+use Rattle.go_tree.specs.GoTypes.Entities.{World}
 use Rattle.typed_in_place.specs.SameWorlds.SameWorlds.{SameWorld}
-use Rattle.run_rules.specs.BodyItems.{number_of}
-use Rattle.run_rules.specs.Rewriting.{new_params}
-use Rattle.run_rules.specs.Calls.{Given, Call, exprs_of, is_recover, declared_place, param_name, blank, is_stored, uses}
+use Rattle.run_rules.specs.Calls.{Given, Call, declared_place}
 use Rattle.run_rules.specs.Calls as calls
 use Rattle.run_rules.specs.Conversions.{converts}
-use Rattle.run_rules.specs.FormTrees.{FormKind, ConstForm, TypeForm, ExprForm, BlockForm, TailForm, LiteralForm, Form, as_expr, as_dropped, as_block, hole, is_statement, in_list, returned_types, all_identical, only_one, conversion, a_name, one_expr, top, type_expr}
+use Rattle.run_rules.specs.FormTrees.{FormKind, ConstForm, TypeForm, ExprForm, BlockForm, TailForm, LiteralForm, Form, is_statement, top}
 use Rattle.run_rules.specs.Forms as forms
-use Rattle.run_rules.specs.Naming.{Names, type_there}
-use Rattle.run_rules.specs.Programs.{numbered, world, param_types}
-use Rattle.run_rules.specs.Sites.{Where, is_deferred}
-use Rattle.run_rules.specs.Surroundings.{Use, whole, returned, deferred_call, other, Around, Place, Seen, seen, seen_stmt, local_at}
+use Rattle.run_rules.specs.Naming.{type_there}
+use Rattle.run_rules.specs.Programs.{numbered, world}
+use Rattle.run_rules.specs.Sites.{Where}
+use Rattle.run_rules.specs.Surroundings.{Place, Seen, seen_stmt}
 use Rattle.std.specs.Prelude.{is_none}
 use Rattle.go_tree.specs.GoTypes.Answers.{one_of}
-use Rattle.pkg_graph.specs.Members.{Target}
 use Rattle.run_rules.specs.Cycles.{is_recursive}
 use Rattle.run_rules.specs.Naming.{Named, unnamed, unnamed_in, names_by, package_path}
-use Rattle.run_rules.specs.Obstacles.{Obstacle, Recursive, CommentInside, Spread, Repeated, obstacle_if, not_accessible, internal_package, shadowed, is_repeated}
-use Rattle.run_rules.specs.Places.{stmts_seen}
+use Rattle.run_rules.specs.Obstacles.{Obstacle, Recursive, CommentInside, Spread, Repeated, obstacle_if, internal_package}
 use Rattle.run_rules.specs.Programs.{numbered_from, top_place}
-use Rattle.run_rules.specs.Reduced.{Reduced, becomes, kept, converts_somewhere, bound_type_written, param_text, types_text, writes_result, result_types_text, text_taken, statement_range, range_of, obstacle_for, call_at, needed_by, names_in_form, call_obstacle, is_free_form, first_free, kept_by, reduced_to, reduced_call}
+use Rattle.run_rules.specs.Reduced.{Reduced, becomes, kept, converts_somewhere, bound_type_written, param_text, types_text, writes_result, result_types_text, text_taken, statement_range, range_of, call_at, needed_by, names_in_form, call_obstacle, is_free_form, first_free, kept_by, reduced_to, reduced_call}
 use Rattle.run_rules.specs.FormTrees.{form_identifiers}
 use Rattle.run_rules.specs.Forms.{is_at}
 use Rattle.run_rules.specs.Sites.{MarkRef, Site, parts_of}
-use Rattle.run_rules.specs.Surroundings.{seen_type}
 use Rattle.typed_in_place.specs.ProgramsAlike.{no_more, and_more}
 use Rattle.argument_cycles.proofs.FoundThere.Applies as applies_
 use Rattle.argument_cycles.proofs.FoundThere.Chosen as chosen
-use Rattle.argument_cycles.proofs.FoundThere.Envs as envs
-use Rattle.argument_cycles.proofs.FoundThere.Envs.{Alike}
-use Rattle.argument_cycles.proofs.FoundThere.Names as names_
 use Rattle.argument_cycles.proofs.FoundThere.Names.{Reads}
 use Rattle.argument_cycles.proofs.FoundThere.Read as read
 use Rattle.argument_cycles.proofs.FoundThere.Forms as trees
 use Rattle.argument_cycles.proofs.FoundThere.Obstacles as obstacles
 use Rattle.argument_cycles.proofs.FoundThere.Walk as walk
-use Rattle.argument_cycles.proofs.FoundThere.Walk.{Both, Part, part_expr, part_type, part_stmt, Parts}
+use Rattle.argument_cycles.proofs.FoundThere.Walk.{Both, part_expr, part_type, part_stmt, Parts}
 
 -- One of two lists of parts, by the same test.
 module _ (left right : World) (same : SameWorld left right) (P : List ℕ → Type 0) {S : Type 0} where
@@ -116,7 +97,7 @@ module _ {S : Type 0} (eq : S → S → Bool) (commented : ℕ → ℕ → S →
 
   module _ (h : trees.Alike_ eq ps qs same Q home now f x.at.number (parts_of ps x.at x.decl) (parts_of qs later x.decl) x.place q x.use_ e (expr_span e) w1 w2 nums) (results : Both L R same P (params_identifiers f.sig.results) (top ps c) (top qs k)) (stays : obstacles.PlainStays ps qs same home now x.at later nums refl x.place q)
       (path : x.at.of.path ≡ of_later.path) (paths : (j : ℕ) → package_path ps j ≡ package_path qs j) (recursive : is_recursive ps marks x.mark ≡ is_recursive qs marks x.mark) where
-    module _ (ch : List Bool) (dropped : (is_statement x.use_ ≡ false) ⊎ (forms.result_type eq ps c unnamed ch ≡ None)) where
+    module _ (ch : List Bool) where
       abbrev AllHere : List (Given S) → Type 0
       AllHere gs = chosen.AllGivenHere eq ps qs same P Q home now f x.at.number (parts_of ps x.at x.decl) (parts_of qs later x.decl) x.place q x.use_ e (expr_span e) w1 w2 h gs
 
@@ -214,7 +195,7 @@ module _ {S : Type 0} (eq : S → S → Bool) (commented : ℕ → ℕ → S →
           (obstacle_if (obstacles.repeated-so ps qs same home now x.at later nums refl x.place q (λ w. (sym (h.at).is w).again) (text-so kind) v) Repeated))))))
 
       free-so : (kind : FormKind) → is_free_form eq commented ps marks x c ch kind ≡ is_free_form eq commented qs marks xa k ch kind
-      free-so kind = λ v. applies_.applies-so eq ps qs same Q home now f x.at.number (parts_of ps x.at x.decl) (parts_of qs later x.decl) x.place q x.use_ e (expr_span e) w1 w2 nums h results ch unnamed dropped kind v && is_none (obstacle-so kind v)
+      free-so kind = λ v. applies_.applies-so eq ps qs same Q home now f x.at.number (parts_of ps x.at x.decl) (parts_of qs later x.decl) x.place q x.use_ e (expr_span e) w1 w2 nums h results ch unnamed kind v && is_none (obstacle-so kind v)
 
       pub first-so : (ks : List FormKind) → first_free eq commented ps marks x c ch ks ≡ first_free eq commented qs marks xa k ch ks
       first-so [] = refl

@@ -1,5 +1,5 @@
 -- A use becomes the same form in two programs whose names mean the same, where the form's names for packages are the same.
-use Rattle.std.proofs.Common.{◌≡◌, refl, sym, ◌∙◌, ◌⊎◌, ℕ, Bool, false, List, [], ◌∷◌, ◌++◌, map, Option, Some, None}
+use Rattle.std.proofs.Common.{◌≡◌, refl, sym, ◌∙◌, ℕ, Bool, List, [], ◌∷◌, ◌++◌, map, Option, Some, None}
 use Rattle.go_tree.specs.Tree.{TypeExpr, Expr}
 use Rattle.go_tree.specs.File.{Func}
 use Rattle.go_tree.specs.ScopeNames.Binders.{func_binders}
@@ -11,10 +11,9 @@ use Rattle.typed_in_place.specs.SameWorlds.SameWorlds.{SameWorld}
 use Rattle.run_rules.specs.Calls.{Call}
 use Rattle.run_rules.specs.Calls as calls
 use Rattle.run_rules.specs.Cycles.{is_recursive}
-use Rattle.run_rules.specs.Forms as forms
-use Rattle.run_rules.specs.FormTrees.{FormKind, Form, is_statement}
+use Rattle.run_rules.specs.FormTrees.{FormKind, Form}
 use Rattle.run_rules.specs.ImportRules.Needs.{serving, avoided}
-use Rattle.run_rules.specs.Naming.{Named, unnamed, name_added, environment_here, package_path, names_here, fresh_name, own_name, added_import, named_package, named_packages, names_by}
+use Rattle.run_rules.specs.Naming.{Named, name_added, environment_here, package_path, names_here, fresh_name, own_name, added_import, named_package, named_packages, names_by}
 use Rattle.run_rules.specs.Programs.{world, top_place}
 use Rattle.run_rules.specs.Reduced.{becomes, call_at, needed_by, names_in_form, range_of, reduced_call, reduced_function, reduced_in, reduced}
 use Rattle.run_rules.specs.Sites.{MarkRef, Where, an_expr, Site, a_function, where_is, inlinable, parts_of}
@@ -29,7 +28,7 @@ use Rattle.argument_cycles.proofs.FoundThere.Walk.{Both}
 
 module _ {S : Type 0} (ps : List (Package S)) (w : Where S) where
   -- they are named for the packages that are asked for
-  ofs : (p : Place S) (bound : List (List ℕ)) (qs : List ℕ) → map (λ (m : Named). m.of) (named_packages ps w p bound qs) ≡ qs
+  pub ofs : (p : Place S) (bound : List (List ℕ)) (qs : List ℕ) → map (λ (m : Named). m.of) (named_packages ps w p bound qs) ≡ qs
   ofs p bound [] = refl
   ofs p bound (q ∷ qs) = λ v. one v ∷ ofs p (name_added (named_package ps w p bound q) ++ bound) qs v
     where
@@ -96,17 +95,17 @@ module _ {S : Type 0} (eq : S → S → Bool) (commented : ℕ → ℕ → S →
   module _ (h : trees.Alike_ eq ps qs same Q home now f x.at.number (parts_of ps x.at x.decl) (parts_of qs later x.decl) x.place q x.use_ e (expr_span e) w1 w2 nums)
       (results : Both (world ps) (world qs) same P (params_identifiers f.sig.results) (top_place ps home.number home.of home.source.tree) (top_place qs now.number now.of now.source.tree)) (stays : obstacles.PlainStays ps qs same home now x.at later nums refl x.place q)
       (path : x.at.of.path ≡ of_later.path) (paths : (j : ℕ) → package_path ps j ≡ package_path qs j) (recursive : is_recursive ps marks x.mark ≡ is_recursive qs marks x.mark)
-      (dropped : (is_statement x.use_ ≡ false) ⊎ (forms.result_type eq ps c unnamed ch ≡ None)) (bound : q.bound ≡ x.place.bound)
+      (bound : q.bound ≡ x.place.bound)
       (stands : where_is ps x.mark ≡ Some home) (declared : inlinable ps x.mark ≡ Some (a_function f)) (part : x.part ≡ an_expr e) (stands-now : where_is qs x.mark ≡ Some now) (declared-now : inlinable qs x.mark ≡ Some (a_function f))
       (kind : FormKind) (form : Form S) (range : S) (named : List Named) (was : reduced eq commented ps marks x ≡ Some (becomes kind form range named))
       (stay : names_by (named_packages qs later x.place (func_binders f) (map (λ m. m.of) named)) ≡ names_by named) where
-    old-made : reduces.Made eq commented ps qs marks same Q home now f x of_later source_later q e nums h results stays path paths recursive ch dropped kind form range named
-    old-made = reduces.made eq commented ps qs marks same Q home now f x of_later source_later q e nums h results stays path paths recursive ch dropped kind form range named (sym (made-of eq commented ps marks x home f e stands declared part) ∙ was)
+    old-made : reduces.Made eq commented ps qs marks same Q home now f x of_later source_later q e nums h results stays path paths recursive ch kind form range named
+    old-made = reduces.made eq commented ps qs marks same Q home now f x of_later source_later q e nums h results stays path paths recursive ch kind form range named (sym (made-of eq commented ps marks x home f e stands declared part) ∙ was)
 
     needed-is : map (λ (m : Named). m.of) named ≡ needed_by eq commented qs marks k ch kind
     needed-is =
         (λ v. map (λ (m : Named). m.of) (sym old-made.named_is v)) ∙ ofs ps x.at x.place (func_binders f) (needed_by eq commented ps marks c ch kind)
-        ∙ reduces.needed-so eq commented ps qs marks same Q home now f x of_later source_later q e nums h results stays path paths recursive ch dropped kind
+        ∙ reduces.needed-so eq commented ps qs marks same Q home now f x of_later source_later q e nums h results stays path paths recursive ch kind
 
     names-are : names_by (names_in_form eq commented qs marks xa k ch kind) ≡ names_by named
     names-are =
@@ -121,5 +120,5 @@ module _ {S : Type 0} (eq : S → S → Bool) (commented : ℕ → ℕ → S →
       range_of eq commented qs marks kind k,
       names_in_form eq commented qs marks xa k ch kind,
       made-of eq commented qs marks xa now f e stands-now declared-now part ∙ (λ v. reduced_call eq commented qs marks xa k (sym chosen-so v))
-          ∙ reduces.made-there eq commented ps qs marks same Q home now f x of_later source_later q e nums h results stays path paths recursive ch dropped kind form range named old-made names-are,
+          ∙ reduces.made-there eq commented ps qs marks same Q home now f x of_later source_later q e nums h results stays path paths recursive ch kind form range named old-made names-are,
     )

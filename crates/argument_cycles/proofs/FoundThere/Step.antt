@@ -1,5 +1,5 @@
 -- With the imports of a step's form added, the call that the step replaces becomes the same form.
-use Rattle.std.proofs.Common.{◌≡◌, refl, sym, ap, subst, ◌∙◌, ◌⊎◌, inl, inr, ℕ, Bool, true, false, ◌&&◌, nat_eq, List, [], ◌∷◌, ◌++◌, map, Option, Some, None, if◌then◌else◌}
+use Rattle.std.proofs.Common.{◌≡◌, refl, sym, subst, ◌∙◌, ℕ, Bool, true, false, ◌&&◌, nat_eq, List, [], ◌∷◌, ◌++◌, map, Option, Some, None, if◌then◌else◌}
 use Rattle.std.specs.Prelude.{slice_get, is_none}
 use Rattle.std.proofs.lemmas.Option.{same_Some}
 use Rattle.go_tree.specs.Tree.{TypeExpr, named, pointer, Param, Expr}
@@ -15,15 +15,12 @@ use Rattle.go_tree.specs.GoTypes.Types.{GoType, named_type, pointer_to, type_nam
 use Rattle.typed_in_place.specs.SameWorlds.SameWorlds.{SameWorld}
 use Rattle.typed_in_place.proofs.SameWorlds.DefinedSame.{under-same}
 use Rattle.run_rules.specs.Calls.{Call}
-use Rattle.run_rules.specs.Calls as calls
 use Rattle.run_rules.specs.Cycles.{is_recursive}
-use Rattle.run_rules.specs.Forms as forms
-use Rattle.run_rules.specs.FormTrees.{is_statement, only_one}
 use Rattle.run_rules.specs.Naming.{Named, unnamed, named_packages, names_by}
 use Rattle.run_rules.specs.Programs.{world, top_place, body_place, with_receiver, receiver_param, receiver_types, param_types, type_of_func, decl_seen}
 use Rattle.run_rules.specs.Reduced.{becomes, call_at, reduced}
 use Rattle.run_rules.specs.Run.{Standing, Logged, Next, is_commented, here_of}
-use Rattle.run_rules.specs.Sites.{MarkRef, Where, Part, an_expr, a_type_part, Site, a_function, inlinable_in, inlinable, parts_of, sites}
+use Rattle.run_rules.specs.Sites.{MarkRef, Where, Site, a_function, inlinable_in, inlinable, parts_of, sites}
 use Rattle.run_rules.specs.Steps.{At, same_here}
 use Rattle.run_rules.specs.Surroundings.{Place, Seen}
 use Rattle.splice_laws.proofs.ImportSplices.FormSplices.FormsFound.{IsForm, first-form}
@@ -41,7 +38,7 @@ use Rattle.order_runs.proofs.CycleRuns.OrderCycles.StepAdded.{added-declare}
 use Rattle.literal_cycles.specs.BodyForms.Uses.{CalledUse}
 use Rattle.literal_cycles.proofs.Agreed.{func_of_decl}
 use Rattle.argument_cycles.specs.ImportingSteps.Puts.{site_there}
-use Rattle.argument_cycles.specs.FoundThere.There.{UseThere, FormThere, AddsApart, NamesStay, NoneDropped}
+use Rattle.argument_cycles.specs.FoundThere.There.{UseThere, FormThere, AddsApart, NamesStay}
 use Rattle.argument_cycles.proofs.FoundThere.Chosen as chosen
 use Rattle.argument_cycles.proofs.FoundThere.Decls as decls
 use Rattle.argument_cycles.proofs.FoundThere.Decls.{same_found, step-parts, names_same}
@@ -57,13 +54,6 @@ use Rattle.argument_cycles.proofs.FoundThere.Walk as walk
 use Rattle.argument_cycles.proofs.FoundThere.Walk.{Both, no_around, Parts}
 
 -- ---- a step
-
-abbrev expr_or : Expr At → Part At → Expr At
-expr_or d (an_expr e) = e
-expr_or d (a_type_part t) = d
-
-same_tree : (a b : Expr At) (p : Part At) → p ≡ an_expr a → p ≡ an_expr b → a ≡ b
-same_tree a b p q r = ap (expr_or a) (sym q ∙ r)
 
 module _ (marks : List MarkRef) (st : Standing) (l : Logged) (after : Standing) (n : Next marks st l after) (new : AddsNewNames st.packages n.found) (before : AllOrdered st.packages) (added : AllOrdered (packages_added st.packages n.found))
     (u : CalledUse same_here (is_commented st) st.packages marks n.found.site) (t : UseThere n) where
@@ -85,9 +75,6 @@ module _ (marks : List MarkRef) (st : Standing) (l : Logged) (after : Standing) 
   abbrev e : Expr At
   e = t.tree
 
-  tree-is : e ≡ u.tree
-  tree-is = same_tree e u.tree n.found.site.part t.part u.part
-
   here : Placed here_of (λ (z : Span). Unit {0}) ps marks x
   here = placed marks st l after n
 
@@ -107,9 +94,6 @@ module _ (marks : List MarkRef) (st : Standing) (l : Logged) (after : Standing) 
 
   abbrev now : Where At
   now = files.new_file marks st l after n new x.mark file
-
-  home-is : home ≡ u.home
-  home-is = same_Some home u.home (sym file.before ∙ u.stands)
 
   declared : DeclaredThere ps x.mark (a_function f)
   declared = declared_there ps x.mark (a_function f) u.declared
@@ -261,17 +245,7 @@ module _ (marks : List MarkRef) (st : Standing) (l : Logged) (after : Standing) 
   bound-is : place.bound ≡ x.place.bound
   bound-is = walk.bound_same (world ps) (world mid) Same Q at-use
 
-  module _ (apart : AddsApart n) (stay : NamesStay n x.place (func_binders f)) (none : NoneDropped n u) where
-    abbrev ch : List Bool
-    ch = calls.chosen same_here ps c
-
-    dropped : (is_statement x.use_ ≡ false) ⊎ (forms.result_type same_here ps c unnamed ch ≡ None)
-    dropped = by none
-      where
-        by : NoneDropped n u → (is_statement x.use_ ≡ false) ⊎ (forms.result_type same_here ps c unnamed ch ≡ None)
-        by (inl h) = inl h
-        by (inr h) = inr ((λ v. only_one (calls.func_type_is same_here ps (call_at same_here (is_commented st) ps marks x (home-is v) f (tree-is v))).results) ∙ h)
-
+  module _ (apart : AddsApart n) (stay : NamesStay n x.place (func_binders f)) where
     stays : obstacles.PlainStays ps mid Same home now x.at wa refl refl x.place place
     stays = plain-now marks st l after n new x.mark file apart x.place place bound-is
 
@@ -285,7 +259,7 @@ module _ (marks : List MarkRef) (st : Standing) (l : Logged) (after : Standing) 
 
     again : (r : At) × (m : List Named) × (reduced same_here (is_commented st) mid marks xa ≡ Some (becomes n.found.kind n.found.form r m))
     again =
-        remade.again same_here (is_commented st) ps mid marks Same Q home now f x wa.of wa.source place e refl alike results-at stays refl (path-now marks st l after n) recursive dropped bound-is file.before u.declared t.part file.after_ declared-now n.found.kind n.found.form n.found.range n.found.named
+        remade.again same_here (is_commented st) ps mid marks Same Q home now f x wa.of wa.source place e refl alike results-at stays refl (path-now marks st l after n) recursive bound-is file.before u.declared t.part file.after_ declared-now n.found.kind n.found.form n.found.range n.found.named
         found-form.form_is stay-so
 
     pub form-there : FormThere n place

@@ -19,14 +19,12 @@ use Rattle.go_tree.specs.GoTypes.Statements.{right_values}
 use Rattle.go_tree.specs.GoTypes.Typing.{parts, all_parts, places, declares, declares_first, range_declares, binds_of}
 use Rattle.go_tree.specs.GoTypes.Bodies.{labelled, no_values, body_binds, body_ctx}
 use Rattle.go_tree.specs.GoTypes.Declarations.{Repeated, nothing_to_repeat, new_constants, new_variables, binds_or}
-use Rattle.go_tree.specs.GoTypes.Agreement.{In}
 use Rattle.typed_in_place.specs.ProgramsAlike.{OneByOne, no_more, and_more}
 use Rattle.typed_in_place.specs.SameWorlds.SameWorlds.{SameWorld}
-use Rattle.typed_in_place.proofs.ProgramsReplaced.{append_one, one_by_one}
-use Rattle.run_rules.specs.Surroundings.{Use, whole, stored, updated, called, deferred_call, alone, other, Slot, a_slot, Around, Place, Seen, seen, seen_type, seen_stmt, alike, into_type, head_use, later_uses, arg_uses, unary_use, operand_use, first_operand_use, right_uses, every_use, value_use, return_uses, elem_use, key_use, inner_slot, last_slot, in_slot, callee_place, comma_slot, elem_closed, with_binds, after_stmt, after_first, first_declares, left_declares, block, looping, switching, in_heading, at_stmt, plain_slot, ranged, in_literal, repeated_by, repeated_around, in_constant, after_constants, before_repeats, after_variables, is_old}
+use Rattle.typed_in_place.proofs.ProgramsReplaced.{append_one}
+use Rattle.run_rules.specs.Surroundings.{Use, whole, stored, updated, called, deferred_call, alone, other, Slot, a_slot, Around, Place, Seen, seen, seen_type, seen_stmt, alike, into_type, head_use, later_uses, arg_uses, unary_use, operand_use, first_operand_use, right_uses, every_use, value_use, return_uses, elem_use, key_use, inner_slot, last_slot, in_slot, callee_place, comma_slot, elem_closed, with_binds, after_stmt, after_first, first_declares, left_declares, block, looping, switching, in_heading, at_stmt, plain_slot, ranged, in_literal, repeated_by, in_constant, after_constants, before_repeats, after_variables, is_old}
 use Rattle.run_rules.specs.Places.{written_seen, params_seen, sig_seen, old_seen, after_arms, expr_seen, all_seen, option_seen, elems_seen, key_seen, value_seen, stmt_seen, stmts_seen, first_seen, block_seen, left_seen, arms_seen, cases_seen, constants_seen, variables_seen}
 use Rattle.order_runs.proofs.CycleLaws.Called.{at_member}
-use Rattle.order_runs.proofs.CycleRuns.ImportCycles.FreeIdentifiers.{in-left}
 use Rattle.argument_cycles.proofs.FoundThere.Envs as envs
 use Rattle.argument_cycles.proofs.FoundThere.Envs.{Alike, ReadAlike}
 

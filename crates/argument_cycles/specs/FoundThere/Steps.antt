@@ -2,7 +2,6 @@
 -- specification, Calls; Import declarations; Qualified identifiers; Blocks; Function literals).
 use Rattle.std.specs.Prelude.{◌≡◌, List, Some, slice_get}
 use Rattle.go_tree.specs.File.{Func, func}
-use Rattle.go_tree.specs.ScopeNames.Binders.{func_binders}
 use Rattle.run_rules.specs.Places.{stmts_seen}
 use Rattle.run_rules.specs.Programs.{body_place}
 use Rattle.run_rules.specs.Run.{Standing, Logged, Next, is_commented}
@@ -13,15 +12,13 @@ use Rattle.literal_cycles.specs.FormCycles.Bodies.{changes_of}
 use Rattle.literal_cycles.specs.BodyForms.Steps.{AllStayThere}
 use Rattle.literal_cycles.specs.BodyForms.Uses.{CalledUse}
 use Rattle.argument_cycles.specs.ImportingSteps.Puts.{FreeBlock, FreeLiteral, FreeExpression, site_there}
-use Rattle.argument_cycles.specs.FoundThere.There.{UseThere, NamesStay, NoneDropped}
+use Rattle.argument_cycles.specs.FoundThere.There.{UseThere}
 
 module _ {marks : List MarkRef} {st : Standing} {l : Logged} {after : Standing} (n : Next marks st l after) where
-  -- A step uses a function, and its form has names for packages that they have with the imports added; the use has this
-  -- place then. In the function around, what is around it stays.
+  -- A step uses a function, and with the imports of its form added the use has this place. In the function around, what
+  -- is around it stays.
   pub record CallFound : Type 0 where
     pub use_ : CalledUse same_here (is_commented st) st.packages marks n.found.site
-    pub no_statement : NoneDropped n use_
-    pub same_names : NamesStay n n.found.site.place (func_binders use_.callee)
     pub there : UseThere n
     pub around :
         (g : Func At) → slice_get n.found.site.at.source.tree.decls n.found.site.decl ≡ Some (func g)

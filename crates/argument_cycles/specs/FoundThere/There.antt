@@ -1,13 +1,12 @@
 -- A step's use with the imports of its form added to its file (Go specification, Calls; Import declarations; Qualified
 -- identifiers; Declarations and scope).
-use Rattle.std.specs.Prelude.{◌≡◌, ◌⊎◌, ℕ, false, List, map, ◌++◌, Some, None, slice_get}
+use Rattle.std.specs.Prelude.{◌≡◌, ℕ, List, map, ◌++◌, Some, None, slice_get}
 use Rattle.go_tree.specs.File.{Decl}
 use Rattle.go_tree.specs.ScopeNames.Means.{means, numbered}
 use Rattle.go_tree.specs.ScopeNames.Means as scope
 use Rattle.go_tree.specs.Tree.{Expr}
 use Rattle.pkg_graph.specs.Members.{Target, predeclared, package_block}
 use Rattle.pkg_graph.specs.Package.{specs_in}
-use Rattle.run_rules.specs.FormTrees.{is_statement, only_one}
 use Rattle.run_rules.specs.Naming.{imports_added, named_packages, names_by}
 use Rattle.run_rules.specs.Programs.{decl_seen}
 use Rattle.run_rules.specs.Run.{Standing, Logged, Next, is_commented}
@@ -16,8 +15,7 @@ use Rattle.run_rules.specs.Steps.{At, same_here, added_decls}
 use Rattle.run_rules.specs.Surroundings.{Place, seen}
 use Rattle.order_runs.specs.CycleRuns.ImportCycles.ImportSteps.{file_added, packages_added, where_added}
 use Rattle.order_runs.specs.CycleRuns.ImportCycles.OtherImports.{import_path}
-use Rattle.literal_cycles.specs.BodyForms.Uses.{CalledUse, call_of, Becomes}
-use Rattle.run_rules.specs.Calls.{func_type_is}
+use Rattle.literal_cycles.specs.BodyForms.Uses.{CalledUse, Becomes}
 use Rattle.argument_cycles.specs.ImportingSteps.Puts.{site_there}
 
 module _ {marks : List MarkRef} {st : Standing} {l : Logged} {after : Standing} (n : Next marks st l after) where
@@ -51,7 +49,7 @@ module _ {marks : List MarkRef} {st : Standing} {l : Logged} {after : Standing} 
         n.found.kind
     pub same_form : becomes.form ≡ n.found.form
 
-  -- ---- what is asked of a step
+  -- ---- names there
 
   -- no import that is added has a predeclared name, or that of a declaration of the package of the use
   abbrev pub AddsApart : Type 0
@@ -73,11 +71,3 @@ module _ {marks : List MarkRef} {st : Standing} {l : Logged} {after : Standing} 
       (named_packages (packages_added st.packages n.found) (where_added n.found) place binders
       (map (λ m. m.of) n.found.named)) j
       ≡ names_by n.found.named j
-
-  -- a call of a function with one result is no statement of its own
-  abbrev pub NoneDropped : CalledUse same_here (is_commented st) st.packages marks n.found.site → Type 0
-  NoneDropped u =
-      (is_statement n.found.site.use_ ≡ false)
-      ⊎ (only_one
-      (func_type_is same_here st.packages (call_of same_here (is_commented st) st.packages marks n.found.site u)).results
-      ≡ None)

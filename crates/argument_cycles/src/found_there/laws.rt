@@ -3,12 +3,13 @@
 ghost use Rattle.argument_cycles.specs.FoundThere.Laws as law;
 
 /// With the imports of its form added to its file, the call that a step replaces stands where it stood and calls
-/// the same function, and it becomes the form that the step puts, an expression, statements or a literal: its
-/// arguments are given and chosen as they were, nothing new is in the way, and what the body calls has the
-/// same marks. Asked are that packages have the names there that they have in the form, and that no call of
-/// a function with one result is a statement of its own.
+/// the same function, each package has there the name that it has in the form, and the call becomes the form that
+/// the step puts, an expression, statements or a literal: its arguments are given and chosen as they were, nothing
+/// new is in the way, and what the body calls has the same marks. Asked is that packages have names of their own,
+/// as in each program of a run.
 pub fn added_imports_keep_forms()
     ensures stands { law.CallsStandThere }
+    ensures names { law.PackagesKeepNames }
     ensures forms { law.CallsBecomeTheSame }
 {}
 

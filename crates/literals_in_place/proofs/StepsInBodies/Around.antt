@@ -23,7 +23,8 @@ use Rattle.literal_steps.specs.RankedMarks.Free.{is_free, Translated, NoConstant
 use Rattle.literal_steps.specs.RankedMarks.Ranks.{marked_functions}
 use Rattle.meaning_in_place.specs.Runs.{ShowTheSame}
 use Rattle.literals_in_place.specs.Steps.{function_called}
-use Rattle.literals_in_place.specs.StepsInBodies.Functions.{use_here, BlankAlike, LedFrom, StandsInFunction, with_form, Anywhere, ImportStaysUsed}
+use Rattle.literals_in_place.specs.StepsInBodies.Functions.{use_here, LedFrom, StandsInFunction, with_form, Anywhere, ImportStaysUsed}
+use Rattle.literals_in_place.proofs.StepsInBodies.BlankUses.{blank_alike}
 use Rattle.literals_in_place.proofs.StepsInBodies.Imports.{right_after}
 use Rattle.literals_in_place.proofs.StepsInBodies.Led.{numbered_there, led}
 use Rattle.literals_in_place.proofs.StepsInBodies.Numbered.{nth_package}
@@ -62,9 +63,9 @@ module _ (same : Span → Span → Bool) (commented : ℕ → ℕ → Span → B
         clear = all_lower same x (λ t. leads_there) (stmts_seen (body_place rs x.at.number x.at.of x.at.source.tree r.function) r.function.body) r.clear;
       }
 
-module _ (same : Span → Span → Bool) (itself : (s : Span) → same s s ≡ true) (commented : ℕ → ℕ → Span → Bool) (rs : List (Package Span)) (marks : List MarkRef) (x : Site Span) (u : LiteralUse same commented rs marks x) (v : PlainCall same commented rs marks x u) (ms : List (translated.Package Span)) (l : Linked rs ms x same commented marks u) (names : Environment Entity) (h : CalledBeside rs ms x names (use_here ms x)) (y : PackagesServe rs ms x same commented marks u (use_here ms x)) (e : Expr Span) (q : u.form ≡ as_expr e) (r : StandsInFunction same rs x u.tree e Anywhere ms) (blank : BlankAlike x.place.env u.tree e) (stays : ImportStaysUsed x v.called ms (with_form same rs x u.tree e Anywhere ms r)) where
+module _ (same : Span → Span → Bool) (itself : (s : Span) → same s s ≡ true) (commented : ℕ → ℕ → Span → Bool) (rs : List (Package Span)) (marks : List MarkRef) (x : Site Span) (u : LiteralUse same commented rs marks x) (v : PlainCall same commented rs marks x u) (ms : List (translated.Package Span)) (l : Linked rs ms x same commented marks u) (names : Environment Entity) (h : CalledBeside rs ms x names (use_here ms x)) (y : PackagesServe rs ms x same commented marks u (use_here ms x)) (e : Expr Span) (q : u.form ≡ as_expr e) (r : StandsInFunction same rs x u.tree e Anywhere ms) (stays : ImportStaysUsed x v.called (with_form same rs x u.tree e Anywhere ms r)) where
   pub imports_right : imports_ok (sources (with_form same rs x u.tree e Anywhere ms r)) ≡ true
-  imports_right = right_after same itself commented rs marks x u v ms l names h y e q (around same commented rs marks x u v ms l e r) blank stays
+  imports_right = right_after same itself commented rs marks x u v ms l names h y e q (around same commented rs marks x u v ms l e r) (blank_alike same commented rs marks x u v ms l names (use_here ms x) h y e q) stays
 
   pub step_shows : Translated rs marks ms → NoConstantGroups rs marks → ShowTheSame (is_free rs marks (paths_in ms)) (length (marked_functions rs marks)) ms (with_form same rs x u.tree e Anywhere ms r)
-  step_shows all plain = shows same itself commented rs marks x u v ms l names h y e q (around same commented rs marks x u v ms l e r) blank all plain imports_right
+  step_shows all plain = shows same itself commented rs marks x u v ms l names h y e q (around same commented rs marks x u v ms l e r) (blank_alike same commented rs marks x u v ms l names (use_here ms x) h y e q) all plain imports_right

@@ -55,12 +55,12 @@ is_dotted (selector s e n) = 1
 is_dotted e = 0
 
 -- the call names its function plainly
-stays : ImportStaysUsed use_of_add (ident (at 44) (codes "add")) packages (with_form same_span rs use_of_add adding literal Anywhere packages in_main_function)
+stays : ImportStaysUsed use_of_add (ident (at 44) (codes "add")) (with_form same_span rs use_of_add adding literal Anywhere packages in_main_function)
 stays s t q f e = absurd (grind (arith, ap is_dotted e))
 
 shows : ShowTheSame (is_free rs marks (paths_in packages)) 1 packages (with_form same_span rs use_of_add adding literal Anywhere packages in_main_function)
 unfolding is_literal_use is_plain_call in_main_function
-shows = step_shows same_span itself no_comments rs marks use_of_add is_literal_use is_plain_call packages is_linked [] (called_beside is_called) no_packages literal refl in_main_function blank_alike stays is_translated no_groups
+shows = step_shows same_span itself no_comments rs marks use_of_add is_literal_use is_plain_call packages is_linked [] (called_beside is_called) no_packages literal refl in_main_function stays is_translated no_groups
 
 -- ---- what stands there twice
 

@@ -1,5 +1,6 @@
 -- In the packages of a run with the literal in the place of its call each import is used, where the import is that the call names its function by.
 use Rattle.std.proofs.Common.{◌≡◌, refl, sym, ap, ◌∙◌, subst, ℕ, Bool, true, false, ◌||◌, List, [], ◌∷◌, bytes_eq, arith}
+use Rattle.std.specs.Prelude.{nat_eq}
 use Rattle.std.proofs.lemmas.Slice.Eq.{bytes_eq-Decides}
 use Rattle.go_tree.specs.declared.exprs.Rest.TheVariants.{Plain}
 use Rattle.go_tree.specs.declared.spans.Span.{Span}
@@ -23,6 +24,7 @@ use Rattle.typed_in_place.proofs.SpansAside.{operand_spans_aside}
 use Rattle.run_rules.specs.FormTrees.{as_expr}
 use Rattle.run_rules.specs.Programs.{linked}
 use Rattle.run_rules.specs.Sites.{MarkRef, Site, part_span}
+use Rattle.constant_steps.proofs.NamesOutside.{equal_numbers}
 use Rattle.constant_steps.specs.StepLaws.SwapPrograms.{members_put}
 use Rattle.literal_steps.proofs.CallMeant.{form_is}
 use Rattle.literal_steps.specs.AddedImports.Beside.{CalledBeside}
@@ -89,9 +91,9 @@ module _ (same : Span → Span → Bool) (itself : (s : Span) → same s s ≡ t
   abbrev after_step : Program Span
   after_step = sources after
 
-  -- where the call names its function by an import, each file of its package that uses that name uses it after the step
+  -- where the call names its function by an import, its file uses that name after the step
   abbrev Stays : Type 0
-  Stays = ImportStaysUsed x v.called ms after
+  Stays = ImportStaysUsed x v.called after
 
   module _ (stays : Stays) where
     same_world : collected before_step ≡ collected after_step
@@ -111,10 +113,22 @@ module _ (same : Span → Span → Bool) (itself : (s : Span) → same s s ≡ t
 
     by_name : (file : ℕ) (n : List ℕ) → is_among n (block_names r.of.source.files) ≡ false → (f : Expr Span) → v.called ≡ f → NamesCallee same commented rs marks x u v.name f → is_among n (used x.place.env f) ≡ true → UsedAfter file n
     by_name file n m _ p (plainly {s = s} same_package) k = λ i. absurd (grind (arith, sym m ∙ ap (λ (b : List ℕ). is_among b (block_names r.of.source.files)) (only_one n v.name k) ∙ own s p))
-    by_name file n m _ p (by_import {s = s} {z = z} {t = t} {q = b} f g) k =
-        λ i. subst (λ (w : World). is_used_in w x.at.number file n (headed after_step) ≡ true) (sym same_world)
-        (ap (λ (c : List ℕ). is_used_in (collected after_step) x.at.number file c (headed after_step)) (only_one n b k)
-        ∙ stays s z b (record { span = t; name = v.name }) p file (ap (λ (c : List ℕ). is_used_in (collected before_step) x.at.number file c (headed before_step)) (sym (only_one n b k)) ∙ i))
+    by_name file n m _ p (by_import {s = s} {z = z} {t = t} {q = b} f g) k = λ i. go (nat_eq x.at.file_number file) refl i
+      where
+        go : (c : Bool) → nat_eq x.at.file_number file ≡ c → is_used_in (collected before_step) x.at.number file n (headed before_step) ≡ true → is_used_in (collected before_step) x.at.number file n (headed after_step) ≡ true
+        go true h i =
+            subst (λ (w : World). is_used_in w x.at.number file n (headed after_step) ≡ true) (sym same_world)
+            (ap (λ (c : List ℕ). is_used_in (collected after_step) x.at.number file c (headed after_step)) (only_one n b k)
+            ∙ subst (λ (j : ℕ). is_used_in (collected after_step) x.at.number j b (headed after_step) ≡ true) (equal_numbers x.at.file_number file h) (stays s z b (record { span = t; name = v.name }) p))
+        go false h i =
+            sym
+            (kept.elsewhere same x u.tree e
+            (steps.here same itself commented rs marks x u v ms l names beside serve e q r blank)
+            (steps.calls same itself commented rs marks x u v ms l names beside serve e q r blank)
+            (steps.form same itself commented rs marks x u v ms l names beside serve e q r blank)
+            (steps.facts same itself commented rs marks x u v ms l names beside serve e q r blank)
+            blank (ranks_of rs marks ms) callee rs ms ranked Held there l.sources_are l.distinct file h n)
+            ∙ i
 
     each : (file : ℕ) (n : List ℕ) → is_among n (block_names r.of.source.files) ≡ false → UsedAfter file n
     each file n m = go (is_among n (used x.place.env v.called)) refl

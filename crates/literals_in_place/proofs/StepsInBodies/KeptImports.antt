@@ -130,7 +130,7 @@ module _ {S : Type 0} (change : Decl S → Decl S) (f g : Func S) (becomes : cha
   names_behind [] xs ys e = e
   names_behind (h ∷ hs) xs ys e = λ i. header_names h.1 ++ names_behind hs xs ys e i
 
-  decls_names : (d : ℕ) (ds : List (Decl S)) → slice_get ds d ≡ Some (func f) → names_in (all_headers ds) ≡ names_in (all_headers (change_nth d change ds))
+  pub decls_names : (d : ℕ) (ds : List (Decl S)) → slice_get ds d ≡ Some (func f) → names_in (all_headers ds) ≡ names_in (all_headers (change_nth d change ds))
   decls_names d [] e = refl
   decls_names zero (y ∷ ds) e =
       subst (λ (v : Decl S). names_in (headers v ++ all_headers ds) ≡ names_in (headers (change v) ++ all_headers ds)) (sym (same_Some y (func f) e))

@@ -41,6 +41,7 @@ use Rattle.literals_in_place.proofs.StepsInBodies.Staying.{spread}
 use Rattle.literals_in_place.proofs.StepsInBodies.TypedPackages as typed
 use Rattle.literals_in_place.proofs.StepsInBodies.KeptImports.{Keeps, used_after, members_keep, files_still, files_after, files_names}
 use Rattle.literals_in_place.proofs.StepsInBodies.Numbered.{others, none_so, turned}
+use Rattle.literals_in_place.proofs.StepsInBodies.OtherFiles.{others_stay}
 use Rattle.literals_in_place.proofs.StepsInBodies.Rises.{Rises, RisesIn, body_rises}
 
 module _ {S : Type 0} (same : S → S → Bool) (x : Site S) (tree e : Expr S) (here : is_at same (part_span x.part) tree ≡ true) (calls : is_call tree ≡ true) (form : is_call e ≡ true) (facts : SameOperand (names_of x.place.bound) x.place.env tree e) (blank : BlankAlike x.place.env tree e) (rank : FuncName → ℕ) (callee : FuncName) (rs : List (Package S)) (ms : List (translated.Package S)) (r : StandsInFunction same rs x tree e (Lower rank callee) ms)
@@ -111,13 +112,18 @@ module _ {S : Type 0} (same : S → S → Bool) (x : Site S) (tree e : Expr S) (
 
   -- ---- of the use's package, and of all
 
+  number_is : r.of.source.number ≡ x.at.number
+  number_is = ap (λ (s : SourcePackage S). s.number) r.source_is
+
+  source_there : slice_get r.of.source.files x.at.file_number ≡ Some (linked_file rs x.at.source)
+  source_there = subst (λ (v : SourcePackage S). slice_get v.files x.at.file_number ≡ Some (linked_file rs x.at.source)) (sym r.source_is) (nth_mapped (linked_file rs) x.at.of.files x.at.file_number x.at.source r.file_there)
+
+  -- another file uses the names that it used
+  pub elsewhere : (file : ℕ) → nat_eq x.at.file_number file ≡ false → (n : List ℕ) → is_used_in w x.at.number file n hs ≡ is_used_in w x.at.number file n ks
+  elsewhere file apart n =
+      others_stay w x.at.number file n change r.function (packages.after same x tree e here calls form facts blank rank callee rs ms r) (becomes same x tree e here calls form facts blank rank callee rs ms r) refl x.at.file_number x.decl apart (linked_file rs x.at.source) r.decl_there r.nth ms r.of r.is_nth source_there
+
   module _ (each : (file : ℕ) (n : List ℕ) → is_among n (block_names r.of.source.files) ≡ false → is_used_in w x.at.number file n hs ≡ true → is_used_in w x.at.number file n ks ≡ true) where
-    number_is : r.of.source.number ≡ x.at.number
-    number_is = ap (λ (s : SourcePackage S). s.number) r.source_is
-
-    source_there : slice_get r.of.source.files x.at.file_number ≡ Some (linked_file rs x.at.source)
-    source_there = subst (λ (v : SourcePackage S). slice_get v.files x.at.file_number ≡ Some (linked_file rs x.at.source)) (sym r.source_is) (nth_mapped (linked_file rs) x.at.of.files x.at.file_number x.at.source r.file_there)
-
     same_names : block_names r.of.source.files ≡ block_names (change_nth x.at.file_number (decl_changed change x.decl) r.of.source.files)
     same_names =
         files_names change r.function (packages.after same x tree e here calls form facts blank rank callee rs ms r) (becomes same x tree e here calls form facts blank rank callee rs ms r) refl x.at.file_number x.decl (linked_file rs x.at.source) r.decl_there r.of.source.files source_there

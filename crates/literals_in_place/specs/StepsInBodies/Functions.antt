@@ -51,14 +51,11 @@ LedFrom rs marks ms callee n =
 abbrev pub Anywhere : FuncName → Type 0
 Anywhere n = Unit {0}
 
--- Where a call names its function by an import, each file of its package that uses the import's name in the packages
--- before a step does so in those after it.
-abbrev pub ImportStaysUsed :
-    {S : Type 0} → Site S → Expr S → List (translated.Package S) → List (translated.Package S) → Type 0
-ImportStaysUsed {S = S} x called ms qs =
-    (s t : S) (q : List ℕ) (f : NameAt S) → called ≡ selector s (ident t q) f → (file : ℕ) →
-    is_used_in (collected (sources ms)) x.at.number file q (headed (sources ms)) ≡ true →
-    is_used_in (collected (sources qs)) x.at.number file q (headed (sources qs)) ≡ true
+-- Where a call names its function by an import, its file uses the import's name in the packages after a step.
+abbrev pub ImportStaysUsed : {S : Type 0} → Site S → Expr S → List (translated.Package S) → Type 0
+ImportStaysUsed {S = S} x called qs =
+    (s t : S) (q : List ℕ) (f : NameAt S) → called ≡ selector s (ident t q) f →
+    is_used_in (collected (sources qs)) x.at.number x.at.file_number q (headed (sources qs)) ≡ true
 
 module _ {S : Type 0} (x : Site S) (tree e : Expr S) (rank : FuncName → ℕ) (callee : FuncName) where
   -- In a body the form stands in the place of the use, which is that of the use.

@@ -1,14 +1,18 @@
 -- The laws of steps in the bodies of functions, as a run makes them. Each is the contract of a function of this crate
 -- (Go specification, Calls; Function literals; Blocks; Function declarations; Program execution).
-use Rattle.std.specs.Prelude.{◌≡◌, ℕ, Bool, true, List, length, Some, slice_get}
+use Rattle.std.specs.Prelude.{◌≡◌, ℕ, Bool, true, false, List, length, Some, None, slice_get}
 use Rattle.go_tree.specs.declared.spans.Span.{Span}
 use Rattle.go_tree.specs.File.{Func, func}
 use Rattle.go_tree.specs.ScopeNames.FreeNames.{names_of}
-use Rattle.go_tree.specs.ScopeNames.Means.{Environment}
+use Rattle.go_tree.specs.ScopeNames.Means.{Environment, is_blank}
 use Rattle.go_tree.specs.Tree.{Expr, Stmts}
+use Rattle.go_tree.specs.GoTypes.Answers.{is_among}
+use Rattle.go_tree.specs.GoTypes.Bodies.{Ctx}
 use Rattle.go_tree.specs.GoTypes.Collect.{collected}
-use Rattle.go_tree.specs.GoTypes.Entities.{Entity}
+use Rattle.go_tree.specs.GoTypes.Entities.{Entity, Env, meaning}
+use Rattle.go_tree.specs.GoTypes.Operands.{Operand}
 use Rattle.go_tree.specs.GoTypes.Programs.{headed}
+use Rattle.go_tree.specs.GoTypes.Typing.{parts, used, used_stmts, stmts}
 use Rattle.pkg_graph.specs.Package.{Package}
 use Rattle.go_kernel.specs.Kernel.{ImportPath, FuncName}
 use Rattle.go_translation.specs.Here.{Here}
@@ -38,6 +42,7 @@ use Rattle.literals_in_place.specs.Steps.{function_called}
 use Rattle.literals_in_place.specs.StepsInBodies.Functions.{use_here, BlankAlike, Lower, LedFrom, PutInBody}
 use Rattle.literals_in_place.specs.StepsInBodies.Functions.{PutInPackages, StandsInFunction, with_form, Anywhere}
 use Rattle.literals_in_place.specs.StepsInBodies.Functions.{ImportStaysUsed}
+use Rattle.literals_in_place.specs.StepsInBodies.NoConstants.{NoneInExpr, NoneInStmts}
 use Rattle.literals_in_place.specs.StepsInBodies.Once.{SamePlace, StandsOnce, AllClear}
 
 -- What a run makes of a body, with a form that is a call in the place of a call with the same facts to the rules of
@@ -74,6 +79,24 @@ BodiesWithFormsAreTyped =
     BodiesAlike (collected (sources ms)) (headed (sources ms))
     (headed (sources (with_form same rs x tree e (Lower rank callee) ms r)))
 
+-- What is typed and declares no constants doesn't use `_`, where that means nothing: an expression, and the statements
+-- of a body.
+abbrev pub TypedPartsUseNoBlank : Type 0
+TypedPartsUseNoBlank =
+    (n : List ℕ) → is_blank n ≡ true → (a : Env) → meaning a n ≡ None →
+    ((e : Expr Span) → NoneInExpr e → (o : Operand) → parts a e ≡ Some o → is_among n (used a e) ≡ false)
+    × ((c : Ctx) (b : Stmts Span) → NoneInStmts b → (ends : Bool) → stmts c a false b ≡ Some ends →
+    is_among n (used_stmts a b) ≡ false)
+
+-- So a call and its literal use `_` alike: what they use it in are the arguments.
+abbrev pub LiteralsUseBlankAlike : Type 0
+LiteralsUseBlankAlike =
+    (same : Span → Span → Bool) (commented : ℕ → ℕ → Span → Bool) (rs : List (Package Span)) (marks : List MarkRef)
+    (x : Site Span) (u : LiteralUse same commented rs marks x) → PlainCall same commented rs marks x u →
+    (ms : List (translated.Package Span)) → Linked rs ms x same commented marks u → (names : Environment Entity)
+    (d : Here) → CalledBeside rs ms x names d → PackagesServe rs ms x same commented marks u d → (e : Expr Span) →
+    u.form ≡ as_expr e → BlankAlike d.env u.tree e
+
 -- Where the function around such a use is marked, and the one that is called, the one leads to the other.
 abbrev pub FunctionsAroundLead : Type 0
 FunctionsAroundLead =
@@ -92,8 +115,8 @@ ImportsStayUsed =
     (v : PlainCall same commented rs marks x u) (ms : List (translated.Package Span)) →
     Linked rs ms x same commented marks u → (names : Environment Entity) → CalledBeside rs ms x names (use_here ms x) →
     PackagesServe rs ms x same commented marks u (use_here ms x) → (e : Expr Span) → u.form ≡ as_expr e →
-    (r : StandsInFunction same rs x u.tree e Anywhere ms) → BlankAlike x.place.env u.tree e →
-    ImportStaysUsed x v.called ms (with_form same rs x u.tree e Anywhere ms r) →
+    (r : StandsInFunction same rs x u.tree e Anywhere ms) →
+    ImportStaysUsed x v.called (with_form same rs x u.tree e Anywhere ms r) →
     imports_ok (sources (with_form same rs x u.tree e Anywhere ms r)) ≡ true
 
 -- So such a step leaves packages that show the same, beside all further packages.
@@ -105,8 +128,8 @@ StepsInBodiesShowTheSame =
     Linked rs ms x same commented marks u → (names : Environment Entity) → CalledBeside rs ms x names (use_here ms x) →
     PackagesServe rs ms x same commented marks u (use_here ms x) → (e : Expr Span) → u.form ≡ as_expr e →
     Translated rs marks ms → NoConstantGroups rs marks →
-    (r : StandsInFunction same rs x u.tree e Anywhere ms) → BlankAlike x.place.env u.tree e →
-    ImportStaysUsed x v.called ms (with_form same rs x u.tree e Anywhere ms r) →
+    (r : StandsInFunction same rs x u.tree e Anywhere ms) →
+    ImportStaysUsed x v.called (with_form same rs x u.tree e Anywhere ms r) →
     ShowTheSame (is_free rs marks (paths_in ms)) (length (marked_functions rs marks)) ms
     (with_form same rs x u.tree e Anywhere ms r)
 

@@ -1,10 +1,14 @@
 -- Uses of functions in the bodies of functions of well-typed packages (Go specification, Calls; Function declarations;
 -- Method declarations; Variable declarations; Packages).
-use Rattle.std.specs.Prelude.{◌≡◌, ℕ, Bool, true, List, [], ◌∷◌, Some, slice_get}
+use Rattle.std.specs.Prelude.{◌≡◌, ℕ, Bool, true, List, [], ◌∷◌, length, Some, slice_get}
+use Rattle.go_tree.specs.declared.spans.Span.{Span}
 use Rattle.go_tree.specs.File.{Func, func}
 use Rattle.go_tree.specs.Tree.{Expr, var_decl}
 use Rattle.pkg_graph.specs.Package.{Package}
+use Rattle.go_kernel.specs.Kernel.{FuncName}
 use Rattle.go_translation.specs.Packages as translated
+use Rattle.go_translation.specs.Packages.{paths_in}
+use Rattle.run_rules.specs.FormTrees.{as_expr}
 use Rattle.run_rules.specs.Places.{stmts_seen, variables_seen}
 use Rattle.run_rules.specs.Programs.{body_place}
 use Rattle.run_rules.specs.Sites.{MarkRef, Site, part_span}
@@ -14,7 +18,10 @@ use Rattle.constant_steps.specs.StepLaws.Kept.{NoneAt}
 use Rattle.constant_steps.specs.StepLaws.SwapPrograms.{members_put}
 use Rattle.literal_steps.specs.CalledAt.{Linked}
 use Rattle.literal_steps.specs.LiteralUse.{LiteralUse, PlainCall}
+use Rattle.literal_steps.specs.RankedMarks.Free.{is_free, Translated, NoConstantGroups}
+use Rattle.literal_steps.specs.RankedMarks.Ranks.{marked_functions}
 use Rattle.literal_steps.specs.ServedPackages.ServedFunctions.{NeedsNoImport}
+use Rattle.literals_in_place.specs.StepsInBodies.Functions.{ImportStaysUsed}
 use Rattle.literals_in_place.specs.StepsInBodies.Once.{StandsOnce, is_group}
 
 module _ {S : Type 0} (same : S → S → Bool) (x : Site S) where
@@ -67,3 +74,20 @@ abbrev pub with_literal : {S : Type 0} → UseInBody S → Expr S → List (tran
 with_literal x e =
     members_put x.same x.packages (part_span x.site.part) e x.site.at.number x.site.at.of x.site.at.source.tree
     x.stands.nth x.site.at.file_number x.site.decl x.members
+
+-- the functions whose calls are free: the marked ones that lie on no cycle of marked functions
+abbrev pub free_in : {S : Type 0} → UseInBody S → FuncName → Bool
+free_in x = is_free x.packages x.marks (paths_in x.members)
+
+-- how many functions are marked
+abbrev pub marked_in : {S : Type 0} → UseInBody S → ℕ
+marked_in x = length (marked_functions x.packages x.marks)
+
+-- A step of a run that puts the literal in the place of its call, which has no obstacle: the packages are those of a
+-- translated program, whose marked functions declare no constants. Where the call names its function by an import, the
+-- file uses that import after the step.
+pub record LiteralStep (x : UseInBody Span) (e : Expr Span) : Type 0 where
+  pub form_is : x.becomes.form ≡ as_expr e
+  pub translated : Translated x.packages x.marks x.members
+  pub no_constants : NoConstantGroups x.packages x.marks
+  pub import_used : ImportStaysUsed x.site x.by_name.called (with_literal x e)

@@ -5,7 +5,7 @@ pub returns-clause-led : goal.returns-clause-led
 returns-clause-led z = λ same commented rs marks x u v ms l e r. leads_there same commented rs marks x u v ms l e r
 
 pub returns-clause-imports : goal.returns-clause-imports
-returns-clause-imports z = λ same itself commented rs marks x u v ms l names h y e q r blank stays. imports_right same itself commented rs marks x u v ms l names h y e q r blank stays
+returns-clause-imports z = λ same itself commented rs marks x u v ms l names h y e q r stays. imports_right same itself commented rs marks x u v ms l names h y e q r stays
 
 pub returns-clause-shown : goal.returns-clause-shown
-returns-clause-shown z = λ same itself commented rs marks x u v ms l names h y e q all plain r blank stays. step_shows same itself commented rs marks x u v ms l names h y e q r blank stays all plain
+returns-clause-shown z = λ same itself commented rs marks x u v ms l names h y e q all plain r stays. step_shows same itself commented rs marks x u v ms l names h y e q r stays all plain

@@ -1,5 +1,0 @@
-//! Tests of the lines of a report.
-#![tactic(auto)]
-
-#[cfg(test)]
-mod reports;
