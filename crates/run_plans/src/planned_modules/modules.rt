@@ -1,8 +1,8 @@
 //! What is planned for the files of a module.
 
 ghost use Rattle.std.specs.Prelude.{◌≡◌, ◌<◌, ◌≤◌, ◌^◌, All, IfErr, IfOk, List, OnOk, length, true, ℕ};
-ghost use Rattle.module_reading.specs.Modules.{IsReadFrom};
-ghost use Rattle.module_reading.specs.declared.reading.ReadModule as declared;
+ghost use Rattle.module_texts.specs.Modules.{IsReadFrom};
+ghost use Rattle.module_texts.specs.declared.modules.ReadModule as declared;
 ghost use Rattle.pkg_graph.specs.Reads.{Source};
 ghost use Rattle.read_modules.specs.Modules.{packages_in, texts_in};
 ghost use Rattle.run_plans.specs.PlannedModules.Folders.{AreFolder, AreOfFolder};
@@ -24,8 +24,9 @@ use crate::planned_modules::types::declared_types;
 use checked_modules::read_values_are_spelled;
 use folder_reading::MAX_MODULE_BYTES;
 use go_tree::MAX_FILE_BYTES;
-use module_reading::{ReadModule, read_module_files};
+use module_reading::read_module_files;
 use module_refusals::first_refusal;
+use module_texts::ReadModule;
 use programs::Program;
 use read_modules::{modules_are_read, modules_may_be_loaded};
 use refusals::Refusal;

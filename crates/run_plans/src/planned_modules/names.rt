@@ -12,7 +12,7 @@ ghost use Rattle.universe_block.specs.Meanings.{meaning_of};
 
 use crate::planned_modules::dots::without_dots;
 use go_tree::{FileTree, ImportSpec};
-use module_reading::ScannedFile;
+use module_texts::ScannedFile;
 use pkg_graph::Package;
 use universe_block::{PredeclaredEntity, predeclared};
 

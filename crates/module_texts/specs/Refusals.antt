@@ -12,16 +12,17 @@ use Rattle.go_scan.specs.Scanned.{HasNoTokens}
 use Rattle.go_scan.specs.Unsupported.{IsFirst, unsupported_spans}
 use Rattle.go_nesting.specs.declared.counts.TheConstants.{MAX_LIMIT}
 use Rattle.go_nesting.specs.Over.{IsFirstOver}
+use Rattle.go_nesting.specs.Sources.{IsSupported}
 use Rattle.go_read.specs.SpellsFiles.{SpellsFile}
 use Rattle.go_read.specs.Fronts.{IsRefusedAt}
 use Rattle.pkg_graph.specs.declared.module_files.faults.GraphError.TheVariants.{NoMemory}
 use Rattle.pkg_graph.specs.Reads.{Source}
-use Rattle.module_reading.specs.declared.faults.TextFault.{TextFault}
-use Rattle.module_reading.specs.declared.faults.TextFault.TheVariants.{NotUtf8, BadToken, Unsupported, TooDeep, NotRead}
-use Rattle.module_reading.specs.declared.faults.ReadFault.{ReadFault}
-use Rattle.module_reading.specs.declared.faults.ReadFault.TheVariants.{Text, Module}
+use Rattle.module_texts.specs.declared.faults.TextFault.{TextFault}
+use Rattle.module_texts.specs.declared.faults.TextFault.TheVariants.{NotUtf8, BadToken, Unsupported, TooDeep, NotRead}
+use Rattle.module_texts.specs.declared.faults.ReadFault.{ReadFault}
+use Rattle.module_texts.specs.declared.faults.ReadFault.TheVariants.{Text, Module}
 use Rattle.source_files.specs.declared.files.SourceFile.{SourceFile}
-use Rattle.module_reading.specs.declared.files.ScannedFile.{ScannedFile}
+use Rattle.module_texts.specs.declared.files.ScannedFile.{ScannedFile}
 
 -- All before the one of number `k` pass, and that one fails.
 pub record FailsFirst {A : Type 0} (Passes Fails : A → Type 0) (xs : List A) (k : ℕ) : Type 0 where
@@ -32,10 +33,6 @@ pub record FailsFirst {A : Type 0} (Passes Fails : A → Type 0) (xs : List A) (
   pub count : length before ≡ k
   pub passes : All Passes before
   pub fails : Fails of
-
--- each word is supported
-abbrev pub IsSupported : List ℕ → List Token → List Comment → Type 0
-IsSupported text tokens comments = IsFirst (unsupported_spans text tokens comments) None
 
 -- ---- by texts
 

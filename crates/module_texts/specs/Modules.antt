@@ -13,12 +13,12 @@ use Rattle.pkg_graph.specs.Reads.{Source, is_at, selected_files, AreTrees, Reads
 use Rattle.pkg_graph.specs.Views.{package_view}
 use Rattle.pkg_graph.specs.Order.{IsDependencyOrder}
 use Rattle.run_rules.specs.Inlining.{IsSourceFile}
-use Rattle.module_reading.specs.Files.{go_files, sources_of, AreScanned}
-use Rattle.module_reading.specs.Refusals.{HasSupportedWords, HasWords, IsShallow, NestsWithin, RefusesTexts}
-use Rattle.module_reading.specs.declared.faults.ReadFault.{ReadFault}
-use Rattle.module_reading.specs.declared.faults.ReadFault.TheVariants.{Text, Module}
+use Rattle.module_texts.specs.Files.{go_files, sources_of, AreScanned}
+use Rattle.module_texts.specs.Refusals.{HasSupportedWords, HasWords, IsShallow, NestsWithin, RefusesTexts}
+use Rattle.module_texts.specs.declared.faults.ReadFault.{ReadFault}
+use Rattle.module_texts.specs.declared.faults.ReadFault.TheVariants.{Text, Module}
 use Rattle.source_files.specs.declared.files.SourceFile.{SourceFile}
-use Rattle.module_reading.specs.declared.reading.ReadModule.{ReadModule}
+use Rattle.module_texts.specs.declared.modules.ReadModule.{ReadModule}
 
 -- the files but for `go.mod` in the root
 abbrev pub go_sources : List Source → List Source

@@ -4,11 +4,11 @@ use Rattle.pkg_graph.specs.ModuleFiles.Selected.{is_selected, module_file}
 use Rattle.pkg_graph.specs.Reads.{Source, is_at, selected_files, AreTrees, Reads}
 use Rattle.pkg_graph.specs.Views.{package_view}
 use Rattle.run_rules.specs.Inlining.{IsSourceFile}
-use Rattle.module_reading.specs.Files.{sources_of}
+use Rattle.module_texts.specs.Files.{sources_of}
 use Rattle.source_files.specs.declared.files.SourceFile.{SourceFile}
-use Rattle.module_reading.specs.declared.reading.ReadModule.{ReadModule}
-use Rattle.module_reading.specs.Modules.{IsReadFrom, SelectedFilesRead, answer_in}
-use Rattle.module_reading.proofs.Lemmas.{find_filter}
+use Rattle.module_texts.specs.declared.modules.ReadModule.{ReadModule}
+use Rattle.module_texts.specs.Modules.{IsReadFrom, SelectedFilesRead, answer_in}
+use Rattle.module_texts.proofs.Lemmas.{find_filter}
 
 -- `go.mod` is selected
 module_selected : (paths : List (List ℕ)) (f : Source) → is_at module_file f ≡ true → is_selected paths f.path ≡ true

@@ -7,8 +7,8 @@ use Rattle.refusals.specs.declared.refusal.Limit.TheVariants as one
 use Rattle.run_rules.specs.Texts.{FileText}
 use Rattle.run_rules.specs.Run.{Logged, Limit, Steps, StepsOfUse, Bytes, Total, Weight, TooLarge, over, the_limits}
 use Rattle.run_rules.specs.Run.{steps_like, module_file_size, texts_size, passed}
-use Rattle.next_file.specs.declared.limits.Progress.{Progress}
-use Rattle.next_file.specs.declared.limits.Passed.{Passed}
+use Rattle.step_files.specs.declared.limits.Progress.{Progress}
+use Rattle.step_files.specs.declared.limits.Passed.{Passed}
 
 -- a limit, as the rules of a run name it
 abbrev pub limit_of : code.Limit → Limit

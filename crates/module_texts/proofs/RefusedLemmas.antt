@@ -12,15 +12,15 @@ use Rattle.pkg_graph.specs.Reads.{Source, AreTrees}
 use Rattle.pkg_graph.specs.GraphFaults.{IsGraphFault}
 use Rattle.pkg_graph.specs.Package as pure
 use Rattle.run_rules.specs.Inlining.{IsSourceFile}
-use Rattle.module_reading.specs.declared.faults.TextFault.TheVariants.{NotUtf8, BadToken, Unsupported, TooDeep, NotRead}
-use Rattle.module_reading.specs.declared.faults.ReadFault.{ReadFault}
-use Rattle.module_reading.specs.declared.faults.ReadFault.TheVariants.{Text, Module}
+use Rattle.module_texts.specs.declared.faults.TextFault.TheVariants.{NotUtf8, BadToken, Unsupported, TooDeep, NotRead}
+use Rattle.module_texts.specs.declared.faults.ReadFault.{ReadFault}
+use Rattle.module_texts.specs.declared.faults.ReadFault.TheVariants.{Text, Module}
 use Rattle.source_files.specs.declared.files.SourceFile.{SourceFile}
-use Rattle.module_reading.specs.declared.files.ScannedFile.{ScannedFile}
-use Rattle.module_reading.specs.Files.{AreScanned, IsScanned, go_files, is_go_file, source_of, sources_of}
-use Rattle.module_reading.specs.Refusals.{Fails, FailsFirst, HasSupportedWords, HasTokens, HasWords, IsShallow, NestsWithin, RefusesScan, RefusesTrees, RefusesWords, SpellsAFile, WithTokens}
-use Rattle.module_reading.specs.Modules.{Refuses, RefusesModule, RefusesPackages, go_sources, module_answer}
-use Rattle.module_reading.proofs.Lemmas.{fails_map, fails_weaker}
+use Rattle.module_texts.specs.declared.files.ScannedFile.{ScannedFile}
+use Rattle.module_texts.specs.Files.{AreScanned, IsScanned, go_files, is_go_file, source_of, sources_of}
+use Rattle.module_texts.specs.Refusals.{Fails, FailsFirst, HasSupportedWords, HasTokens, HasWords, IsShallow, NestsWithin, RefusesScan, RefusesTrees, RefusesWords, SpellsAFile, WithTokens}
+use Rattle.module_texts.specs.Modules.{Refuses, RefusesModule, RefusesPackages, go_sources, module_answer}
+use Rattle.module_texts.proofs.Lemmas.{fails_map, fails_weaker}
 
 all_left : {A : Type 0} (P : A → Type 0) (xs ys : List A) → All P (xs ++ ys) → All P xs
 all_left P xs ys h = λ k d l. subst P (get_or_append_left xs ys d k l) (h k d (let s = length-append xs ys in omega (arith, s, l)))

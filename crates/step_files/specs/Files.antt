@@ -8,18 +8,15 @@ use Rattle.go_tree.specs.FileView.{file_of}
 use Rattle.go_tree.specs.GoWords.Tokens.{TokensOf}
 use Rattle.go_read.specs.SpellsFiles.{SpellsFile}
 use Rattle.go_read.specs.SpellsWeight.{weights_of}
-use Rattle.go_parse.specs.Sources.{IsSource, IsSupported}
-use Rattle.go_parse.specs.declared.source.ReadError.{ReadError}
-use Rattle.go_parse.specs.declared.source.ReadError.TheVariants as error
-use Rattle.refusals.specs.declared.refusal.Limit.TheVariants.{Weight}
+use Rattle.go_nesting.specs.Sources.{IsSource, IsSupported}
 use Rattle.run_rules.specs.Texts.{FileText}
 use Rattle.run_rules.specs.Run.{the_limits, first_over, over_weight}
-use Rattle.next_file.specs.declared.limits.Progress.{Progress}
-use Rattle.next_file.specs.declared.limits.Passed.{Passed}
-use Rattle.next_file.specs.declared.file.NewFile.{NewFile}
-use Rattle.next_file.specs.declared.file.FileFault.{FileFault}
-use Rattle.next_file.specs.declared.file.FileFault.TheVariants.{TooLarge, NotRead, NoMemory}
-use Rattle.next_file.specs.Limits.{told, Passes}
+use Rattle.step_files.specs.declared.limits.Progress.{Progress}
+use Rattle.step_files.specs.declared.limits.Passed.{Passed}
+use Rattle.step_files.specs.declared.file.NewFile.{NewFile}
+use Rattle.step_files.specs.declared.file.FileFault.{FileFault}
+use Rattle.step_files.specs.declared.file.FileFault.TheVariants.{TooLarge, NotRead, NoMemory}
+use Rattle.step_files.specs.Limits.{told, Passes}
 
 -- its text with its tokens and comments
 abbrev pub text_of : NewFile → FileText
@@ -48,15 +45,6 @@ abbrev pub IsUnread : List ℕ → FileFault → Type 0
 IsUnread text (TooLarge p) = IsTooDeep text p
 IsUnread text NotRead = HasNoTree text
 IsUnread text NoMemory = ⊤
-
--- what is answered where a text isn't read
-abbrev pub fault_of : ReadError → FileFault
-fault_of (error.NotUtf8 _) = NotRead
-fault_of (error.BadToken _) = NotRead
-fault_of (error.Unsupported _) = NotRead
-fault_of (error.TooDeep _) = TooLarge (record { limit = Weight; count = 401; bound = 400 })
-fault_of (error.NotRead _) = NotRead
-fault_of error.NoMemory = NoMemory
 
 -- Why a step of a run that has come so far leaves no file with this text: it passes this limit first, whatever the
 -- tokens of the text are; or the text isn't read. Want of memory says nothing of it.

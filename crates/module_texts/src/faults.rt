@@ -31,7 +31,7 @@ pub enum ReadFault {
 impl From<AllocError> for ReadFault {
     ghost use Rattle.std.specs.Prelude.{◌≡◌};
     ghost use Rattle.pkg_graph.specs.declared.module_files.faults.GraphError.TheVariants.{NoMemory};
-    ghost use Rattle.module_reading.specs.declared.faults.ReadFault.TheVariants.{Module};
+    ghost use Rattle.module_texts.specs.declared.faults.ReadFault.TheVariants.{Module};
 
     ghost from_gives = { λ _ e. e ≡ Module NoMemory };
 
@@ -43,7 +43,7 @@ impl From<AllocError> for ReadFault {
 impl<T: Drop> From<AllocFailed<T>> for ReadFault {
     ghost use Rattle.std.specs.Prelude.{◌≡◌};
     ghost use Rattle.pkg_graph.specs.declared.module_files.faults.GraphError.TheVariants.{NoMemory};
-    ghost use Rattle.module_reading.specs.declared.faults.ReadFault.TheVariants.{Module};
+    ghost use Rattle.module_texts.specs.declared.faults.ReadFault.TheVariants.{Module};
 
     ghost from_gives = { λ _ e. e ≡ Module NoMemory };
 
