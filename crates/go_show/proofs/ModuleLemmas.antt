@@ -5,7 +5,7 @@ use Rattle.pkg_graph.specs.declared.packages.Package.{Package}
 use Rattle.package_blocks.specs.Collected.{AreOrdered}
 use Rattle.package_blocks.specs.Imports.{views}
 use Rattle.module_reading.specs.declared.reading.ReadModule.{ReadModule}
-use Rattle.module_reading.specs.Files.{sources_of}
+use Rattle.scanned_files.specs.Files.{sources_of}
 use Rattle.module_reading.specs.Modules.{IsReadFrom, go_sources}
 use Rattle.collected.specs.ValueHeaders.SpelledDecls.{PackagesAreSpelled}
 use Rattle.collected.proofs.ValueHeaders.SpelledHeaders.{read_packages_spelled}

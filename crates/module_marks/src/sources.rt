@@ -3,15 +3,15 @@
 ghost use Rattle.std.specs.Prelude.{◌≡◌, All, IfSome, map, IfOk};
 ghost use Rattle.std.specs.Option.{option_map};
 ghost use Rattle.run_rules.specs.Marks.{text_at};
-ghost use Rattle.module_reading.specs.Files.{IsScanned};
+ghost use Rattle.scanned_files.specs.Files.{IsScanned};
 ghost use Rattle.file_names.specs.Places.{Finds};
 ghost use Rattle.module_marks.specs.Views.{file_text, texts_of};
 ghost use Rattle.module_marks.specs.Sources.{FindsSources};
 
 use file_names::{Places, find_packages};
 use go_tree::NoMemory;
-use module_reading::ScannedFile;
 use pkg_graph::Package;
+use scanned_files::ScannedFile;
 use std::alloc::Global;
 
 /// The packages of a module, and its files with their texts and tokens.

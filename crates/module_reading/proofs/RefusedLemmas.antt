@@ -16,8 +16,8 @@ use Rattle.module_reading.specs.declared.faults.TextFault.TheVariants.{NotUtf8, 
 use Rattle.module_reading.specs.declared.faults.ReadFault.{ReadFault}
 use Rattle.module_reading.specs.declared.faults.ReadFault.TheVariants.{Text, Module}
 use Rattle.source_files.specs.declared.files.SourceFile.{SourceFile}
-use Rattle.module_reading.specs.declared.files.ScannedFile.{ScannedFile}
-use Rattle.module_reading.specs.Files.{AreScanned, IsScanned, go_files, is_go_file, source_of, sources_of}
+use Rattle.scanned_files.specs.declared.files.ScannedFile.{ScannedFile}
+use Rattle.scanned_files.specs.Files.{AreScanned, IsScanned, go_files, is_go_file, source_of, sources_of}
 use Rattle.module_reading.specs.Refusals.{Fails, FailsFirst, HasSupportedWords, HasTokens, HasWords, IsShallow, NestsWithin, RefusesScan, RefusesTrees, RefusesWords, SpellsAFile, WithTokens}
 use Rattle.module_reading.specs.Modules.{Refuses, RefusesModule, RefusesPackages, go_sources, module_answer}
 use Rattle.module_reading.proofs.Lemmas.{fails_map, fails_weaker}

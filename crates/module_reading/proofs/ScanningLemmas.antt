@@ -7,8 +7,8 @@ use Rattle.pkg_graph.specs.declared.module_files.faults.GraphError.TheVariants.{
 use Rattle.module_reading.specs.declared.faults.ReadFault.{ReadFault}
 use Rattle.module_reading.specs.declared.faults.ReadFault.TheVariants.{Text, Module}
 use Rattle.source_files.specs.declared.files.SourceFile.{SourceFile}
-use Rattle.module_reading.specs.declared.files.ScannedFile.{ScannedFile}
-use Rattle.module_reading.specs.Files.{AreScanned, IsScanned, go_files, is_go_file}
+use Rattle.scanned_files.specs.declared.files.ScannedFile.{ScannedFile}
+use Rattle.scanned_files.specs.Files.{AreScanned, IsScanned, go_files, is_go_file}
 use Rattle.module_reading.specs.Refusals.{HasTokens, IsOfScan, RefusesScan}
 use Rattle.module_reading.proofs.Lemmas.{filter_cut}
 

@@ -4,7 +4,7 @@ use Rattle.pkg_graph.specs.ModuleFiles.Selected.{is_selected, module_file}
 use Rattle.pkg_graph.specs.Reads.{Source, is_at, selected_files, AreTrees, Reads}
 use Rattle.pkg_graph.specs.Views.{package_view}
 use Rattle.run_rules.specs.Inlining.{IsSourceFile}
-use Rattle.module_reading.specs.Files.{sources_of}
+use Rattle.scanned_files.specs.Files.{sources_of}
 use Rattle.source_files.specs.declared.files.SourceFile.{SourceFile}
 use Rattle.module_reading.specs.declared.reading.ReadModule.{ReadModule}
 use Rattle.module_reading.specs.Modules.{IsReadFrom, SelectedFilesRead, answer_in}

@@ -13,8 +13,8 @@ use Rattle.run_rules.specs.Inlining.{IsSourceFile}
 use Rattle.module_reading.specs.declared.faults.TextFault.TheVariants.{NotUtf8, BadToken, Unsupported, TooDeep, NotRead}
 use Rattle.module_reading.specs.declared.faults.ReadFault.{ReadFault}
 use Rattle.module_reading.specs.declared.faults.ReadFault.TheVariants.{Text, Module}
-use Rattle.module_reading.specs.declared.files.ScannedFile.{ScannedFile}
-use Rattle.module_reading.specs.Files.{AreTreesOf, IsScanned, IsTreeOf, source_of}
+use Rattle.scanned_files.specs.declared.files.ScannedFile.{ScannedFile}
+use Rattle.scanned_files.specs.Files.{AreTreesOf, IsScanned, IsTreeOf, source_of}
 use Rattle.module_reading.specs.Refusals.{FailsFirst, HasTree, IsUnread, IsUnreadAt, RefusesTrees}
 use Rattle.module_reading.proofs.Lemmas.{fails_at}
 

@@ -13,7 +13,7 @@ use Rattle.pkg_graph.specs.Reads.{Source, is_at, selected_files, AreTrees, Reads
 use Rattle.pkg_graph.specs.Views.{package_view}
 use Rattle.pkg_graph.specs.Order.{IsDependencyOrder}
 use Rattle.run_rules.specs.Inlining.{IsSourceFile}
-use Rattle.module_reading.specs.Files.{go_files, sources_of, AreScanned}
+use Rattle.scanned_files.specs.Files.{go_files, sources_of, AreScanned}
 use Rattle.module_reading.specs.Refusals.{HasSupportedWords, HasWords, IsShallow, NestsWithin, RefusesTexts}
 use Rattle.module_reading.specs.declared.faults.ReadFault.{ReadFault}
 use Rattle.module_reading.specs.declared.faults.ReadFault.TheVariants.{Text, Module}

@@ -21,7 +21,7 @@ use Rattle.module_reading.specs.declared.faults.TextFault.TheVariants.{NotUtf8, 
 use Rattle.module_reading.specs.declared.faults.ReadFault.{ReadFault}
 use Rattle.module_reading.specs.declared.faults.ReadFault.TheVariants.{Text, Module}
 use Rattle.source_files.specs.declared.files.SourceFile.{SourceFile}
-use Rattle.module_reading.specs.declared.files.ScannedFile.{ScannedFile}
+use Rattle.scanned_files.specs.declared.files.ScannedFile.{ScannedFile}
 
 -- All before the one of number `k` pass, and that one fails.
 pub record FailsFirst {A : Type 0} (Passes Fails : A → Type 0) (xs : List A) (k : ℕ) : Type 0 where

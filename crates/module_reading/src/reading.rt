@@ -2,17 +2,17 @@
 
 ghost use Rattle.std.specs.Prelude.{◌≡◌, ◌<◌, ◌^◌, ◌≤◌, All, IfErr, IfOk, OnOk, length};
 ghost use Rattle.pkg_graph.specs.ModuleFiles.ModuleFile.{is_module};
-ghost use Rattle.module_reading.specs.Files.{IsScanned, sources_of};
+ghost use Rattle.scanned_files.specs.Files.{IsScanned, sources_of};
 ghost use Rattle.module_reading.specs.Modules.{IsReadFrom, Refuses, RefusesModule, module_answer};
 ghost use Rattle.module_reading.specs.Refusals.{HasWords, IsShallow, RefusesWords};
 
 use crate::checks::{first_too_deep, first_unsupported};
 use crate::faults::{ReadFault, TextFault};
-use crate::files::{ScannedFile, is_go_file};
 use crate::scanned::scan_files;
 use crate::trees::parse_files;
 use go_tree::MAX_FILE_BYTES;
 use pkg_graph::{Graph, GraphError, Module, build, read_module};
+use scanned_files::{ScannedFile, is_go_file};
 use source_files::SourceFile;
 use std::alloc::Global;
 

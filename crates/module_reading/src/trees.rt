@@ -1,14 +1,14 @@
 //! The trees of all files.
 
 ghost use Rattle.std.specs.Prelude.{◌<◌, ◌^◌, All, IfErr, IfOk, length};
-ghost use Rattle.module_reading.specs.Files.{IsScanned, IsTreeOf, AreTreesOf};
+ghost use Rattle.scanned_files.specs.Files.{IsScanned, IsTreeOf, AreTreesOf};
 ghost use Rattle.module_reading.specs.Refusals.{HasWords, IsShallow, IsUnread, RefusesTrees};
 
 use crate::faults::{ReadFault, TextFault};
-use crate::files::ScannedFile;
 use go_parse::{ParseError, parse};
 use go_tree::{MAX_FILE_BYTES, Text};
 use pkg_graph::{GraphError, SourceTree};
+use scanned_files::ScannedFile;
 use std::alloc::Global;
 
 /// The tree of a file, which is the one of this number, with a copy of its path.

@@ -28,7 +28,7 @@ use Rattle.module_reading.specs.declared.faults.TextFault.{TextFault}
 use Rattle.module_reading.specs.declared.faults.TextFault.TheVariants.{NotUtf8, BadToken, Unsupported, TooDeep, NotRead}
 use Rattle.module_reading.specs.declared.faults.ReadFault.{ReadFault}
 use Rattle.module_reading.specs.declared.faults.ReadFault.TheVariants.{Text, Module}
-use Rattle.module_reading.specs.Files.{sources_of}
+use Rattle.scanned_files.specs.Files.{sources_of}
 use Rattle.module_reading.specs.Refusals.{Fails, HasSupportedWords, IsSupported, NestsWithin, Passes, FailsFirst, WithTokens}
 use Rattle.module_reading.specs.Modules.{Refuses, RefusesPackages, go_sources}
 use Rattle.module_reading.proofs.RefusedLemmas.{all_at}

@@ -29,7 +29,7 @@ use Rattle.module_reading.specs.declared.faults.TextFault.{TextFault}
 use Rattle.module_reading.specs.declared.faults.TextFault.TheVariants.{NotUtf8, BadToken, Unsupported, TooDeep, NotRead}
 use Rattle.module_reading.specs.declared.faults.ReadFault.{ReadFault}
 use Rattle.module_reading.specs.declared.faults.ReadFault.TheVariants.{Text, Module}
-use Rattle.module_reading.specs.Files.{go_files, sources_of}
+use Rattle.scanned_files.specs.Files.{go_files, sources_of}
 use Rattle.module_reading.specs.Refusals.{Fails, FailsFirst, HasTokens, HasSupportedWords, IsSupported, Passes, PassesEarlier, RefusesTexts}
 use Rattle.module_reading.specs.Modules.{Refuses, RefusesModule, RefusesPackages, go_sources, module_answer}
 use Rattle.module_reading.proofs.RefusedLemmas.{all_at}

@@ -12,7 +12,7 @@ use Rattle.run_rules.specs.Inlining.{IsSourceFile}
 use Rattle.source_files.specs.declared.files.SourceFile.{SourceFile}
 use Rattle.module_reading.specs.declared.faults.TextFault.{TextFault}
 use Rattle.module_reading.specs.declared.faults.ReadFault.TheVariants.{Text}
-use Rattle.module_reading.specs.Files.{go_files, source_of, sources_of}
+use Rattle.scanned_files.specs.Files.{go_files, source_of, sources_of}
 use Rattle.module_reading.specs.Modules.{Refuses, RefusesModule, go_sources}
 use Rattle.module_reading.proofs.RefusedLemmas.{go_alike}
 

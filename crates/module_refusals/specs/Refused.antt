@@ -9,7 +9,7 @@ use Rattle.run_rules.specs.Inlining.{IsSourceFile}
 use Rattle.refusals.specs.declared.refusal.Refusal.{Refusal}
 use Rattle.source_files.specs.declared.files.SourceFile.{SourceFile}
 use Rattle.module_reading.specs.declared.faults.ReadFault.{ReadFault}
-use Rattle.module_reading.specs.Files.{sources_of}
+use Rattle.scanned_files.specs.Files.{sources_of}
 use Rattle.module_reading.specs.Refusals.{HasSupportedWords, NestsWithin}
 use Rattle.module_reading.specs.Modules.{Refuses, go_sources, module_answer}
 use Rattle.module_refusals.specs.Told.{Tells}

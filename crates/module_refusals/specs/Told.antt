@@ -17,7 +17,7 @@ use Rattle.module_reading.specs.declared.faults.TextFault.{TextFault}
 use Rattle.module_reading.specs.declared.faults.TextFault.TheVariants.{NotUtf8, BadToken, Unsupported, TooDeep, NotRead}
 use Rattle.module_reading.specs.declared.faults.ReadFault.{ReadFault}
 use Rattle.module_reading.specs.declared.faults.ReadFault.TheVariants.{Text, Module}
-use Rattle.module_reading.specs.Files.{go_files}
+use Rattle.scanned_files.specs.Files.{go_files}
 
 -- this is told of a byte of a file
 abbrev pub told_at : SourceFile → ℕ → Detail → Refusal

@@ -2,7 +2,7 @@
 
 ghost use Rattle.std.specs.Prelude.{◌≡◌, ◌<◌, ◌≤◌, ◌^◌, ℕ, All, IfOk, IfSome, MatchOption};
 ghost use Rattle.std.specs.Prelude.{length};
-ghost use Rattle.module_reading.specs.Files.{go_files, sources_of};
+ghost use Rattle.scanned_files.specs.Files.{go_files, sources_of};
 ghost use Rattle.module_reading.specs.Modules.{Refuses, RefusesModule};
 ghost use Rattle.module_refusals.specs.Refused.{AreModule, IsBelow, IsRefusal};
 ghost use Rattle.module_refusals.specs.Told.{OfFile, Tells, TellsModule, fault_at, fault_detail, told_at, told_whole};

@@ -10,9 +10,9 @@ use Rattle.pkg_graph.specs.Reads.{Source, is_at, AreTrees}
 use Rattle.pkg_graph.specs.Views.{package_view}
 use Rattle.run_rules.specs.Inlining as inlining
 use Rattle.run_rules.specs.Inlining.{IsSourceFile}
-use Rattle.module_reading.specs.Files.{IsScanned, source_of, sources_of}
+use Rattle.scanned_files.specs.Files.{IsScanned, source_of, sources_of}
 use Rattle.module_reading.specs.Modules.{go_sources, IsReadFrom}
-use Rattle.module_reading.specs.declared.files.ScannedFile.{ScannedFile}
+use Rattle.scanned_files.specs.declared.files.ScannedFile.{ScannedFile}
 use Rattle.module_reading.specs.declared.reading.ReadModule.{ReadModule}
 use Rattle.module_reading.proofs.RefusedLemmas.{texts_alike}
 use Rattle.module_reading.proofs.SelectedLemmas.{selected_files_read}

@@ -8,8 +8,8 @@ ghost use Rattle.programs.specs.TextsOfPackages.Given.{home_path};
 
 use file_names::Places;
 use go_tree::NoMemory;
-use module_reading::ScannedFile;
 use pkg_graph::module_files::folders::folder_and_name;
+use scanned_files::ScannedFile;
 use std::alloc::{AllocError, Global};
 
 /// The import path of the package of the file with this path, in a module with this path.

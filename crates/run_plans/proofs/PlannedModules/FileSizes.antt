@@ -9,9 +9,9 @@ use Rattle.pkg_graph.specs.ModuleFiles.Pieces.{comes_before}
 use Rattle.pkg_graph.specs.ModuleFiles.Selected.{is_selected, module_file}
 use Rattle.go_tree.specs.declared.limits.TheConstants.{MAX_FILE_BYTES}
 use Rattle.module_marks.specs.Views.{texts_of}
-use Rattle.module_reading.specs.Files.{source_of, sources_of}
+use Rattle.scanned_files.specs.Files.{source_of, sources_of}
 use Rattle.module_reading.specs.Modules.{IsReadFrom}
-use Rattle.module_reading.specs.declared.files.ScannedFile.{ScannedFile}
+use Rattle.scanned_files.specs.declared.files.ScannedFile.{ScannedFile}
 use Rattle.module_reading.specs.declared.reading.ReadModule.{ReadModule}
 use Rattle.module_reading.proofs.RefusedLemmas.{texts_alike}
 use Rattle.pkg_graph.specs.Reads.{Source, is_at, selected_files}

@@ -9,8 +9,8 @@ ghost use Rattle.run_plans.specs.PlannedModules.Modules.{imports_apart, is_forme
 
 use crate::planned_modules::dots::without_dots;
 use go_tree::{FileTree, ImportSpec};
-use module_reading::ScannedFile;
 use pkg_graph::Package;
+use scanned_files::ScannedFile;
 use universe_block::predeclared;
 
 /// Whether the spec of an import writes no predeclared identifier for its name.

@@ -4,8 +4,8 @@ ghost use Rattle.std.specs.Prelude.{◌≡◌, ◌++◌, IfOk, OnOk, map};
 ghost use Rattle.run_plans.specs.PlannedModules.Runs.{AreGoSources, go_row, told_source};
 
 use go_tree::NoMemory;
-use module_reading::is_go_file;
 use report_order::ReportSource;
+use scanned_files::is_go_file;
 use source_files::SourceFile;
 use std::alloc::Global;
 

@@ -22,9 +22,9 @@ use Rattle.splice_laws.specs.RunLaws.Reading.{FileReads}
 use Rattle.splice_laws.specs.RunLaws.Laws.{OneTextEach}
 use Rattle.splice_laws.proofs.RunLaws.PathsOwn.{paths_own}
 use Rattle.splice_laws.proofs.RunLaws.RunsRead as runs
-use Rattle.module_reading.specs.Files.{IsScanned}
+use Rattle.scanned_files.specs.Files.{IsScanned}
 use Rattle.module_reading.specs.Modules.{IsReadFrom}
-use Rattle.module_reading.specs.declared.files.ScannedFile.{ScannedFile}
+use Rattle.scanned_files.specs.declared.files.ScannedFile.{ScannedFile}
 use Rattle.module_reading.specs.declared.reading.ReadModule.{ReadModule}
 use Rattle.module_marks.specs.Views.{file_text}
 use Rattle.file_names.specs.Imports.{FindsPackages}

@@ -4,7 +4,7 @@ ghost use Rattle.std.specs.Prelude.{◌≡◌, ◌+◌, ◌<◌, ◌^◌, All, I
 ghost use Rattle.std.specs.Prelude.{map};
 ghost use Rattle.pkg_graph.specs.Reads.{Source};
 ghost use Rattle.run_rules.specs.Run.{module_file_size, texts_size};
-ghost use Rattle.module_reading.specs.Files.{IsScanned};
+ghost use Rattle.scanned_files.specs.Files.{IsScanned};
 ghost use Rattle.module_reading.specs.Modules.{IsReadFrom};
 ghost use Rattle.module_marks.specs.Views.{mark_ref_of};
 ghost use Rattle.source_files.specs.declared.files.SourceFile as code_file;

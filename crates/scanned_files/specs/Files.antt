@@ -9,7 +9,7 @@ use Rattle.pkg_graph.specs.ModuleFiles.Selected.{module_file}
 use Rattle.pkg_graph.specs.Reads.{Source}
 use Rattle.pkg_graph.specs.declared.packages.SourceTree.{SourceTree}
 use Rattle.source_files.specs.declared.files.SourceFile.{SourceFile}
-use Rattle.module_reading.specs.declared.files.ScannedFile.{ScannedFile}
+use Rattle.scanned_files.specs.declared.files.ScannedFile.{ScannedFile}
 
 -- a file by its path and its text
 abbrev pub source_of : SourceFile → Source

@@ -1,7 +1,7 @@
 //! Files of Go source, and what they are once they are cut into tokens.
 
 ghost use Rattle.std.specs.Prelude.{◌≡◌};
-ghost use Rattle.module_reading.specs.Files.{is_go_file};
+ghost use Rattle.scanned_files.specs.Files.{is_go_file};
 
 use go_scan::Tokens;
 use source_files::SourceFile;
