@@ -1,6 +1,6 @@
 // Writes tables of what Go's own packages say of small programs, as checks of the definitions:
 //
-//	go run . names sources/names.go ../../crates/go_tree/proofs/ScopeNames (then rt fmt)
+//	go run . names sources/names.go ../../crates/go_rules/proofs/ScopeNames (then rt fmt)
 //	go run . uses sources/names.go ../names/names
 //	go run . uses sources/specification.go ../names/specification
 //

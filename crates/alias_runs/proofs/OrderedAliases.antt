@@ -1,7 +1,7 @@
 -- A step of a run over an alias that changes imports leaves packages that are one program with those before, beside all further packages, in whatever order they stand.
 use Rattle.std.proofs.Common.{◌≡◌, refl, sym, subst, ◌∙◌, ℕ, true, ◌&&◌, List, [], ◌∷◌, ◌++◌}
 use Rattle.std.specs.List.{list_any}
-use Rattle.go_tree.specs.GoTypes.WellTyped.{well_typed}
+use Rattle.go_rules.specs.GoTypes.WellTyped.{well_typed}
 use Rattle.go_kernel.specs.Kernel.{FuncName}
 use Rattle.pkg_graph.specs.Package as run
 use Rattle.typed_in_place.proofs.ProgramsReplaced.{one_by_one}

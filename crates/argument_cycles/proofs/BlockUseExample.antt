@@ -7,10 +7,10 @@
 --   func main() { Log(g(), h()) }
 use Rattle.std.proofs.Common.{◌≡◌, refl, sym, ap, ◌∙◌, subst, ℕ, zero, suc, ◌+◌, Bool, true, false, ◌&&◌, List, [], ◌∷◌, map, Option, Some, None, if◌then◌else◌, codes}
 use Rattle.std.specs.Prelude.{is_some, nat_eq}
-use Rattle.go_tree.specs.GoTypes.Answers.{meets}
-use Rattle.go_tree.specs.GoTypes.Types.{basic}
-use Rattle.go_tree.proofs.GoTypes.Agreeing.{some_same}
-use Rattle.go_tree.specs.declared.const_eval.kinds.Kind.TheVariants as kind
+use Rattle.go_rules.specs.GoTypes.Answers.{meets}
+use Rattle.go_rules.specs.GoTypes.Types.{basic}
+use Rattle.go_rules.proofs.GoTypes.Agreeing.{some_same}
+use Rattle.go_rules.specs.declared.const_eval.kinds.Kind.TheVariants as kind
 use Rattle.go_tree.specs.declared.exprs.Rest.TheVariants.{Plain}
 use Rattle.go_tree.specs.Tree.{NameAt, named, Param, Expr, ident, int_lit, call, no_exprs, expr_and, Stmt, define, eval, return_, Stmts, no_stmts, stmt_and, TypeExpr, str_lit}
 use Rattle.go_tree.specs.File.{Func, func, File}

@@ -4,7 +4,7 @@ use Rattle.std.specs.Prelude.{slice_get}
 use Rattle.go_tree.specs.Tree.{Expr, Stmt, Stmts, inner}
 use Rattle.go_tree.specs.File.{Func, func}
 use Rattle.pkg_graph.specs.Package.{Package}
-use Rattle.go_tree.specs.GoTypes.Answers.{meets}
+use Rattle.go_rules.specs.GoTypes.Answers.{meets}
 use Rattle.run_rules.specs.Surroundings.{Place, Seen}
 use Rattle.run_rules.specs.Places.{sig_seen, stmts_seen, stmt_seen}
 use Rattle.run_rules.specs.Programs.{top_place, body_place, receiver_seen}
@@ -22,7 +22,7 @@ use Rattle.order_runs.proofs.CycleRuns.FoundUses.NoRecursive.{step-form}
 use Rattle.order_runs.proofs.RunSteps.UsesAlone.{stands-alone}
 use Rattle.order_runs.specs.CycleLaws.PutCalls.{called_among}
 use Rattle.constant_steps.specs.PlainUse.{AllTheUse}
-use Rattle.go_tree.proofs.GoTypes.Agreeing.{some_same}
+use Rattle.go_rules.proofs.GoTypes.Agreeing.{some_same}
 use Rattle.literal_cycles.specs.FormCycles.Bodies.{StandsInFunction, changes_of}
 use Rattle.literal_cycles.specs.FormCycles.Puts.{AllPutThrough, PutsInBody}
 use Rattle.literal_cycles.proofs.FormCycles.FormSteps.{calls-change, call-step}

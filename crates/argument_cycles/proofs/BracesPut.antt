@@ -3,16 +3,16 @@ use Rattle.std.proofs.Common.{◌≡◌, refl, sym, ap, ◌∙◌, subst, ◌⊎
 use Rattle.std.specs.Prelude.{is_some}
 use Rattle.go_tree.specs.Tree.{NameAt, Sig, Expr, ident, int_lit, rune_lit, str_lit, composite, selector, index, slice, call, func_lit, type_operand, unary, binary, star, Exprs, no_exprs, expr_and, ExprOption, no_expr, some_expr, Elems, no_elems, elem, Value, plain, braced, ValueOption, no_value, some_value, Stmt, const_decl, var_decl, empty, eval, step, assign, define, return_, break_, continue_, inner, if_, for_, range_, switch, defer, label, Stmts, no_stmts, stmt_and, StmtOption, no_stmt, some_stmt, BlockOption, no_block, some_block, RangeLeft, nothing, assigns, defines, Arms, no_arms, arm, Cases, no_cases, case, ValueSpecs, no_specs, spec}
 use Rattle.go_tree.specs.declared.exprs.Rest.{Rest}
-use Rattle.go_tree.specs.GoTypes.Answers.{given, meets, otherwise, is_among}
-use Rattle.go_tree.specs.GoTypes.Declarations.{Repeated}
-use Rattle.go_tree.specs.GoTypes.Entities.{Env}
-use Rattle.go_tree.specs.GoTypes.Literals.{is_struct}
-use Rattle.go_tree.specs.GoTypes.TypeNames.{func_type}
-use Rattle.go_tree.specs.GoTypes.Types.{GoType, FuncType}
-use Rattle.go_tree.specs.ScopeNames.Binders.{expr_binders, exprs_binders, expr_option_binders, elems_binders, value_binders, stmt_binders, stmts_binders, stmt_option_binders, block_option_binders, left_binders, arms_binders, cases_binders, specs_binders, func_binders}
-use Rattle.go_tree.specs.ScopeNames.FreeNames.{names_of}
-use Rattle.go_tree.specs.ScopeNames.Scopes.{sig_declares, declares}
-use Rattle.go_tree.proofs.GoTypes.Agreeing.{from_given, some_same}
+use Rattle.go_rules.specs.GoTypes.Answers.{given, meets, otherwise, is_among}
+use Rattle.go_rules.specs.GoTypes.Declarations.{Repeated}
+use Rattle.go_rules.specs.GoTypes.Entities.{Env}
+use Rattle.go_rules.specs.GoTypes.Literals.{is_struct}
+use Rattle.go_rules.specs.GoTypes.TypeNames.{func_type}
+use Rattle.go_rules.specs.GoTypes.Types.{GoType, FuncType}
+use Rattle.go_rules.specs.ScopeNames.Binders.{expr_binders, exprs_binders, expr_option_binders, elems_binders, value_binders, stmt_binders, stmts_binders, stmt_option_binders, block_option_binders, left_binders, arms_binders, cases_binders, specs_binders, func_binders}
+use Rattle.go_rules.specs.ScopeNames.FreeNames.{names_of}
+use Rattle.go_rules.specs.ScopeNames.Scopes.{sig_declares, declares}
+use Rattle.go_rules.proofs.GoTypes.Agreeing.{from_given, some_same}
 use Rattle.form_meaning.specs.FormInPlace.Bound.{literal_under}
 use Rattle.form_meaning.proofs.FormInPlace.Uses.{among_append}
 use Rattle.param_choice.specs.Chosen.{has}

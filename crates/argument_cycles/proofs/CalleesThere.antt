@@ -2,8 +2,8 @@
 use Rattle.std.proofs.Common.{◌≡◌, refl, sym, ap, ◌∙◌, ◌⊎◌, inl, inr, ℕ, Bool, true, false, not, ◌&&◌, List, map, Option, Some, None, if◌then◌else◌, nat_eq}
 use Rattle.std.specs.Prelude.{is_some}
 use Rattle.go_tree.specs.Tree.{NameAt, Expr, ident, selector}
-use Rattle.go_tree.specs.ScopeNames.Means.{means}
-use Rattle.go_tree.specs.GoTypes.Answers.{given, otherwise}
+use Rattle.go_rules.specs.ScopeNames.Means.{means}
+use Rattle.go_rules.specs.GoTypes.Answers.{given, otherwise}
 use Rattle.pkg_graph.specs.Package.{Package}
 use Rattle.pkg_graph.specs.Members.{Target, local, imported, member, predeclared}
 use Rattle.run_rules.specs.BodyItems.{number_of}

@@ -4,11 +4,11 @@
 -- after the step: func H() { println(int8(3)) }
 use Rattle.std.proofs.Common.{◌≡◌, refl, sym, ap, ◌∙◌, ℕ, Bool, true, false, List, [], ◌∷◌, Some, None, codes}
 use Rattle.go_tree.specs.declared.exprs.Rest.TheVariants.{Plain}
-use Rattle.go_tree.specs.declared.const_eval.kinds.Kind.TheVariants as kind
+use Rattle.go_rules.specs.declared.const_eval.kinds.Kind.TheVariants as kind
 use Rattle.go_tree.specs.Tree.{NameAt, TypeExpr, named, Expr, ident, int_lit, call, no_exprs, expr_and, Stmt, eval, return_, no_stmts, stmt_and}
 use Rattle.go_tree.specs.File.{Func, func}
-use Rattle.go_tree.specs.GoTypes.Types.{basic}
-use Rattle.go_tree.proofs.GoTypes.Agreeing.{some_same}
+use Rattle.go_rules.specs.GoTypes.Types.{basic}
+use Rattle.go_rules.proofs.GoTypes.Agreeing.{some_same}
 use Rattle.pkg_graph.specs.Package.{SourceTree, Package}
 use Rattle.run_rules.specs.Surroundings.{whole, other, Place, a_slot, in_slot, at_stmt}
 use Rattle.run_rules.specs.Places.{expr_seen}

@@ -6,8 +6,8 @@
 use Rattle.std.proofs.Common.{◌≡◌, refl, sym, ap, ◌∙◌, subst, true, false, [], Some, ◌⊎◌, inr}
 use Rattle.std.specs.Prelude.{slice_get}
 use Rattle.std.specs.Fmt.{digits}
-use Rattle.go_tree.specs.GoTypes.Answers.{meets}
-use Rattle.go_tree.proofs.GoTypes.Agreeing.{some_same}
+use Rattle.go_rules.specs.GoTypes.Answers.{meets}
+use Rattle.go_rules.proofs.GoTypes.Agreeing.{some_same}
 use Rattle.go_tree.specs.File.{Func, func, Decl}
 use Rattle.go_tree.specs.GoWords.Tokens.Pieces.{keyword_spellings}
 use Rattle.directive_scan.specs.Lines.{is_inline}

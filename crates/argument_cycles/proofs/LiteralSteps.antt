@@ -4,8 +4,8 @@ use Rattle.std.specs.Prelude.{slice_get}
 use Rattle.go_tree.specs.Tree.{Expr}
 use Rattle.go_tree.specs.File.{Func, func}
 use Rattle.pkg_graph.specs.Package.{Package}
-use Rattle.go_tree.specs.GoTypes.Answers.{meets}
-use Rattle.go_tree.proofs.GoTypes.Agreeing.{some_same}
+use Rattle.go_rules.specs.GoTypes.Answers.{meets}
+use Rattle.go_rules.proofs.GoTypes.Agreeing.{some_same}
 use Rattle.run_rules.specs.Surroundings.{Place, Seen, other}
 use Rattle.run_rules.specs.Places.{sig_seen, stmts_seen, expr_seen}
 use Rattle.run_rules.specs.Programs.{top_place, body_place, receiver_seen}

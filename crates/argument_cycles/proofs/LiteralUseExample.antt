@@ -4,10 +4,10 @@
 --   func main() { a := []int{1}; i := 0; b := 2; println(First(a[i], b)) }
 use Rattle.std.proofs.Common.{◌≡◌, refl, sym, ap, ◌∙◌, subst, ℕ, zero, suc, Bool, true, false, ◌&&◌, List, [], ◌∷◌, map, Option, Some, None, if◌then◌else◌, codes}
 use Rattle.std.specs.Prelude.{is_some, nat_eq}
-use Rattle.go_tree.specs.GoTypes.Answers.{meets}
-use Rattle.go_tree.specs.GoTypes.Types.{basic}
-use Rattle.go_tree.proofs.GoTypes.Agreeing.{some_same}
-use Rattle.go_tree.specs.declared.const_eval.kinds.Kind.TheVariants as kind
+use Rattle.go_rules.specs.GoTypes.Answers.{meets}
+use Rattle.go_rules.specs.GoTypes.Types.{basic}
+use Rattle.go_rules.proofs.GoTypes.Agreeing.{some_same}
+use Rattle.go_rules.specs.declared.const_eval.kinds.Kind.TheVariants as kind
 use Rattle.go_tree.specs.declared.exprs.Rest.TheVariants.{Plain}
 use Rattle.go_tree.specs.Tree.{NameAt, named, slice_type, TypeExpr, Param, Expr, ident, int_lit, composite, index, call, func_lit, no_exprs, expr_and, no_elems, elem, plain, no_value, Stmt, define, eval, return_, no_stmts, stmt_and}
 use Rattle.go_tree.specs.File.{Func, func, File}

@@ -12,10 +12,10 @@ use Rattle.go_tree.specs.declared.exprs.Rest.TheVariants.{Plain}
 use Rattle.go_tree.specs.declared.operators.BinOp.TheVariants.{Add}
 use Rattle.go_tree.specs.Tree.{NameAt, TypeExpr, named, struct_type, no_fields, Param, Expr, ident, int_lit, selector, call, binary, no_exprs, expr_and, Stmt, eval, return_, Stmts, no_stmts, stmt_and}
 use Rattle.go_tree.specs.File.{Receiver, Func, types, func, File}
-use Rattle.go_tree.specs.ScopeNames.Means.{means}
-use Rattle.go_tree.specs.GoTypes.Answers.{given, meets}
-use Rattle.go_tree.specs.GoTypes.Types.{named_type}
-use Rattle.go_tree.proofs.GoTypes.Agreeing.{some_same}
+use Rattle.go_rules.specs.ScopeNames.Means.{means}
+use Rattle.go_rules.specs.GoTypes.Answers.{given, meets}
+use Rattle.go_rules.specs.GoTypes.Types.{named_type}
+use Rattle.go_rules.proofs.GoTypes.Agreeing.{some_same}
 use Rattle.pkg_graph.specs.Package.{SourceTree, Package}
 use Rattle.run_rules.specs.BodyItems.{number_of}
 use Rattle.run_rules.specs.Surroundings.{whole, other, Place, seen, a_slot, in_slot, at_stmt, is_local}

@@ -7,18 +7,18 @@
 -- after the step: func H() int { { c := v; c = C{ }; return G(c) } }
 use Rattle.std.proofs.Common.{◌≡◌, refl, sym, ap, ◌∙◌, ℕ, Bool, true, false, List, [], ◌∷◌, Option, Some, None, codes}
 use Rattle.go_tree.specs.declared.exprs.Rest.TheVariants.{Plain}
-use Rattle.go_tree.specs.declared.const_eval.kinds.Kind.TheVariants as kind
+use Rattle.go_rules.specs.declared.const_eval.kinds.Kind.TheVariants as kind
 use Rattle.go_tree.specs.Tree.{NameAt, TypeExpr, named, struct_type, no_fields, Param, Expr, ident, int_lit, composite, selector, call, no_exprs, expr_and, no_elems, Stmt, return_, assign, var_decl, define, inner, Stmts, no_stmts, stmt_and, no_specs, spec}
 use Rattle.go_tree.specs.File.{Receiver, Func, values, types, func, File}
-use Rattle.go_tree.specs.GoTypes.Answers.{given, otherwise}
-use Rattle.go_tree.specs.ScopeNames.FreeNames.{declared}
-use Rattle.go_tree.specs.GoTypes.Bodies.{body_binds}
-use Rattle.go_tree.specs.GoTypes.Declarations.{binds_of}
-use Rattle.go_tree.specs.GoTypes.Typing.{declares}
-use Rattle.go_tree.specs.GoTypes.Entities.{Binds, Env, variable, extend, in_block}
-use Rattle.go_tree.specs.GoTypes.TypeNames.{func_type}
-use Rattle.go_tree.specs.GoTypes.Types.{basic, named_type}
-use Rattle.go_tree.specs.GoTypes.WellTyped.{receiver_of}
+use Rattle.go_rules.specs.GoTypes.Answers.{given, otherwise}
+use Rattle.go_rules.specs.ScopeNames.FreeNames.{declared}
+use Rattle.go_rules.specs.GoTypes.Bodies.{body_binds}
+use Rattle.go_rules.specs.GoTypes.Declarations.{binds_of}
+use Rattle.go_rules.specs.GoTypes.Typing.{declares}
+use Rattle.go_rules.specs.GoTypes.Entities.{Binds, Env, variable, extend, in_block}
+use Rattle.go_rules.specs.GoTypes.TypeNames.{func_type}
+use Rattle.go_rules.specs.GoTypes.Types.{basic, named_type}
+use Rattle.go_rules.specs.GoTypes.WellTyped.{receiver_of}
 use Rattle.pkg_graph.specs.Package.{SourceTree, Package}
 use Rattle.run_rules.specs.Surroundings.{returned, Place, at_stmt, block, after_stmt}
 use Rattle.run_rules.specs.Places.{stmt_seen}

@@ -4,8 +4,8 @@ use Rattle.std.specs.Prelude.{is_some, nat_eq, bytes_eq}
 use Rattle.std.proofs.lemmas.Bool.{and_parts}
 use Rattle.go_tree.specs.declared.exprs.Rest.{Rest}
 use Rattle.go_tree.specs.Tree.{NameAt, Expr, ident, selector, call, Exprs}
-use Rattle.go_tree.specs.GoTypes.Answers.{given, meets, otherwise}
-use Rattle.go_tree.proofs.GoTypes.Agreeing.{from_given, some_same}
+use Rattle.go_rules.specs.GoTypes.Answers.{given, meets, otherwise}
+use Rattle.go_rules.proofs.GoTypes.Agreeing.{from_given, some_same}
 use Rattle.pkg_graph.specs.Package.{Package}
 use Rattle.run_rules.specs.Calls.{Call}
 use Rattle.run_rules.specs.Cycles.{LeadsTo}

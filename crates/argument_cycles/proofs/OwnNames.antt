@@ -3,13 +3,13 @@ use Rattle.std.proofs.Common.{◌≡◌, refl, sym, ap, ◌∙◌, ℕ, suc, Boo
 use Rattle.std.specs.Prelude.{filter}
 use Rattle.go_tree.specs.Tree.{NameAt, Param, Sig, Expr, Stmt, const_decl, var_decl, define, label, ValueSpecs, no_specs, spec, StmtOption, no_stmt, some_stmt, RangeLeft, nothing, assigns, defines}
 use Rattle.go_tree.specs.File.{Receiver}
-use Rattle.go_tree.specs.ScopeNames.Binders.{exprs_binders, specs_binders, stmt_binders, stmt_option_binders, left_binders, stmts_binders, receiver_names, func_binders}
-use Rattle.go_tree.specs.ScopeNames.FreeNames.{name_then, names_of, params_names, sig_names}
-use Rattle.go_tree.specs.ScopeNames.Means.{is_blank}
-use Rattle.go_tree.specs.ScopeNames.Scopes as scopes
-use Rattle.go_tree.specs.ScopeNames.Scopes.{not_blank, specs_declare, with_name, param_names, sig_declares}
-use Rattle.go_tree.specs.GoTypes.Answers.{is_among}
-use Rattle.go_tree.specs.GoTypes.Types.{GoType}
+use Rattle.go_rules.specs.ScopeNames.Binders.{exprs_binders, specs_binders, stmt_binders, stmt_option_binders, left_binders, stmts_binders, receiver_names, func_binders}
+use Rattle.go_rules.specs.ScopeNames.FreeNames.{name_then, names_of, params_names, sig_names}
+use Rattle.go_rules.specs.ScopeNames.Means.{is_blank}
+use Rattle.go_rules.specs.ScopeNames.Scopes as scopes
+use Rattle.go_rules.specs.ScopeNames.Scopes.{not_blank, specs_declare, with_name, param_names, sig_declares}
+use Rattle.go_rules.specs.GoTypes.Answers.{is_among}
+use Rattle.go_rules.specs.GoTypes.Types.{GoType}
 use Rattle.form_meaning.proofs.FormInPlace.Uses.{among_append}
 use Rattle.param_choice.specs.Chosen.{has}
 use Rattle.pkg_graph.specs.Package.{Package}

@@ -4,9 +4,9 @@ use Rattle.std.specs.List.{list_any}
 use Rattle.std.proofs.lemmas.Bool.{or_cases}
 use Rattle.std.proofs.lemmas.List.Folds.{list_any-append}
 use Rattle.go_tree.specs.Tree.{Param, Sig, TypeExpr, ident, int_lit, rune_lit, str_lit, plain, ValueOption, no_value, some_value}
-use Rattle.go_tree.specs.GoTypes.Answers.{meets}
-use Rattle.go_tree.specs.GoTypes.Literals.{is_struct}
-use Rattle.go_tree.specs.GoTypes.Types.{GoType}
+use Rattle.go_rules.specs.GoTypes.Answers.{meets}
+use Rattle.go_rules.specs.GoTypes.Literals.{is_struct}
+use Rattle.go_rules.specs.GoTypes.Types.{GoType}
 use Rattle.run_rules.specs.Calls.{uses}
 use Rattle.run_rules.specs.Places.{params_seen, sig_seen, key_seen, written_seen}
 use Rattle.run_rules.specs.Sites.{MarkRef, is_among_marks}

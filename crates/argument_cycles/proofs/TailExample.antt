@@ -6,16 +6,16 @@
 -- after the step: func pair() (int, int) { { return one(), 2 } }
 use Rattle.std.proofs.Common.{◌≡◌, refl, ℕ, Bool, false, List, [], ◌∷◌, ◌++◌, Option, Some, None, ap, ◌∙◌, codes}
 use Rattle.go_tree.specs.declared.exprs.Rest.TheVariants.{Plain}
-use Rattle.go_tree.specs.declared.const_eval.kinds.Kind.TheVariants as kind
+use Rattle.go_rules.specs.declared.const_eval.kinds.Kind.TheVariants as kind
 use Rattle.go_tree.specs.Tree.{NameAt, named, Param, Expr, ident, int_lit, call, no_exprs, expr_and, Stmt, return_, Stmts, no_stmts, stmt_and}
 use Rattle.go_tree.specs.File.{Func, func}
 use Rattle.pkg_graph.specs.Package.{SourceTree, Package}
-use Rattle.go_tree.specs.GoTypes.Answers.{given, otherwise}
-use Rattle.go_tree.specs.GoTypes.Bodies.{body_binds}
-use Rattle.go_tree.specs.GoTypes.Entities.{Entity, Env, in_block}
-use Rattle.go_tree.specs.GoTypes.TypeNames.{func_type}
-use Rattle.go_tree.specs.GoTypes.Types.{basic, FuncType}
-use Rattle.go_tree.specs.ScopeNames.Means.{Environment, means}
+use Rattle.go_rules.specs.GoTypes.Answers.{given, otherwise}
+use Rattle.go_rules.specs.GoTypes.Bodies.{body_binds}
+use Rattle.go_rules.specs.GoTypes.Entities.{Entity, Env, in_block}
+use Rattle.go_rules.specs.GoTypes.TypeNames.{func_type}
+use Rattle.go_rules.specs.GoTypes.Types.{basic, FuncType}
+use Rattle.go_rules.specs.ScopeNames.Means.{Environment, means}
 use Rattle.run_rules.specs.Surroundings.{returned, Place, at_stmt, block}
 use Rattle.run_rules.specs.Places.{stmts_seen}
 use Rattle.run_rules.specs.Programs.{body_place, top_env}

@@ -10,9 +10,9 @@ use Rattle.std.specs.Prelude.{is_some}
 use Rattle.go_tree.specs.declared.exprs.Rest.TheVariants.{Plain}
 use Rattle.go_tree.specs.Tree.{NameAt, TypeExpr, named, struct_type, no_fields, Param, Expr, ident, int_lit, composite, selector, call, no_exprs, expr_and, no_elems, Stmt, define, eval, inner, return_, Stmts, no_stmts, stmt_and}
 use Rattle.go_tree.specs.File.{Receiver, Func, types, func, Decl, File}
-use Rattle.go_tree.specs.ScopeNames.Means.{means}
-use Rattle.go_tree.specs.GoTypes.Answers.{given}
-use Rattle.go_tree.proofs.GoTypes.Agreeing.{some_same}
+use Rattle.go_rules.specs.ScopeNames.Means.{means}
+use Rattle.go_rules.specs.GoTypes.Answers.{given}
+use Rattle.go_rules.proofs.GoTypes.Agreeing.{some_same}
 use Rattle.pkg_graph.specs.Package.{SourceTree, Package}
 use Rattle.run_rules.specs.Calls.{start_with}
 use Rattle.run_rules.specs.Cycles.{LeadsTo}

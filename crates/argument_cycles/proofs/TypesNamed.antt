@@ -1,16 +1,16 @@
 -- What means a type at a call names no marked function there.
 use Rattle.std.proofs.Common.{◌≡◌, refl, sym, ap, ◌∙◌, ℕ, Bool, true, false, List, [], Option, Some, None, if◌then◌else◌}
 use Rattle.go_tree.specs.Tree.{NameAt, TypeExpr, named, pointer, slice_type, map_type, struct_type, ident, selector}
-use Rattle.go_tree.specs.ScopeNames.FreeNames.{names_of}
-use Rattle.go_tree.specs.ScopeNames.Means.{means}
-use Rattle.go_tree.specs.GoTypes.Answers.{given, otherwise, only_if, is_among}
-use Rattle.go_tree.specs.GoTypes.Defined.{has_keys}
-use Rattle.go_tree.specs.GoTypes.Entities.{Entity, variable, constant, stand_in, type_name, function, package_name, builtin, nil_name, iota_name, refused, World, Env, defined_in, meaning, exported, package_of, type_of_name}
-use Rattle.go_tree.specs.GoTypes.Operands.{typed, named_operand}
-use Rattle.go_tree.specs.GoTypes.Primary.{field_type}
-use Rattle.go_tree.specs.GoTypes.TypeNames.{resolved, type_meant}
-use Rattle.go_tree.specs.GoTypes.Types.{GoType, base_of, type_name_of}
-use Rattle.go_tree.proofs.GoTypes.Agreeing.{from_given}
+use Rattle.go_rules.specs.ScopeNames.FreeNames.{names_of}
+use Rattle.go_rules.specs.ScopeNames.Means.{means}
+use Rattle.go_rules.specs.GoTypes.Answers.{given, otherwise, only_if, is_among}
+use Rattle.go_rules.specs.GoTypes.Defined.{has_keys}
+use Rattle.go_rules.specs.GoTypes.Entities.{Entity, variable, constant, stand_in, type_name, function, package_name, builtin, nil_name, iota_name, refused, World, Env, defined_in, meaning, exported, package_of, type_of_name}
+use Rattle.go_rules.specs.GoTypes.Operands.{typed, named_operand}
+use Rattle.go_rules.specs.GoTypes.Primary.{field_type}
+use Rattle.go_rules.specs.GoTypes.TypeNames.{resolved, type_meant}
+use Rattle.go_rules.specs.GoTypes.Types.{GoType, base_of, type_name_of}
+use Rattle.go_rules.proofs.GoTypes.Agreeing.{from_given}
 use Rattle.form_meaning.specs.FormInPlace.Places.{means_function}
 use Rattle.std.specs.Prelude.{is_some}
 use Rattle.pkg_graph.specs.Package.{Package}

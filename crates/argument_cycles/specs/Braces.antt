@@ -5,9 +5,9 @@ use Rattle.std.specs.Prelude.{◌≡◌, ℕ, ◌⊎◌, Bool, true, false, List
 use Rattle.go_tree.specs.Tree.{Expr, ident, int_lit, rune_lit, str_lit, composite, call, Elems, no_elems, elem, Value}
 use Rattle.go_tree.specs.Tree.{plain, braced, ValueOption, no_value, some_value, Stmt, inner, Stmts}
 use Rattle.go_tree.specs.File.{Func, func}
-use Rattle.go_tree.specs.GoTypes.Answers.{meets, is_among}
-use Rattle.go_tree.specs.ScopeNames.Binders.{func_binders}
-use Rattle.go_tree.specs.ScopeNames.FreeNames.{names_of}
+use Rattle.go_rules.specs.GoTypes.Answers.{meets, is_among}
+use Rattle.go_rules.specs.ScopeNames.Binders.{func_binders}
+use Rattle.go_rules.specs.ScopeNames.FreeNames.{names_of}
 use Rattle.pkg_graph.specs.Package.{Package}
 use Rattle.run_rules.specs.Calls.{Given, start_with, given_params}
 use Rattle.run_rules.specs.Cycles.{LeadsTo}

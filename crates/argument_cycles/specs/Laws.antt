@@ -2,10 +2,10 @@
 -- of this crate (Go specification, Calls; Method declarations; Declarations and scope; Qualified identifiers).
 use Rattle.std.specs.Prelude.{◌≡◌, ℕ, ◌⊎◌, Bool, true, List, [], Some, None}
 use Rattle.std.specs.List.{count_by}
-use Rattle.go_tree.specs.GoTypes.TypeNames.{type_meant}
-use Rattle.go_tree.specs.GoTypes.Types.{GoType}
+use Rattle.go_rules.specs.GoTypes.TypeNames.{type_meant}
+use Rattle.go_rules.specs.GoTypes.Types.{GoType}
 use Rattle.go_tree.specs.Tree.{TypeExpr, Expr, Stmt, inner}
-use Rattle.go_tree.specs.ScopeNames.FreeNames.{names_of}
+use Rattle.go_rules.specs.ScopeNames.FreeNames.{names_of}
 use Rattle.param_choice.specs.Chosen.{has}
 use Rattle.pkg_graph.specs.Package.{Package}
 use Rattle.run_rules.specs.Calls.{Given, declared_place, uses, body_seen, start_with}

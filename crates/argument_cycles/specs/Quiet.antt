@@ -2,9 +2,9 @@
 -- functions).
 use Rattle.std.specs.Prelude.{◌≡◌, List, [], ◌∷◌, Some}
 use Rattle.go_tree.specs.Tree.{call}
-use Rattle.go_tree.specs.GoTypes.Operands.{a_function}
-use Rattle.go_tree.specs.GoTypes.Types.{FuncType}
-use Rattle.go_tree.specs.GoTypes.Typing.{parts}
+use Rattle.go_rules.specs.GoTypes.Operands.{a_function}
+use Rattle.go_rules.specs.GoTypes.Types.{FuncType}
+use Rattle.go_rules.specs.GoTypes.Typing.{parts}
 use Rattle.pkg_graph.specs.Package.{Package}
 use Rattle.run_rules.specs.Sites.{MarkRef, Where, called_mark}
 use Rattle.run_rules.specs.Steps.{At}

@@ -2,7 +2,7 @@
 -- identifiers; Conversions).
 use Rattle.std.specs.Prelude.{◌≡◌, ℕ, List, Some, slice_get}
 use Rattle.go_tree.specs.Tree.{TypeExpr, named}
-use Rattle.go_tree.specs.GoTypes.Entities.{Env, meaning, package_of}
+use Rattle.go_rules.specs.GoTypes.Entities.{Env, meaning, package_of}
 use Rattle.pkg_graph.specs.Package.{Package}
 use Rattle.run_rules.specs.Sites.{Where}
 use Rattle.run_rules.specs.Steps.{At}

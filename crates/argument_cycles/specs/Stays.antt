@@ -6,7 +6,7 @@ use Rattle.std.specs.List.{list_any}
 use Rattle.go_tree.specs.declared.exprs.Rest.{Rest}
 use Rattle.go_tree.specs.Tree.{NameAt, Expr, ident, int_lit, rune_lit, str_lit, composite, call, Exprs, Elems, no_elems, elem}
 use Rattle.go_tree.specs.Tree.{Value, plain, braced, ValueOption, no_value, some_value, Stmt, define, inner}
-use Rattle.go_tree.specs.GoTypes.Answers.{meets}
+use Rattle.go_rules.specs.GoTypes.Answers.{meets}
 use Rattle.param_choice.specs.Chosen.{has}
 use Rattle.pkg_graph.specs.Package.{Package}
 use Rattle.run_rules.specs.Calls.{Given, declared_place, uses, start_with, spread_call, given_params}

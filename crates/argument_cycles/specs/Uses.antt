@@ -7,11 +7,11 @@ use Rattle.std.specs.List.{count_by}
 use Rattle.go_tree.specs.declared.exprs.Rest.{Rest}
 use Rattle.go_tree.specs.Tree.{Expr, ident, selector, call, Exprs}
 use Rattle.go_tree.specs.File.{Func, func}
-use Rattle.go_tree.specs.GoTypes.Answers.{given, meets, otherwise}
-use Rattle.go_tree.specs.GoTypes.Defined.{methods}
-use Rattle.go_tree.specs.GoTypes.Entities.{defined_in}
-use Rattle.go_tree.specs.GoTypes.Primary.{find_method}
-use Rattle.go_tree.specs.GoTypes.Types.{base_of}
+use Rattle.go_rules.specs.GoTypes.Answers.{given, meets, otherwise}
+use Rattle.go_rules.specs.GoTypes.Defined.{methods}
+use Rattle.go_rules.specs.GoTypes.Entities.{defined_in}
+use Rattle.go_rules.specs.GoTypes.Primary.{find_method}
+use Rattle.go_rules.specs.GoTypes.Types.{base_of}
 use Rattle.pkg_graph.specs.Members.{Target, member, predeclared}
 use Rattle.pkg_graph.specs.Package.{Package}
 use Rattle.run_rules.specs.BodyItems.{number_of}

@@ -1,7 +1,7 @@
 -- Where an assignment stores values, as the code has it and as an answer tells (Go specification, Assignment
 -- statements).
 use Rattle.std.specs.Prelude.{◌≡◌, List, [], ◌∷◌, map, Option, Some, None, Result, Ok, Err}
-use Rattle.go_tree.specs.GoTypes.Statements as go
+use Rattle.go_rules.specs.GoTypes.Statements as go
 use Rattle.type_table.specs.TypeRelations.Environment.{Environment, env_type}
 use Rattle.type_table.specs.declared.operand_rules.values.ValueType.TheVariants.{Typed}
 use Rattle.type_table.specs.declared.operand_rules.values.Refusal.{Refusal}

@@ -5,13 +5,13 @@ use Rattle.go_tree.specs.declared.stmts.Arm as source
 use Rattle.go_tree.specs.Lists.{arms_from}
 use Rattle.go_tree.specs.Tree.{Arms, no_arms, Expr, if_, Stmts, BlockOption}
 use Rattle.go_tree.specs.View.{arm_of, boxed_stmt_option_of, expr_of, stmts_of}
-use Rattle.go_tree.specs.ScopeNames.FreeNames.{declared_option}
-use Rattle.go_tree.specs.GoTypes.Answers.{both, given, meets, only_if}
-use Rattle.go_tree.specs.GoTypes.Bodies.{Ctx}
-use Rattle.go_tree.specs.GoTypes.Declarations.{Declared, all_used, beyond, binds_of}
-use Rattle.go_tree.specs.GoTypes.Entities.{Binds, Env, defined_in, extend, in_block}
-use Rattle.go_tree.specs.GoTypes.Statements.{has_last, is_condition}
-use Rattle.go_tree.specs.GoTypes.Typing.{arms, block, first, parts, stmt, stmts, used, used_arms, used_block, used_first, used_stmt, used_stmts}
+use Rattle.go_rules.specs.ScopeNames.FreeNames.{declared_option}
+use Rattle.go_rules.specs.GoTypes.Answers.{both, given, meets, only_if}
+use Rattle.go_rules.specs.GoTypes.Bodies.{Ctx}
+use Rattle.go_rules.specs.GoTypes.Declarations.{Declared, all_used, beyond, binds_of}
+use Rattle.go_rules.specs.GoTypes.Entities.{Binds, Env, defined_in, extend, in_block}
+use Rattle.go_rules.specs.GoTypes.Statements.{has_last, is_condition}
+use Rattle.go_rules.specs.GoTypes.Typing.{arms, block, first, parts, stmt, stmts, used, used_arms, used_block, used_first, used_stmt, used_stmts}
 use Rattle.operator_rules.specs.AccessRules.Functions.{AreTypes}
 use Rattle.typed_names.proofs.TypeExprs.NewNames.{drop_all, drop_item}
 use Rattle.typed_names.specs.declared.scopes.Scope.{Scope}

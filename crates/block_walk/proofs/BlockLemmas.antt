@@ -6,13 +6,13 @@ use Rattle.go_tree.specs.declared.stmts.Stmt as source
 use Rattle.go_tree.specs.Lists.{stmts_from}
 use Rattle.go_tree.specs.Tree.{Stmt, Stmts, stmt_and}
 use Rattle.go_tree.specs.View.{stmt_of}
-use Rattle.go_tree.specs.ScopeNames.FreeNames.{declared}
-use Rattle.go_tree.specs.GoTypes.Answers.{both, only_if}
-use Rattle.go_tree.specs.GoTypes.Bodies.{Ctx}
-use Rattle.go_tree.specs.GoTypes.Declarations.{Declared, all_used, beyond, binds_of}
-use Rattle.go_tree.specs.GoTypes.Entities.{Binds, Env, extend}
-use Rattle.go_tree.specs.GoTypes.Statements.{is_empty_stmt}
-use Rattle.go_tree.specs.GoTypes.Typing.{declares, stmt, stmts, used_stmt, used_stmts}
+use Rattle.go_rules.specs.ScopeNames.FreeNames.{declared}
+use Rattle.go_rules.specs.GoTypes.Answers.{both, only_if}
+use Rattle.go_rules.specs.GoTypes.Bodies.{Ctx}
+use Rattle.go_rules.specs.GoTypes.Declarations.{Declared, all_used, beyond, binds_of}
+use Rattle.go_rules.specs.GoTypes.Entities.{Binds, Env, extend}
+use Rattle.go_rules.specs.GoTypes.Statements.{is_empty_stmt}
+use Rattle.go_rules.specs.GoTypes.Typing.{declares, stmt, stmts, used_stmt, used_stmts}
 use Rattle.operator_rules.specs.AccessRules.Functions.{AreTypes}
 use Rattle.typed_names.proofs.TypeExprs.NewNames.{drop_all, drop_item}
 use Rattle.typed_names.specs.declared.scopes.Scope.{Scope}

@@ -6,17 +6,17 @@ use Rattle.go_tree.specs.declared.stmts.Case as source
 use Rattle.go_tree.specs.Lists.{cases_from}
 use Rattle.go_tree.specs.Tree.{Cases, no_cases, Exprs, ExprOption, Stmt, StmtOption, switch}
 use Rattle.go_tree.specs.View.{case_of, exprs_of, stmts_of}
-use Rattle.go_tree.specs.declared.const_eval.consts.Const.{Const}
-use Rattle.go_tree.specs.declared.const_eval.consts.Const.TheVariants.{Whole, Truth, Bytes}
-use Rattle.go_tree.specs.ScopeNames.FreeNames.{declared_option}
-use Rattle.go_tree.specs.GoTypes.Answers.{both, given, only_if}
-use Rattle.go_tree.specs.GoTypes.Bodies.{Ctx, in_switch}
-use Rattle.go_tree.specs.GoTypes.Declarations.{Declared, all_used, beyond, binds_of}
-use Rattle.go_tree.specs.GoTypes.Entities.{Binds, Content, Env, run, exact, shift, defined_in, extend, in_block}
-use Rattle.go_tree.specs.GoTypes.Jumps.{breaks_in}
-use Rattle.go_tree.specs.GoTypes.Operands.{Operand, Typed, all_typed}
-use Rattle.go_tree.specs.GoTypes.Statements.{Clauses, case_constants, case_value, choice, is_default, tag_of, tag_value}
-use Rattle.go_tree.specs.GoTypes.Typing.{all_parts, bound, clauses, first, stmt, stmts, used_all, used_cases, used_first, used_option, used_stmt, used_stmts}
+use Rattle.go_rules.specs.declared.const_eval.consts.Const.{Const}
+use Rattle.go_rules.specs.declared.const_eval.consts.Const.TheVariants.{Whole, Truth, Bytes}
+use Rattle.go_rules.specs.ScopeNames.FreeNames.{declared_option}
+use Rattle.go_rules.specs.GoTypes.Answers.{both, given, only_if}
+use Rattle.go_rules.specs.GoTypes.Bodies.{Ctx, in_switch}
+use Rattle.go_rules.specs.GoTypes.Declarations.{Declared, all_used, beyond, binds_of}
+use Rattle.go_rules.specs.GoTypes.Entities.{Binds, Content, Env, run, exact, shift, defined_in, extend, in_block}
+use Rattle.go_rules.specs.GoTypes.Jumps.{breaks_in}
+use Rattle.go_rules.specs.GoTypes.Operands.{Operand, Typed, all_typed}
+use Rattle.go_rules.specs.GoTypes.Statements.{Clauses, case_constants, case_value, choice, is_default, tag_of, tag_value}
+use Rattle.go_rules.specs.GoTypes.Typing.{all_parts, bound, clauses, first, stmt, stmts, used_all, used_cases, used_first, used_option, used_stmt, used_stmts}
 use Rattle.type_table.specs.TypeRelations.Environment.{Environment, defined_types}
 use Rattle.type_table.specs.declared.operand_rules.values.Value.{Value}
 use Rattle.type_table.specs.declared.operand_rules.values.Refusal.{Refusal}

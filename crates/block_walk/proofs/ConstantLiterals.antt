@@ -9,13 +9,13 @@ use Rattle.go_tree.specs.declared.stmts.ConstSpec.{ConstSpec}
 use Rattle.go_tree.specs.Lists.{specs_from}
 use Rattle.go_tree.specs.View.{const_spec_of, exprs_of}
 use Rattle.go_tree.specs.Tree.{NameAt, TypeExpr, Expr, ident, int_lit, rune_lit, str_lit, composite, selector, index, slice, call, func_lit, type_operand, unary, binary, star, Exprs, no_exprs, expr_and, ExprOption, no_expr, some_expr, Elems, no_elems, elem, Value, plain, braced, ValueOption, no_value, some_value, ValueSpecs, no_specs, spec}
-use Rattle.go_tree.specs.ScopeNames.FreeNames.{names_of}
-use Rattle.go_tree.specs.GoTypes.Answers.{given, is_empty}
-use Rattle.go_tree.specs.GoTypes.Types.{GoType}
-use Rattle.go_tree.specs.GoTypes.Declarations.{Declared, Repeated, and_then, new_constants}
-use Rattle.go_tree.specs.GoTypes.Entities.{Env, extend}
-use Rattle.go_tree.specs.GoTypes.TypeNames.{written_type}
-use Rattle.go_tree.specs.GoTypes.Typing.{all_parts, declares_constants}
+use Rattle.go_rules.specs.ScopeNames.FreeNames.{names_of}
+use Rattle.go_rules.specs.GoTypes.Answers.{given, is_empty}
+use Rattle.go_rules.specs.GoTypes.Types.{GoType}
+use Rattle.go_rules.specs.GoTypes.Declarations.{Declared, Repeated, and_then, new_constants}
+use Rattle.go_rules.specs.GoTypes.Entities.{Env, extend}
+use Rattle.go_rules.specs.GoTypes.TypeNames.{written_type}
+use Rattle.go_rules.specs.GoTypes.Typing.{all_parts, declares_constants}
 use Rattle.typed_names.proofs.TypeExprs.NewNames.{drop_all, drop_item}
 use Rattle.statement_walk.specs.Basic.{all_only_basic, only_basic, only_basic_option}
 use Rattle.statement_walk.specs.Walked as expression

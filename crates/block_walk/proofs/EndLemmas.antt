@@ -1,14 +1,14 @@
 -- The ends of blocks, and answers one behind another.
 use Rattle.std.proofs.Common.{◌≡◌, ◌∙◌, ◌&&◌, ℕ, Bool, true, false, not, cond, List, [], ◌∷◌, Option, Some, None, Result, Ok, Err, OnOk, refl, sym, ap}
-use Rattle.go_tree.specs.GoTypes.Answers.{given, only_if}
+use Rattle.go_rules.specs.GoTypes.Answers.{given, only_if}
 use Rattle.type_table.specs.declared.operand_rules.values.Refusal.{Refusal}
 use Rattle.type_table.specs.declared.operand_rules.values.Refusal.TheVariants.{NotTyped, NoMemory}
 use Rattle.go_tree.specs.declared.spans.Span.{Span}
 use Rattle.go_tree.specs.Tree.{NameAt, Stmt, label}
-use Rattle.go_tree.specs.GoTypes.Bodies.{Ctx, labelled}
-use Rattle.go_tree.specs.GoTypes.Entities.{Env}
-use Rattle.go_tree.specs.GoTypes.Jumps.{breaks, is_breakable, is_loop}
-use Rattle.go_tree.specs.GoTypes.Typing.{stmt}
+use Rattle.go_rules.specs.GoTypes.Bodies.{Ctx, labelled}
+use Rattle.go_rules.specs.GoTypes.Entities.{Env}
+use Rattle.go_rules.specs.GoTypes.Jumps.{breaks, is_breakable, is_loop}
+use Rattle.go_rules.specs.GoTypes.Typing.{stmt}
 use Rattle.type_table.specs.TypeRelations.Environment.{Environment}
 use Rattle.typed_names.specs.declared.scopes.Scope.{Scope}
 use Rattle.typed_names.specs.Meanings.{Names}

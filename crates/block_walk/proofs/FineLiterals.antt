@@ -4,17 +4,17 @@ use Rattle.std.proofs.lemmas.Bool.{true≢false}
 use Rattle.std.specs.Prelude.{is_some}
 use Rattle.go_tree.specs.declared.spans.Span.{Span}
 use Rattle.go_tree.specs.Tree.{NameAt, Expr, ident, int_lit, rune_lit, str_lit, composite, selector, index, slice, call, func_lit, type_operand, unary, binary, star, Exprs, no_exprs, expr_and, ExprOption, no_expr, some_expr, RangeLeft, nothing, assigns, defines, Stmt, const_decl, var_decl, empty, eval, step, assign, define, return_, break_, continue_, inner, if_, for_, range_, switch, defer, label}
-use Rattle.go_tree.specs.ScopeNames.FreeNames.{free_type_option, names_of}
-use Rattle.go_tree.specs.GoTypes.Answers.{given, is_empty, meets, only_if}
-use Rattle.go_tree.specs.GoTypes.Types.{GoType}
-use Rattle.go_tree.specs.GoTypes.Primary.{may_be_deferred, stands_alone}
-use Rattle.go_tree.specs.GoTypes.Bodies.{Ctx, no_values, returns}
-use Rattle.go_tree.specs.GoTypes.Declarations.{Declared, bind_all, bound_names, defined_by, may_declare, names_once, new_by_define, new_variables, some_declared, variable_entity, variables_declared}
-use Rattle.go_tree.specs.GoTypes.Entities.{Binds, Env, defined_in}
-use Rattle.go_tree.specs.GoTypes.Operands.{Operand, Typed, takes_all, spread, typed, with_value}
-use Rattle.go_tree.specs.GoTypes.Statements.{Target, assigned_values, blank, is_blank_name, is_panic, one_more, range_assigns, right_values, step_op, stores_all, target_at, updates}
-use Rattle.go_tree.specs.GoTypes.TypeNames.{written_type}
-use Rattle.go_tree.specs.GoTypes.Typing.{all_parts, bound, is_call, parts, place, places, range_declares, ranges, stmt, targets, used, used_all, used_left, used_option, used_range, used_stmt}
+use Rattle.go_rules.specs.ScopeNames.FreeNames.{free_type_option, names_of}
+use Rattle.go_rules.specs.GoTypes.Answers.{given, is_empty, meets, only_if}
+use Rattle.go_rules.specs.GoTypes.Types.{GoType}
+use Rattle.go_rules.specs.GoTypes.Primary.{may_be_deferred, stands_alone}
+use Rattle.go_rules.specs.GoTypes.Bodies.{Ctx, no_values, returns}
+use Rattle.go_rules.specs.GoTypes.Declarations.{Declared, bind_all, bound_names, defined_by, may_declare, names_once, new_by_define, new_variables, some_declared, variable_entity, variables_declared}
+use Rattle.go_rules.specs.GoTypes.Entities.{Binds, Env, defined_in}
+use Rattle.go_rules.specs.GoTypes.Operands.{Operand, Typed, takes_all, spread, typed, with_value}
+use Rattle.go_rules.specs.GoTypes.Statements.{Target, assigned_values, blank, is_blank_name, is_panic, one_more, range_assigns, right_values, step_op, stores_all, target_at, updates}
+use Rattle.go_rules.specs.GoTypes.TypeNames.{written_type}
+use Rattle.go_rules.specs.GoTypes.Typing.{all_parts, bound, is_call, parts, place, places, range_declares, ranges, stmt, targets, used, used_all, used_left, used_option, used_range, used_stmt}
 use Rattle.statement_walk.specs.DeclaredVariables.{spec_variables}
 use Rattle.statement_walk.specs.SimpleWalk.ConstantGroups.Groups.{SpecValue}
 use Rattle.statement_walk.specs.FunctionLiterals.Found.{literals_in, literals_in_all, literals_in_option}

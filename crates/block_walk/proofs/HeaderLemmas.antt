@@ -4,14 +4,14 @@ use Rattle.std.proofs.lemmas.Bool.{true≢false}
 use Rattle.std.specs.Prelude.{is_some}
 use Rattle.go_tree.specs.declared.spans.Span.{Span}
 use Rattle.go_tree.specs.Tree.{Expr, some_expr, StmtOption, no_stmt, some_stmt, Stmt, const_decl, var_decl, empty, eval, step, assign, define, return_, break_, continue_, inner, if_, for_, range_, switch, defer, label}
-use Rattle.go_tree.specs.GoTypes.Answers.{both, given, meets, unless_missing}
-use Rattle.go_tree.specs.GoTypes.Bodies.{Ctx}
-use Rattle.go_tree.specs.GoTypes.Declarations.{Declared, no_names}
-use Rattle.go_tree.specs.GoTypes.Defined.{Defined}
-use Rattle.go_tree.specs.GoTypes.Entities.{Env, defined_in}
-use Rattle.go_tree.specs.GoTypes.Operands.{Operand, Typed, typed, value, with_value}
-use Rattle.go_tree.specs.GoTypes.Statements.{is_condition, is_test}
-use Rattle.go_tree.specs.GoTypes.Typing.{bound, declares, first, parts, stmt, used_first}
+use Rattle.go_rules.specs.GoTypes.Answers.{both, given, meets, unless_missing}
+use Rattle.go_rules.specs.GoTypes.Bodies.{Ctx}
+use Rattle.go_rules.specs.GoTypes.Declarations.{Declared, no_names}
+use Rattle.go_rules.specs.GoTypes.Defined.{Defined}
+use Rattle.go_rules.specs.GoTypes.Entities.{Env, defined_in}
+use Rattle.go_rules.specs.GoTypes.Operands.{Operand, Typed, typed, value, with_value}
+use Rattle.go_rules.specs.GoTypes.Statements.{is_condition, is_test}
+use Rattle.go_rules.specs.GoTypes.Typing.{bound, declares, first, parts, stmt, used_first}
 use Rattle.type_table.specs.TypeRelations.Environment.{defined_types}
 use Rattle.typed_names.specs.declared.scopes.Scope.{Scope}
 use Rattle.typed_names.specs.Meanings.{Names}

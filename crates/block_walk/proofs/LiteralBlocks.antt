@@ -8,15 +8,15 @@ use Rattle.go_tree.specs.declared.exprs.Expr as source
 use Rattle.go_tree.specs.declared.spans.Span.{Span}
 use Rattle.go_tree.specs.Tree.{Expr, func_lit, Sig, Stmts}
 use Rattle.go_tree.specs.View.{expr_of}
-use Rattle.go_tree.specs.ScopeNames.FreeNames.{sig_names}
-use Rattle.go_tree.specs.GoTypes.Answers.{distinct_by, given, only_if, otherwise, without}
-use Rattle.go_tree.specs.GoTypes.Bodies.{body_binds, body_ctx, is_body, literal_env}
-use Rattle.go_tree.specs.GoTypes.Declarations.{Declared, all_used, beyond, binds_or, bound_names, not_blank}
-use Rattle.go_tree.specs.GoTypes.Entities.{Binds, Env, extend, in_block}
-use Rattle.go_tree.specs.GoTypes.Operands.{a_function}
-use Rattle.go_tree.specs.GoTypes.Types.{FuncType}
-use Rattle.go_tree.specs.GoTypes.TypeNames.{func_type}
-use Rattle.go_tree.specs.GoTypes.Typing.{parts, stmts, used, used_stmts}
+use Rattle.go_rules.specs.ScopeNames.FreeNames.{sig_names}
+use Rattle.go_rules.specs.GoTypes.Answers.{distinct_by, given, only_if, otherwise, without}
+use Rattle.go_rules.specs.GoTypes.Bodies.{body_binds, body_ctx, is_body, literal_env}
+use Rattle.go_rules.specs.GoTypes.Declarations.{Declared, all_used, beyond, binds_or, bound_names, not_blank}
+use Rattle.go_rules.specs.GoTypes.Entities.{Binds, Env, extend, in_block}
+use Rattle.go_rules.specs.GoTypes.Operands.{a_function}
+use Rattle.go_rules.specs.GoTypes.Types.{FuncType}
+use Rattle.go_rules.specs.GoTypes.TypeNames.{func_type}
+use Rattle.go_rules.specs.GoTypes.Typing.{parts, stmts, used, used_stmts}
 use Rattle.typed_names.specs.declared.scopes.Scope.{Scope}
 use Rattle.typed_names.specs.Meanings.{Names}
 use Rattle.type_table.specs.TypeRelations.Environment.{Environment}

@@ -11,9 +11,9 @@ use Rattle.go_tree.specs.declared.stmts.VarSpec.{VarSpec}
 use Rattle.go_tree.specs.Lists.{exprs_from, specs_from}
 use Rattle.go_tree.specs.View.{expr_of, exprs_of, var_spec_of}
 use Rattle.go_tree.specs.Tree.{RangeLeft, nothing, assigns, defines, Stmt, const_decl, var_decl, empty, eval, step, assign, define, return_, break_, continue_, inner, if_, for_, range_, switch, defer, label, Expr, ident, int_lit, rune_lit, str_lit, composite, selector, index, slice, call, func_lit, type_operand, unary, binary, star, Exprs, no_exprs, expr_and, ExprOption, no_expr, some_expr, Elems, no_elems, elem, Value, plain, braced, ValueOption, no_value, some_value}
-use Rattle.go_tree.specs.GoTypes.Answers.{is_among}
-use Rattle.go_tree.specs.GoTypes.Entities.{Env}
-use Rattle.go_tree.specs.GoTypes.Typing.{parts, used}
+use Rattle.go_rules.specs.GoTypes.Answers.{is_among}
+use Rattle.go_rules.specs.GoTypes.Entities.{Env}
+use Rattle.go_rules.specs.GoTypes.Typing.{parts, used}
 use Rattle.jump_rules.specs.UsedLocals.Used.{Used, and_names}
 use Rattle.jump_rules.proofs.UsedLocals.UsedLemmas.{used_among}
 use Rattle.statement_walk.specs.Walked as expression

@@ -4,14 +4,14 @@ use Rattle.std.specs.Prelude.{is_some}
 use Rattle.std.proofs.lemmas.List.{append-nil}
 use Rattle.go_tree.specs.declared.spans.Span.{Span}
 use Rattle.go_tree.specs.Tree.{ExprOption, Stmt, for_, Stmts, StmtOption, no_stmt, some_stmt}
-use Rattle.go_tree.specs.ScopeNames.FreeNames.{declared_option}
-use Rattle.go_tree.specs.GoTypes.Answers.{both, given, only_if}
-use Rattle.go_tree.specs.GoTypes.Bodies.{Ctx, in_loop}
-use Rattle.go_tree.specs.GoTypes.Declarations.{Declared, all_used, beyond, binds_of}
-use Rattle.go_tree.specs.GoTypes.Entities.{Binds, Env, extend, in_block}
-use Rattle.go_tree.specs.GoTypes.Jumps.{breaks_in}
-use Rattle.go_tree.specs.GoTypes.Statements.{is_absent, is_define, is_test}
-use Rattle.go_tree.specs.GoTypes.Typing.{bound, declares_first, first, stmt, stmts, used_first, used_option, used_stmt, used_stmts}
+use Rattle.go_rules.specs.ScopeNames.FreeNames.{declared_option}
+use Rattle.go_rules.specs.GoTypes.Answers.{both, given, only_if}
+use Rattle.go_rules.specs.GoTypes.Bodies.{Ctx, in_loop}
+use Rattle.go_rules.specs.GoTypes.Declarations.{Declared, all_used, beyond, binds_of}
+use Rattle.go_rules.specs.GoTypes.Entities.{Binds, Env, extend, in_block}
+use Rattle.go_rules.specs.GoTypes.Jumps.{breaks_in}
+use Rattle.go_rules.specs.GoTypes.Statements.{is_absent, is_define, is_test}
+use Rattle.go_rules.specs.GoTypes.Typing.{bound, declares_first, first, stmt, stmts, used_first, used_option, used_stmt, used_stmts}
 use Rattle.typed_names.specs.declared.scopes.Scope.{Scope}
 use Rattle.typed_names.specs.Meanings.{Names}
 use Rattle.type_table.specs.declared.operand_rules.values.Refusal.{Refusal}

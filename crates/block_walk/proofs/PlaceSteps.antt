@@ -2,9 +2,9 @@
 use Rattle.std.proofs.Common.{◌≡◌, ◌∙◌, ℕ, List, [], Result, Ok, Err, OnOk, sym, ap, subst}
 use Rattle.go_tree.specs.declared.spans.Span.{Span}
 use Rattle.go_tree.specs.Tree.{Expr}
-use Rattle.go_tree.specs.GoTypes.Bodies.{Ctx, in_loop, in_switch}
-use Rattle.go_tree.specs.GoTypes.Entities.{Env, in_block}
-use Rattle.go_tree.specs.GoTypes.Typing.{used}
+use Rattle.go_rules.specs.GoTypes.Bodies.{Ctx, in_loop, in_switch}
+use Rattle.go_rules.specs.GoTypes.Entities.{Env, in_block}
+use Rattle.go_rules.specs.GoTypes.Typing.{used}
 use Rattle.operator_rules.specs.AccessRules.Functions.{AreTypes}
 use Rattle.typed_names.specs.declared.scopes.Scope.{Scope}
 use Rattle.typed_names.specs.Meanings.{Names}

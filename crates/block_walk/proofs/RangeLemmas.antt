@@ -4,17 +4,17 @@ use Rattle.std.specs.Prelude.{is_some}
 use Rattle.std.proofs.lemmas.Option.{none-some}
 use Rattle.go_tree.specs.declared.spans.Span.{Span}
 use Rattle.go_tree.specs.Tree.{Expr, Exprs, Stmt, Stmts, range_, RangeLeft, nothing, assigns, defines}
-use Rattle.go_tree.specs.ScopeNames.FreeNames.{defined}
-use Rattle.go_tree.specs.ScopeNames.Means.{is_blank}
-use Rattle.go_tree.specs.GoTypes.Answers.{given, is_empty, meets, only_if}
-use Rattle.go_tree.specs.GoTypes.Types.{GoType}
-use Rattle.go_tree.specs.GoTypes.Bodies.{Ctx, in_loop}
-use Rattle.go_tree.specs.GoTypes.Declarations.{Declared, all_used, beyond, binds_of, bound_names, names_once, no_names, not_blank, some_declared, variables_declared}
-use Rattle.go_tree.specs.GoTypes.Defined.{Defined}
-use Rattle.go_tree.specs.GoTypes.Entities.{Binds, Entity, Env, defined_in, extend, in_block, variable}
-use Rattle.go_tree.specs.GoTypes.Operands.{Operand, Typed, typed}
-use Rattle.go_tree.specs.GoTypes.Statements.{Target, new_by_range, range_assigns, range_binds, range_types}
-use Rattle.go_tree.specs.GoTypes.Typing.{parts, range_declares, ranges, stmt, stmts, targets, used, used_left, used_range, used_stmt, used_stmts}
+use Rattle.go_rules.specs.ScopeNames.FreeNames.{defined}
+use Rattle.go_rules.specs.ScopeNames.Means.{is_blank}
+use Rattle.go_rules.specs.GoTypes.Answers.{given, is_empty, meets, only_if}
+use Rattle.go_rules.specs.GoTypes.Types.{GoType}
+use Rattle.go_rules.specs.GoTypes.Bodies.{Ctx, in_loop}
+use Rattle.go_rules.specs.GoTypes.Declarations.{Declared, all_used, beyond, binds_of, bound_names, names_once, no_names, not_blank, some_declared, variables_declared}
+use Rattle.go_rules.specs.GoTypes.Defined.{Defined}
+use Rattle.go_rules.specs.GoTypes.Entities.{Binds, Entity, Env, defined_in, extend, in_block, variable}
+use Rattle.go_rules.specs.GoTypes.Operands.{Operand, Typed, typed}
+use Rattle.go_rules.specs.GoTypes.Statements.{Target, new_by_range, range_assigns, range_binds, range_types}
+use Rattle.go_rules.specs.GoTypes.Typing.{parts, range_declares, ranges, stmt, stmts, targets, used, used_left, used_range, used_stmt, used_stmts}
 use Rattle.type_table.specs.TypeRelations.Environment.{Environment, defined_types}
 use Rattle.typed_names.specs.declared.scopes.Scope.{Scope}
 use Rattle.typed_names.specs.Meanings.{Names}
@@ -27,7 +27,7 @@ use Rattle.operand_modes.specs.OperandAnswers.Known.{Stands}
 use Rattle.control_steps.specs.LocalBlocks.Places.{IsPlace, in_block_of}
 use Rattle.control_steps.proofs.LocalBlocks.PlaceLemmas.{places_are_environments}
 use Rattle.control_steps.proofs.LocalBlocks.SeenNames.{parts_seen}
-use Rattle.go_tree.specs.declared.const_eval.consts.Const.{Const}
+use Rattle.go_rules.specs.declared.const_eval.consts.Const.{Const}
 use Rattle.statement_walk.specs.Specs.{GivesVariables}
 use Rattle.statement_walk.specs.TargetList.{TargetList}
 use Rattle.statement_walk.specs.Targets.{AreTargetsIfOk, GivesTargets}

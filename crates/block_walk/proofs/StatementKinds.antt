@@ -11,10 +11,10 @@ use Rattle.go_tree.specs.declared.stmts.VarDecl.{out-VarDecl}
 use Rattle.go_tree.specs.declared.stmts.VarSpecList as vsl
 use Rattle.go_tree.specs.Tree.{some_stmt, Stmt, const_decl, var_decl, empty, eval, step, assign, define, return_, break_, continue_, inner, if_, for_, range_, switch, defer, label}
 use Rattle.go_tree.specs.View.{const_decl_of, const_specs_of, var_decl_of, var_specs_of}
-use Rattle.go_tree.specs.GoTypes.Declarations.{no_names}
-use Rattle.go_tree.specs.GoTypes.Entities.{Env}
-use Rattle.go_tree.specs.GoTypes.Statements.{is_define, is_empty_stmt}
-use Rattle.go_tree.specs.GoTypes.Typing.{declares}
+use Rattle.go_rules.specs.GoTypes.Declarations.{no_names}
+use Rattle.go_rules.specs.GoTypes.Entities.{Env}
+use Rattle.go_rules.specs.GoTypes.Statements.{is_define, is_empty_stmt}
+use Rattle.go_rules.specs.GoTypes.Typing.{declares}
 use Rattle.jump_rules.proofs.JumpLemmas.{of_constants, of_variables}
 use Rattle.block_walk.specs.Walked.{IsPlain, IsPost, IsSimple, holds_others, is_declaration}
 

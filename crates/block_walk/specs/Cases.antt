@@ -2,13 +2,13 @@
 use Rattle.std.specs.Prelude.{◌≡◌, ℕ, Bool, ◌&&◌, not, List, map, Option, Some, None, Result, Ok, Err}
 use Rattle.go_tree.specs.declared.spans.Span.{Span}
 use Rattle.go_tree.specs.Tree.{Exprs, Stmts, Cases, case}
-use Rattle.go_tree.specs.GoTypes.Answers.{given}
-use Rattle.go_tree.specs.GoTypes.Bodies.{Ctx}
-use Rattle.go_tree.specs.GoTypes.Entities.{Env}
-use Rattle.go_tree.specs.GoTypes.Operands.{Typed}
-use Rattle.go_tree.specs.GoTypes.Statements.{Clauses, choice}
-use Rattle.go_tree.specs.GoTypes.Typing.{clauses, used_cases}
-use Rattle.go_tree.specs.declared.const_eval.consts.Const.{Const}
+use Rattle.go_rules.specs.GoTypes.Answers.{given}
+use Rattle.go_rules.specs.GoTypes.Bodies.{Ctx}
+use Rattle.go_rules.specs.GoTypes.Entities.{Env}
+use Rattle.go_rules.specs.GoTypes.Operands.{Typed}
+use Rattle.go_rules.specs.GoTypes.Statements.{Clauses, choice}
+use Rattle.go_rules.specs.GoTypes.Typing.{clauses, used_cases}
+use Rattle.go_rules.specs.declared.const_eval.consts.Const.{Const}
 use Rattle.type_table.specs.TypeRelations.Environment.{Environment}
 use Rattle.type_table.specs.declared.operand_rules.values.Value.{Value}
 use Rattle.type_table.specs.declared.operand_rules.values.Refusal.{Refusal}

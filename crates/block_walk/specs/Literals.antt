@@ -5,8 +5,8 @@ use Rattle.std.specs.Prelude.{OnOk}
 use Rattle.go_tree.specs.declared.spans.Span.{Span}
 use Rattle.go_tree.specs.Tree.{Expr, func_lit, Stmt, eval, step, assign, define, return_, defer, RangeLeft, nothing}
 use Rattle.go_tree.specs.Tree.{assigns, defines, ValueSpecs, no_specs, spec}
-use Rattle.go_tree.specs.GoTypes.Answers.{is_empty}
-use Rattle.go_tree.specs.GoTypes.Entities.{Env}
+use Rattle.go_rules.specs.GoTypes.Answers.{is_empty}
+use Rattle.go_rules.specs.GoTypes.Entities.{Env}
 use Rattle.typed_names.specs.declared.scopes.Scope.{Scope}
 use Rattle.typed_names.specs.Meanings.{Names}
 use Rattle.typed_names.specs.Scopes.{env_at}

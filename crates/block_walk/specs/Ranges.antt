@@ -2,10 +2,10 @@
 use Rattle.std.specs.Prelude.{Option, Some}
 use Rattle.go_tree.specs.declared.spans.Span.{Span}
 use Rattle.go_tree.specs.Tree.{Expr, RangeLeft}
-use Rattle.go_tree.specs.GoTypes.Answers.{given, only_if}
-use Rattle.go_tree.specs.GoTypes.Declarations.{Declared}
-use Rattle.go_tree.specs.GoTypes.Entities.{Env}
-use Rattle.go_tree.specs.GoTypes.Typing.{parts, range_declares, ranges}
+use Rattle.go_rules.specs.GoTypes.Answers.{given, only_if}
+use Rattle.go_rules.specs.GoTypes.Declarations.{Declared}
+use Rattle.go_rules.specs.GoTypes.Entities.{Env}
+use Rattle.go_rules.specs.GoTypes.Typing.{parts, range_declares, ranges}
 
 -- what a range clause declares, where it may stand
 abbrev pub range_clause : Env → RangeLeft Span → Expr Span → Option Declared

@@ -3,7 +3,7 @@
 
 ghost use Rattle.std.specs.Prelude.{◌≡◌, Bool, Ok, Option};
 ghost use Rattle.go_tree.specs.View.{held_block_option_of};
-ghost use Rattle.go_tree.specs.GoTypes.Statements as go;
+ghost use Rattle.go_rules.specs.GoTypes.Statements as go;
 ghost use Rattle.jump_rules.specs.UsedLocals.Used.{Used, used_of};
 ghost use Rattle.block_walk.specs.Answers as answer;
 ghost use Rattle.block_walk.specs.Answers.{GivesEnds};

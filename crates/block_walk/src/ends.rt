@@ -2,8 +2,8 @@
 
 ghost use Rattle.std.specs.Prelude.{◌≡◌, ◌&&◌, Bool, None, Ok, Option, false, not, if◌then◌else◌};
 ghost use Rattle.go_tree.specs.View.{plain_expr_option_of, stmt_of, stmts_of};
-ghost use Rattle.go_tree.specs.GoTypes.Jumps.{breaks_in};
-ghost use Rattle.go_tree.specs.GoTypes.Statements as go;
+ghost use Rattle.go_rules.specs.GoTypes.Jumps.{breaks_in};
+ghost use Rattle.go_rules.specs.GoTypes.Statements as go;
 ghost use Rattle.jump_rules.specs.UsedLocals.Used.{Used, used_of};
 ghost use Rattle.block_walk.specs.Answers as answer;
 ghost use Rattle.block_walk.specs.Answers.{GivesEnds, GivesLeft};

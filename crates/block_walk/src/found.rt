@@ -2,7 +2,7 @@
 
 ghost use Rattle.std.specs.Prelude.{◌≡◌, ◌++◌, IfOk};
 ghost use Rattle.go_tree.specs.View.{const_specs_of, expr_of, exprs_of, plain_expr_option_of, range_left_of, stmt_of};
-ghost use Rattle.go_tree.specs.GoTypes.Answers.{is_empty};
+ghost use Rattle.go_rules.specs.GoTypes.Answers.{is_empty};
 ghost use Rattle.statement_walk.specs.FunctionLiterals.Found.{literals_in, literals_in_all, literals_in_option, seen};
 ghost use Rattle.block_walk.specs.Literals.{literals_left, literals_of, specs_have_none};
 

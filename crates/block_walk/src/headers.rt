@@ -3,11 +3,11 @@
 
 ghost use Rattle.std.specs.Prelude.{◌≡◌, ◌&&◌, ℕ, List, is_some, not};
 ghost use Rattle.go_tree.specs.View.{boxed_stmt_option_of, expr_of, plain_expr_option_of, stmt_of};
-ghost use Rattle.go_tree.specs.GoTypes.Answers.{meets};
-ghost use Rattle.go_tree.specs.GoTypes.Bodies.{Ctx};
-ghost use Rattle.go_tree.specs.GoTypes.Entities.{Env, defined_in};
-ghost use Rattle.go_tree.specs.GoTypes.Statements as go_statement;
-ghost use Rattle.go_tree.specs.GoTypes.Typing as go;
+ghost use Rattle.go_rules.specs.GoTypes.Answers.{meets};
+ghost use Rattle.go_rules.specs.GoTypes.Bodies.{Ctx};
+ghost use Rattle.go_rules.specs.GoTypes.Entities.{Env, defined_in};
+ghost use Rattle.go_rules.specs.GoTypes.Statements as go_statement;
+ghost use Rattle.go_rules.specs.GoTypes.Typing as go;
 ghost use Rattle.operator_rules.specs.AccessRules.Functions.{AreTypes};
 ghost use Rattle.operand_modes.specs.CheckerTables.Ready.{Keeps};
 ghost use Rattle.operand_modes.specs.OperandAnswers.Known.{Stands};

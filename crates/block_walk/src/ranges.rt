@@ -4,8 +4,8 @@
 ghost use Rattle.std.specs.Prelude.{◌≡◌, ◌++◌, ℕ, List, map};
 ghost use Rattle.go_tree.specs.Tree as tree;
 ghost use Rattle.go_tree.specs.View.{expr_of, exprs_of, name_at_of, range_left_of};
-ghost use Rattle.go_tree.specs.GoTypes.Entities.{Env, in_block};
-ghost use Rattle.go_tree.specs.GoTypes.Typing as go;
+ghost use Rattle.go_rules.specs.GoTypes.Entities.{Env, in_block};
+ghost use Rattle.go_rules.specs.GoTypes.Typing as go;
 ghost use Rattle.operand_modes.specs.CheckerTables.Ready.{Keeps};
 ghost use Rattle.operand_modes.specs.OperandAnswers.Known.{Stands};
 ghost use Rattle.control_steps.specs.LocalBlocks.Places.{IsPlace, IsWithin};

@@ -3,12 +3,12 @@
 ghost use Rattle.std.specs.Prelude.{◌≡◌, ℕ, List, None, OnOk, Some, false};
 ghost use Rattle.std.specs.List.{list_all};
 ghost use Rattle.go_tree.specs.View.{expr_of, exprs_of, plain_expr_option_of, stmts_of};
-ghost use Rattle.go_tree.specs.GoTypes.Answers.{given, only_if};
-ghost use Rattle.go_tree.specs.GoTypes.Entities.{Env, defined_in};
-ghost use Rattle.go_tree.specs.GoTypes.Jumps as jump;
-ghost use Rattle.go_tree.specs.GoTypes.Operands as go_operand;
-ghost use Rattle.go_tree.specs.GoTypes.Statements as go_statement;
-ghost use Rattle.go_tree.specs.GoTypes.Typing as go;
+ghost use Rattle.go_rules.specs.GoTypes.Answers.{given, only_if};
+ghost use Rattle.go_rules.specs.GoTypes.Entities.{Env, defined_in};
+ghost use Rattle.go_rules.specs.GoTypes.Jumps as jump;
+ghost use Rattle.go_rules.specs.GoTypes.Operands as go_operand;
+ghost use Rattle.go_rules.specs.GoTypes.Statements as go_statement;
+ghost use Rattle.go_rules.specs.GoTypes.Typing as go;
 ghost use Rattle.type_table.specs.OperandRules.Values.{IsValue, typed_of};
 ghost use Rattle.operand_modes.specs.CheckerTables.Ready.{Keeps};
 ghost use Rattle.operand_modes.specs.OperandAnswers.Known.{Stands};

@@ -1,12 +1,12 @@
 -- Calls see arguments alike whose contents are the same.
 use Rattle.std.proofs.Common.{◌≡◌, ◌∙◌, ◌&&◌, List, [], ◌∷◌, Option, Some, None, is_some, refl, sym, ap, ap₂, subst}
 use Rattle.std.specs.List.{list_all}
-use Rattle.go_tree.specs.GoTypes.Answers.{given, meets, only_if}
-use Rattle.go_tree.specs.GoTypes.Types.{GoType, basic, named_type, pointer_to, slice_of, map_of, struct_of, tuple_of, untyped, untyped_nil, basic_kind, element_of, map_parts}
-use Rattle.go_tree.specs.GoTypes.Defined.{Defined, under}
-use Rattle.go_tree.specs.GoTypes.Entities.{Builtin, Append, Cap, Copy, Delete, Len, Make, New, Panic, Print, Println, Recover, Content}
-use Rattle.go_tree.specs.GoTypes.Operands.{Operand, value, several, a_type, a_function, a_builtin, recovered, Typed, all_typed, default_type, fits, plain_value, results_operand, settled, spread, with_value}
-use Rattle.go_tree.specs.GoTypes.Primary.{append_call, builtin_call, call_of, cap_call, conversion, converted, copy_call, delete_call, has_length, is_index, is_printed, len_call, length_of, make_call, make_sizes, new_call, nothing_back, on_values, panic_call, print_call, recover_call, rise}
+use Rattle.go_rules.specs.GoTypes.Answers.{given, meets, only_if}
+use Rattle.go_rules.specs.GoTypes.Types.{GoType, basic, named_type, pointer_to, slice_of, map_of, struct_of, tuple_of, untyped, untyped_nil, basic_kind, element_of, map_parts}
+use Rattle.go_rules.specs.GoTypes.Defined.{Defined, under}
+use Rattle.go_rules.specs.GoTypes.Entities.{Builtin, Append, Cap, Copy, Delete, Len, Make, New, Panic, Print, Println, Recover, Content}
+use Rattle.go_rules.specs.GoTypes.Operands.{Operand, value, several, a_type, a_function, a_builtin, recovered, Typed, all_typed, default_type, fits, plain_value, results_operand, settled, spread, with_value}
+use Rattle.go_rules.specs.GoTypes.Primary.{append_call, builtin_call, call_of, cap_call, conversion, converted, copy_call, delete_call, has_length, is_index, is_printed, len_call, length_of, make_call, make_sizes, new_call, nothing_back, on_values, panic_call, print_call, recover_call, rise}
 use Rattle.type_table.specs.OperandRules.Values.{SameContent}
 use Rattle.operand_modes.specs.Operands.{SameOperand}
 use Rattle.operand_modes.specs.OperandLaws.Alike.{AllSame}

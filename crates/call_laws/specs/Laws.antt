@@ -1,8 +1,8 @@
 -- The law of calls that see arguments alike. It is a clause of a function of this crate.
 use Rattle.std.specs.Prelude.{◌≡◌, List}
-use Rattle.go_tree.specs.GoTypes.Defined.{Defined}
-use Rattle.go_tree.specs.GoTypes.Operands.{Operand}
-use Rattle.go_tree.specs.GoTypes.Primary.{call_of}
+use Rattle.go_rules.specs.GoTypes.Defined.{Defined}
+use Rattle.go_rules.specs.GoTypes.Operands.{Operand}
+use Rattle.go_rules.specs.GoTypes.Primary.{call_of}
 use Rattle.operand_modes.specs.Operands.{SameOperand}
 use Rattle.operand_modes.specs.OperandLaws.Alike.{AllSame}
 

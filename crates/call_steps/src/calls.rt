@@ -1,10 +1,10 @@
 //! Calls (Go specification, Calls; Conversions; Built-in functions).
 
 ghost use Rattle.std.specs.Prelude.{List, Option};
-ghost use Rattle.go_tree.specs.GoTypes.Answers.{both};
-ghost use Rattle.go_tree.specs.GoTypes.Entities as go_entity;
-ghost use Rattle.go_tree.specs.GoTypes.Operands as go_operand;
-ghost use Rattle.go_tree.specs.GoTypes.Primary as go;
+ghost use Rattle.go_rules.specs.GoTypes.Answers.{both};
+ghost use Rattle.go_rules.specs.GoTypes.Entities as go_entity;
+ghost use Rattle.go_rules.specs.GoTypes.Operands as go_operand;
+ghost use Rattle.go_rules.specs.GoTypes.Primary as go;
 ghost use Rattle.type_table.specs.TypeRelations.Environment.{defined_types};
 ghost use Rattle.operand_modes.specs.Operands.{AreOperands, GivesOperand, IsOperand, operand_at, operands_at};
 ghost use Rattle.operand_modes.specs.CheckerTables.Ready.{AreReady, Keeps};

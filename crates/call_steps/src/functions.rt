@@ -1,9 +1,9 @@
 //! Calls of functions and methods (Go specification, Calls; Assignability).
 
 ghost use Rattle.std.specs.Prelude.{◌≡◌, ◌<◌, length, Some};
-ghost use Rattle.go_tree.specs.GoTypes.Answers.{only_if};
-ghost use Rattle.go_tree.specs.GoTypes.Operands as go;
-ghost use Rattle.go_tree.specs.GoTypes.Operands.{spread};
+ghost use Rattle.go_rules.specs.GoTypes.Answers.{only_if};
+ghost use Rattle.go_rules.specs.GoTypes.Operands as go;
+ghost use Rattle.go_rules.specs.GoTypes.Operands.{spread};
 ghost use Rattle.type_table.specs.TypeRelations.Environment.{defined_types};
 ghost use Rattle.operator_rules.specs.AccessRules.Functions.{AreValues, operands_of};
 ghost use Rattle.operand_modes.specs.Operands.{AreOperands, GivesOperand, operands_at, tuple_at};

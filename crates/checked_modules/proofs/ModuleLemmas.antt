@@ -2,12 +2,12 @@
 use Rattle.std.proofs.Common.{◌≡◌, ◌∙◌, ℕ, false, List, [], Option, Some, None, refl, sym, subst, ap, is_some}
 use Rattle.std.proofs.lemmas.Bool.{true≢false}
 use Rattle.go_tree.specs.declared.spans.Span.{Span}
-use Rattle.go_tree.specs.GoTypes.Answers.{one_of}
-use Rattle.go_tree.specs.GoTypes.Defined.{Defined, declared_methods, find_defined}
-use Rattle.go_tree.specs.GoTypes.Entities.{World}
-use Rattle.go_tree.specs.GoTypes.Programs.{Program, headed}
-use Rattle.go_tree.specs.GoTypes.Collect.{collected, valued_world}
-use Rattle.go_tree.specs.GoTypes.WellTyped.{NotTyped, refused_place}
+use Rattle.go_rules.specs.GoTypes.Answers.{one_of}
+use Rattle.go_rules.specs.GoTypes.Defined.{Defined, declared_methods, find_defined}
+use Rattle.go_rules.specs.GoTypes.Entities.{World}
+use Rattle.go_rules.specs.GoTypes.Programs.{Program, headed}
+use Rattle.go_rules.specs.GoTypes.Collect.{collected, valued_world}
+use Rattle.go_rules.specs.GoTypes.WellTyped.{NotTyped, refused_place}
 use Rattle.pkg_graph.specs.GraphLaws.{OrdersAreUnique}
 use Rattle.pkg_graph.specs.declared.packages.Package.{Package}
 use Rattle.package_blocks.specs.Collected.{AreOrdered}

@@ -3,15 +3,15 @@ use Rattle.std.proofs.Common.{◌≡◌, ◌&&◌, ℕ, Bool, true, false, List,
 use Rattle.std.specs.List.{list_all}
 use Rattle.std.proofs.lemmas.Bool.{true≢false}
 use Rattle.go_tree.specs.declared.spans.Span.{Span}
-use Rattle.go_tree.specs.declared.const_eval.kinds.Kind.TheVariants as kind
+use Rattle.go_rules.specs.declared.const_eval.kinds.Kind.TheVariants as kind
 use Rattle.go_tree.specs.declared.exprs.Rest.TheVariants.{Plain}
 use Rattle.go_tree.specs.Tree.{Expr, ident, int_lit, selector, call, Exprs, no_exprs, expr_and, Stmt, eval, Stmts, no_stmts, stmt_and}
 use Rattle.go_tree.specs.File.{Func, Decl, values, types, func}
-use Rattle.go_tree.specs.ConstEval.Literals.{integer_value}
+use Rattle.go_rules.specs.ConstEval.Literals.{integer_value}
 use Rattle.type_table.specs.OperandRules.Folding.{is_literal_kind}
 use Rattle.block_walk.specs.ExprWalkWalked.{IsLiteralOf}
 use Rattle.block_walk.specs.Walked.{AreWalkedExprs, AreWalkedStmts, IsWalkedExpr, IsWalkedStmt}
-use Rattle.go_tree.specs.ConstEval.Exact.{number}
+use Rattle.go_rules.specs.ConstEval.Exact.{number}
 use Rattle.pkg_graph.specs.Package.{Package, SourceTree}
 use Rattle.collected.specs.ValueHeaders.SpelledDecls.{FilesHave}
 use Rattle.printing_files.specs.Decls.{are_printing, is_function, is_nothing, is_plain, is_printer, is_printing}

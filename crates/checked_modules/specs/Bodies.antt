@@ -5,8 +5,8 @@ use Rattle.go_tree.specs.declared.spans.Span.{Span}
 use Rattle.go_tree.specs.declared.files.FileTree.{FileTree}
 use Rattle.go_tree.specs.File.{Decl, values, types, func}
 use Rattle.go_tree.specs.FileView.{decl_of}
-use Rattle.go_tree.specs.GoTypes.Entities.{World}
-use Rattle.go_tree.specs.GoTypes.WellTyped.{function_ok}
+use Rattle.go_rules.specs.GoTypes.Entities.{World}
+use Rattle.go_rules.specs.GoTypes.WellTyped.{function_ok}
 use Rattle.pkg_graph.specs.declared.packages.Package.{Package}
 use Rattle.typed_names.specs.declared.scopes.Scope.{Scope}
 use Rattle.typed_names.specs.Meanings.{Names, world_at}

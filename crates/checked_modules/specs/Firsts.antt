@@ -3,15 +3,15 @@
 use Rattle.std.specs.Prelude.{ℕ, suc, Bool, true, false, List, [], ◌∷◌, length, map, nat_eq, Option, Some, None}
 use Rattle.std.specs.Prelude.{if◌then◌else◌, not, ◌&&◌, bytes_eq, codes}
 use Rattle.go_tree.specs.declared.spans.Span.{Span}
-use Rattle.go_tree.specs.GoTypes.Answers.{meets, one_of}
-use Rattle.go_tree.specs.GoTypes.Entities.{World}
-use Rattle.go_tree.specs.GoTypes.Programs.{SourcePackage, Program, block_names}
-use Rattle.go_tree.specs.GoTypes.WellTyped.{NotTyped, lacks_main}
+use Rattle.go_rules.specs.GoTypes.Answers.{meets, one_of}
+use Rattle.go_rules.specs.GoTypes.Entities.{World}
+use Rattle.go_rules.specs.GoTypes.Programs.{SourcePackage, Program, block_names}
+use Rattle.go_rules.specs.GoTypes.WellTyped.{NotTyped, lacks_main}
 use Rattle.pkg_graph.specs.declared.packages.SourceTree.{SourceTree}
 use Rattle.pkg_graph.specs.declared.packages.Package.{Package}
 use Rattle.pkg_graph.specs.Views.{source_of}
 use Rattle.run_rules.specs.Programs.{linked_file}
-use Rattle.go_tree.specs.ScopeNames.Means.{means}
+use Rattle.go_rules.specs.ScopeNames.Means.{means}
 use Rattle.typed_names.specs.Meanings.{Names, block_at}
 use Rattle.typed_names.specs.declared.entities.Entity.{Entity}
 use Rattle.typed_names.specs.declared.entities.Entity.TheVariants as meaning

@@ -1,8 +1,8 @@
 -- What is known of a module before its first import or header is named that is refused (Go specification, Packages;
 -- Declarations and scope; Import declarations).
 use Rattle.std.specs.Prelude.{List, [], map}
-use Rattle.go_tree.specs.GoTypes.Programs.{headed}
-use Rattle.go_tree.specs.GoTypes.Collect.{valued_world}
+use Rattle.go_rules.specs.GoTypes.Programs.{headed}
+use Rattle.go_rules.specs.GoTypes.Collect.{valued_world}
 use Rattle.pkg_graph.specs.declared.packages.Package.{Package}
 use Rattle.type_table.specs.TypeRelations.Environment.{Environment}
 use Rattle.typed_names.specs.declared.scopes.Scope.{Scope}

@@ -1,10 +1,10 @@
 //! The first place that is named of packages: imports and headers before bodies in each.
 
 ghost use Rattle.std.specs.Prelude.{◌≡◌, List, bytes_eq, codes, drop, nat_eq, slice_get, take};
-ghost use Rattle.go_tree.specs.declared.const_eval.consts.Const.{Const};
-ghost use Rattle.go_tree.specs.GoTypes.Answers.{meets, one_of};
-ghost use Rattle.go_tree.specs.GoTypes.Entities.{World};
-ghost use Rattle.go_tree.specs.GoTypes.WellTyped.{lacks_main};
+ghost use Rattle.go_rules.specs.declared.const_eval.consts.Const.{Const};
+ghost use Rattle.go_rules.specs.GoTypes.Answers.{meets, one_of};
+ghost use Rattle.go_rules.specs.GoTypes.Entities.{World};
+ghost use Rattle.go_rules.specs.GoTypes.WellTyped.{lacks_main};
 ghost use Rattle.pkg_graph.specs.declared.packages.Package.{Package as Home};
 ghost use Rattle.type_table.specs.TypeRelations.Environment.{Environment};
 ghost use Rattle.typed_names.specs.Meanings.{world_at};

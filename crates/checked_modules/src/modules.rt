@@ -1,7 +1,7 @@
 //! The first place of a module that is refused.
 
 ghost use Rattle.std.specs.Prelude.{◌≡◌, ◌<◌, ◌^◌, length, true, IfOk};
-ghost use Rattle.go_tree.specs.GoTypes.WellTyped.{refused_place};
+ghost use Rattle.go_rules.specs.GoTypes.WellTyped.{refused_place};
 ghost use Rattle.declared_types.specs.Steps.{KnowsPlaces};
 ghost use Rattle.package_blocks.specs.Collected.{AreOrdered};
 ghost use Rattle.package_blocks.specs.Imports.{views};

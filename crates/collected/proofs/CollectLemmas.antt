@@ -2,15 +2,15 @@
 use Rattle.std.proofs.Common.{◌≡◌, ◌∙◌, ◌&&◌, ℕ, Bool, true, false, List, [], ◌∷◌, Option, Some, None, refl, sym, ap, ap₂, is_some, nat_eq, bytes_eq}
 use Rattle.std.specs.Prelude.{if◌then◌else◌}
 use Rattle.go_tree.specs.declared.spans.Span.{Span}
-use Rattle.go_tree.specs.declared.const_eval.consts.Const.{Const}
-use Rattle.go_tree.specs.ScopeNames.Means.{means}
-use Rattle.go_tree.specs.GoTypes.Types.{named_type}
-use Rattle.go_tree.specs.GoTypes.Defined.{Defined, find_defined, has_keys, methods, under}
-use Rattle.go_tree.specs.GoTypes.Entities.{World}
-use Rattle.go_tree.specs.GoTypes.Primary.{find_method}
-use Rattle.go_tree.specs.GoTypes.Programs.{Program, headed}
-use Rattle.go_tree.specs.GoTypes.MethodDeclarations.{DeclaredMethod, methods_from, methods_on, with_methods}
-use Rattle.go_tree.specs.GoTypes.Collect.{typed_world, world_of, collected, valued_world}
+use Rattle.go_rules.specs.declared.const_eval.consts.Const.{Const}
+use Rattle.go_rules.specs.ScopeNames.Means.{means}
+use Rattle.go_rules.specs.GoTypes.Types.{named_type}
+use Rattle.go_rules.specs.GoTypes.Defined.{Defined, find_defined, has_keys, methods, under}
+use Rattle.go_rules.specs.GoTypes.Entities.{World}
+use Rattle.go_rules.specs.GoTypes.Primary.{find_method}
+use Rattle.go_rules.specs.GoTypes.Programs.{Program, headed}
+use Rattle.go_rules.specs.GoTypes.MethodDeclarations.{DeclaredMethod, methods_from, methods_on, with_methods}
+use Rattle.go_rules.specs.GoTypes.Collect.{typed_world, world_of, collected, valued_world}
 use Rattle.type_table.specs.TypeRelations.Environment.{Environment, defined_types}
 use Rattle.typed_names.specs.declared.entities.Entity.{Entity}
 use Rattle.typed_names.specs.declared.entities.Entity.TheVariants.{Variable, Constant, TypeName, Function, Package, Predeclared, Refused}

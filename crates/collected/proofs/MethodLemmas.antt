@@ -2,11 +2,11 @@
 use Rattle.std.proofs.Common.{◌≡◌, ◌∙◌, ◌<◌, ◌&&◌, ℕ, Bool, true, false, List, [], ◌∷◌, Option, Some, None, refl, sym, subst, ap, ap₂, length, map, is_some, nat_eq, bytes_eq}
 use Rattle.std.specs.Prelude.{slice_get, if◌then◌else◌}
 use Rattle.go_tree.specs.declared.spans.Span.{Span}
-use Rattle.go_tree.specs.declared.const_eval.consts.Const.{Const}
-use Rattle.go_tree.specs.GoTypes.Types.{named_type}
-use Rattle.go_tree.specs.GoTypes.Defined.{Defined, find_defined}
-use Rattle.go_tree.specs.GoTypes.Programs.{Headed}
-use Rattle.go_tree.specs.GoTypes.Table.{TypeNode, basic_node, named_node, pointer_node, slice_node, map_node, struct_node, tuple_node, untyped_node, nil_node}
+use Rattle.go_rules.specs.declared.const_eval.consts.Const.{Const}
+use Rattle.go_rules.specs.GoTypes.Types.{named_type}
+use Rattle.go_rules.specs.GoTypes.Defined.{Defined, find_defined}
+use Rattle.go_rules.specs.GoTypes.Programs.{Headed}
+use Rattle.go_rules.specs.GoTypes.Table.{TypeNode, basic_node, named_node, pointer_node, slice_node, map_node, struct_node, tuple_node, untyped_node, nil_node}
 use Rattle.type_table.specs.TypesAt.{type_at, type_by}
 use Rattle.type_table.proofs.TypesAtLaws.{get_within, type_at_row}
 use Rattle.type_table.specs.TypeRelations.Environment.{Definition, Environment, IsEnvironment, MethodRow, defined_at, defined_types, definition_in, env_type, has_methods, is_defined}

@@ -1,9 +1,9 @@
 -- What is read of a table of types by its rows alone stays where they do.
 use Rattle.std.proofs.Common.{◌≡◌, ◌∙◌, ◌<◌, ◌≤◌, List, [], ◌∷◌, Option, Some, None, refl, sym, subst, ap, ap₂, map, length, arith}
-use Rattle.go_tree.specs.declared.const_eval.consts.Const.{Const}
-use Rattle.go_tree.specs.ScopeNames.Means.{means}
-use Rattle.go_tree.specs.GoTypes.Types.{GoType, FuncType, is_untyped}
-use Rattle.go_tree.specs.GoTypes.Entities as go
+use Rattle.go_rules.specs.declared.const_eval.consts.Const.{Const}
+use Rattle.go_rules.specs.ScopeNames.Means.{means}
+use Rattle.go_rules.specs.GoTypes.Types.{GoType, FuncType, is_untyped}
+use Rattle.go_rules.specs.GoTypes.Entities as go
 use Rattle.type_table.specs.TypesAt.{type_at}
 use Rattle.type_table.specs.TypeRelations.Environment.{Environment}
 use Rattle.type_table.specs.declared.operand_rules.values.ValueType.{ValueType}

@@ -2,9 +2,9 @@
 -- declarations; Constant declarations; Variable declarations; Function declarations; Method declarations).
 use Rattle.std.specs.Prelude.{◌≡◌, List, [], map}
 use Rattle.go_tree.specs.declared.spans.Span.{Span}
-use Rattle.go_tree.specs.declared.const_eval.consts.Const.{Const}
-use Rattle.go_tree.specs.GoTypes.Programs.{Program, headed}
-use Rattle.go_tree.specs.GoTypes.Collect.{collected}
+use Rattle.go_rules.specs.declared.const_eval.consts.Const.{Const}
+use Rattle.go_rules.specs.GoTypes.Programs.{Program, headed}
+use Rattle.go_rules.specs.GoTypes.Collect.{collected}
 use Rattle.typed_names.specs.Meanings.{world_at}
 use Rattle.declared_types.specs.Members.{SameMembers}
 use Rattle.declared_types.specs.Steps.{KnowsPlaces}

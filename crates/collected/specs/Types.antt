@@ -2,9 +2,9 @@
 -- and scope).
 use Rattle.std.specs.Prelude.{◌≡◌, ℕ, List}
 use Rattle.go_tree.specs.declared.spans.Span.{Span}
-use Rattle.go_tree.specs.declared.const_eval.consts.Const.{Const}
-use Rattle.go_tree.specs.GoTypes.Programs.{Program, headed}
-use Rattle.go_tree.specs.GoTypes.Collect.{refused_world, typed_world}
+use Rattle.go_rules.specs.declared.const_eval.consts.Const.{Const}
+use Rattle.go_rules.specs.GoTypes.Programs.{Program, headed}
+use Rattle.go_rules.specs.GoTypes.Collect.{refused_world, typed_world}
 use Rattle.type_table.specs.TypeRelations.Environment.{Environment, defined_types}
 use Rattle.typed_names.specs.Meanings.{Names, world_at}
 use Rattle.declared_types.specs.Members.{SameMembers}

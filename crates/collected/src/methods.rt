@@ -1,9 +1,9 @@
 //! The methods that packages declare (Go specification, Method declarations; Method sets).
 
 ghost use Rattle.std.specs.Prelude.{◌≡◌, ◌<◌, [], ℕ, List, length, map, true, false, IfOk};
-ghost use Rattle.go_tree.specs.declared.const_eval.consts.Const.{Const};
+ghost use Rattle.go_rules.specs.declared.const_eval.consts.Const.{Const};
 ghost use Rattle.go_tree.specs.declared.spans.Span.{Span};
-ghost use Rattle.go_tree.specs.GoTypes.Programs.{Headed};
+ghost use Rattle.go_rules.specs.GoTypes.Programs.{Headed};
 ghost use Rattle.type_table.specs.TypeRelations.Environment.{IsEnvironment, has_methods};
 ghost use Rattle.typed_names.specs.Meanings.{world_at};
 ghost use Rattle.declared_types.specs.Steps.{KnowsPlaces};

@@ -4,9 +4,9 @@
 ghost use Rattle.std.specs.Prelude.{◌≡◌, true, not, ◌&&◌, [], ◌∷◌, ◌++◌, map, IfOk, OnOk};
 ghost use Rattle.std.specs.Option.{option_map};
 ghost use Rattle.go_tree.specs.View.{exprs_of, name_at_of, type_of};
-ghost use Rattle.go_tree.specs.GoTypes.Answers.{is_empty};
-ghost use Rattle.go_tree.specs.GoTypes.SingleNames as go;
-ghost use Rattle.go_tree.specs.GoTypes.SingleNames.{single_names};
+ghost use Rattle.go_rules.specs.GoTypes.Answers.{is_empty};
+ghost use Rattle.go_rules.specs.GoTypes.SingleNames as go;
+ghost use Rattle.go_rules.specs.GoTypes.SingleNames.{single_names};
 ghost use Rattle.package_blocks.specs.Headers.{header_of, listed_of};
 ghost use Rattle.collected.specs.SingleHeaders.Singles.{each_of, in_place, listed_by_names, listed_single, named_by, single_of};
 

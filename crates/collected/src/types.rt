@@ -1,11 +1,11 @@
 //! The types that packages declare (Go specification, Type declarations).
 
 ghost use Rattle.std.specs.Prelude.{◌≡◌, [], List, map, IfOk};
-ghost use Rattle.go_tree.specs.declared.const_eval.consts.Const.{Const};
+ghost use Rattle.go_rules.specs.declared.const_eval.consts.Const.{Const};
 ghost use Rattle.go_tree.specs.declared.spans.Span.{Span};
-ghost use Rattle.go_tree.specs.GoTypes.Programs.{Headed, Program, headed};
-ghost use Rattle.go_tree.specs.GoTypes.Collect as go;
-ghost use Rattle.go_tree.specs.GoTypes.Collect.{refused_world};
+ghost use Rattle.go_rules.specs.GoTypes.Programs.{Headed, Program, headed};
+ghost use Rattle.go_rules.specs.GoTypes.Collect as go;
+ghost use Rattle.go_rules.specs.GoTypes.Collect.{refused_world};
 ghost use Rattle.pkg_graph.specs.Package.{Package};
 ghost use Rattle.run_rules.specs.Programs.{linked};
 ghost use Rattle.type_table.specs.TypeRelations.Environment.{Environment};

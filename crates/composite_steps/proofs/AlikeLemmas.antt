@@ -1,14 +1,14 @@
 -- Composite literals see elements alike whose contents are the same.
 use Rattle.std.proofs.Common.{◌≡◌, ◌∙◌, ◌+◌, ◌&&◌, not, ℕ, Bool, List, [], ◌∷◌, Option, Some, None, refl, ap, ap₂, bytes_eq, nat_eq}
 use Rattle.std.specs.List.{list_all}
-use Rattle.go_tree.specs.declared.const_eval.consts.Const.{Const}
-use Rattle.go_tree.specs.ScopeNames.Means.{is_blank}
-use Rattle.go_tree.specs.GoTypes.Answers.{distinct_by, given, meets, only_if}
-use Rattle.go_tree.specs.GoTypes.Types.{GoType, GoFields, no_go_fields, go_field, element_of, fields_of, map_parts}
-use Rattle.go_tree.specs.GoTypes.Defined.{Defined, under}
-use Rattle.go_tree.specs.GoTypes.Operands.{Operand, value, several, a_type, a_function, a_builtin, recovered, fits, plain_value, takes}
-use Rattle.go_tree.specs.GoTypes.Primary.{find_field, sees}
-use Rattle.go_tree.specs.GoTypes.Literals.{Element, unkeyed, of_field, keyed, built, built_inside, constant_index, constant_keys, constant_then, distinct_consts, element_value, fields_set, fills, has_key, index_or, indices, literal_takes, literal_type, map_takes, sets_field, slice_takes, struct_takes}
+use Rattle.go_rules.specs.declared.const_eval.consts.Const.{Const}
+use Rattle.go_rules.specs.ScopeNames.Means.{is_blank}
+use Rattle.go_rules.specs.GoTypes.Answers.{distinct_by, given, meets, only_if}
+use Rattle.go_rules.specs.GoTypes.Types.{GoType, GoFields, no_go_fields, go_field, element_of, fields_of, map_parts}
+use Rattle.go_rules.specs.GoTypes.Defined.{Defined, under}
+use Rattle.go_rules.specs.GoTypes.Operands.{Operand, value, several, a_type, a_function, a_builtin, recovered, fits, plain_value, takes}
+use Rattle.go_rules.specs.GoTypes.Primary.{find_field, sees}
+use Rattle.go_rules.specs.GoTypes.Literals.{Element, unkeyed, of_field, keyed, built, built_inside, constant_index, constant_keys, constant_then, distinct_consts, element_value, fields_set, fills, has_key, index_or, indices, literal_takes, literal_type, map_takes, sets_field, slice_takes, struct_takes}
 use Rattle.operand_modes.specs.Operands.{SameOperand}
 use Rattle.operand_modes.proofs.OperandLaws.ContentLemmas.{alike_by}
 use Rattle.operand_modes.proofs.OperandLaws.ValueLemmas.{fitting_sees_alike}

@@ -3,11 +3,11 @@
 
 ghost use Rattle.std.specs.Prelude.{◌≡◌, List, Option, Some};
 ghost use Rattle.std.specs.Option.{option_map};
-ghost use Rattle.go_tree.specs.declared.const_eval.consts.Const.{Const};
+ghost use Rattle.go_rules.specs.declared.const_eval.consts.Const.{Const};
 ghost use Rattle.go_tree.specs.View.{value_of};
-ghost use Rattle.go_tree.specs.GoTypes.Answers.{given};
-ghost use Rattle.go_tree.specs.GoTypes.Literals as go;
-ghost use Rattle.go_tree.specs.GoTypes.Operands as go_operand;
+ghost use Rattle.go_rules.specs.GoTypes.Answers.{given};
+ghost use Rattle.go_rules.specs.GoTypes.Literals as go;
+ghost use Rattle.go_rules.specs.GoTypes.Operands as go_operand;
 ghost use Rattle.type_table.specs.TypeRelations.Environment.{Environment};
 ghost use Rattle.operand_modes.specs.Operands.{GivesOperand};
 ghost use Rattle.composite_steps.specs.Elements.{GivesElement};

@@ -1,12 +1,12 @@
 //! Composite literals by the answers for their elements (Go specification, Composite literals).
 
 ghost use Rattle.std.specs.Prelude.{◌≡◌, Bool, false, List, Option};
-ghost use Rattle.go_tree.specs.declared.const_eval.consts.Const.{Const};
-ghost use Rattle.go_tree.specs.GoTypes.Answers.{given, only_if};
-ghost use Rattle.go_tree.specs.GoTypes.Entities as go_entity;
-ghost use Rattle.go_tree.specs.GoTypes.Literals as go;
-ghost use Rattle.go_tree.specs.GoTypes.Operands.{plain_value};
-ghost use Rattle.go_tree.specs.GoTypes.Types.{GoType, is_untyped};
+ghost use Rattle.go_rules.specs.declared.const_eval.consts.Const.{Const};
+ghost use Rattle.go_rules.specs.GoTypes.Answers.{given, only_if};
+ghost use Rattle.go_rules.specs.GoTypes.Entities as go_entity;
+ghost use Rattle.go_rules.specs.GoTypes.Literals as go;
+ghost use Rattle.go_rules.specs.GoTypes.Operands.{plain_value};
+ghost use Rattle.go_rules.specs.GoTypes.Types.{GoType, is_untyped};
 ghost use Rattle.type_table.specs.TypeRelations.Environment.{Environment, defined_types, env_type};
 ghost use Rattle.type_table.specs.declared.operand_rules.values.ValueType.TheVariants.{Typed};
 ghost use Rattle.type_table.specs.OperandRules.Values.{Gives, IsType};

@@ -1,9 +1,9 @@
 //! Operands wherever they stand.
 
 ghost use Rattle.std.specs.Prelude.{List, Option};
-ghost use Rattle.go_tree.specs.declared.const_eval.consts.Const.{Const};
-ghost use Rattle.go_tree.specs.GoTypes.Entities as go_entity;
-ghost use Rattle.go_tree.specs.GoTypes.Operands as go_operand;
+ghost use Rattle.go_rules.specs.declared.const_eval.consts.Const.{Const};
+ghost use Rattle.go_rules.specs.GoTypes.Entities as go_entity;
+ghost use Rattle.go_rules.specs.GoTypes.Operands as go_operand;
 ghost use Rattle.type_table.specs.TypeRelations.Environment.{Environment};
 ghost use Rattle.operand_modes.specs.Operands.{GivesOperand};
 ghost use Rattle.operand_modes.specs.OperandAnswers.Located.{GivesAt};

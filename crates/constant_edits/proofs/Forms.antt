@@ -8,7 +8,7 @@ use Rattle.go_tree.specs.declared.tokens.TokenKind.TheVariants.{Ident}
 use Rattle.go_layout.specs.Layouts.{Layout, a_token, ◌⊕◌, op, text_of, within}
 use Rattle.go_layout.specs.Parens.{header_within, closed_within}
 use Rattle.go_layout.specs.TreeLayout.{expr_layout}
-use Rattle.go_tree.specs.GoTypes.Answers.{meets}
+use Rattle.go_rules.specs.GoTypes.Answers.{meets}
 use Rattle.run_rules.specs.Surroundings.{Slot, is_bracketed}
 use Rattle.run_rules.specs.FormTrees.{as_expr}
 use Rattle.run_rules.specs.Texts.{FileText, needs_blank, spelling_before, first_spelling, indent_at, form_layout, form_edit}

@@ -4,17 +4,17 @@ use Rattle.std.proofs.lemmas.List.{length-append, length-map}
 use Rattle.go_tree.specs.declared.spans.Span.{Span}
 use Rattle.go_tree.specs.Tree.{NameAt}
 use Rattle.go_tree.specs.File.{Decl, File}
-use Rattle.go_tree.specs.declared.scope_names.names.Entity.{Entity}
-use Rattle.go_tree.specs.declared.scope_names.names.Entity.TheVariants.{Local, Import, Package, Universe}
-use Rattle.go_tree.specs.declared.scope_names.names.FileNames.{FileNames}
-use Rattle.go_tree.specs.ScopeNames.Means.{Environment, is_blank, means, or_else, binding, numbered, predeclared, outermost}
-use Rattle.go_tree.specs.ScopeNames.Scopes.{Scope, holds_at, locals_at, decls_scopes}
+use Rattle.go_rules.specs.declared.scope_names.names.Entity.{Entity}
+use Rattle.go_rules.specs.declared.scope_names.names.Entity.TheVariants.{Local, Import, Package, Universe}
+use Rattle.go_rules.specs.declared.scope_names.names.FileNames.{FileNames}
+use Rattle.go_rules.specs.ScopeNames.Means.{Environment, is_blank, means, or_else, binding, numbered, predeclared, outermost}
+use Rattle.go_rules.specs.ScopeNames.Scopes.{Scope, holds_at, locals_at, decls_scopes}
 use Rattle.scope_tables.specs.Table.{Table, IsTableOf, meaning_in}
 use Rattle.run_rules.proofs.ImportRules.MeaningLaws.{means_append}
 use Rattle.pkg_graph.specs.Package as packages
 use Rattle.pkg_graph.specs.Package.{SourceTree}
 use Rattle.pkg_graph.specs.Members.{Target, member, items_from, decls_from, files_from, block_names, package_block}
-use Rattle.go_tree.specs.GoTypes.Answers.{given}
+use Rattle.go_rules.specs.GoTypes.Answers.{given}
 use Rattle.run_rules.specs.Sites.{MarkRef, Where, mark_of}
 use Rattle.run_rules.specs.Steps.{At}
 use Rattle.constant_steps.specs.FormImports.ImportLaws.Steps.{names_standing}

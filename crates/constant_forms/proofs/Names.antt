@@ -5,16 +5,16 @@ use Rattle.std.proofs.lemmas.Bool.{both_ways}
 use Rattle.go_tree.specs.declared.spans.Span.{Span}
 use Rattle.go_tree.specs.File.{ImportSpec, File}
 use Rattle.go_tree.specs.GoWords.Tokens.Pieces.{is_among, keyword_spellings}
-use Rattle.go_tree.specs.declared.scope_names.names.Entity.{Entity}
-use Rattle.go_tree.specs.declared.scope_names.names.Entity.TheVariants.{Local, Import, Package, Universe}
-use Rattle.go_tree.specs.declared.scope_names.names.FileNames.{FileNames}
-use Rattle.go_tree.specs.declared.scope_names.names.ImportName.{ImportName}
-use Rattle.go_tree.specs.ScopeNames.FreeNames.{names_of}
-use Rattle.go_tree.specs.ScopeNames.Identifiers.{identifiers}
-use Rattle.go_tree.specs.ScopeNames.Means.{Environment, means, or_else, file_environment, outermost, predeclared}
-use Rattle.go_tree.specs.ScopeNames.Occurrences.{means_import}
-use Rattle.go_tree.specs.ScopeNames.Fresh.{candidate, is_new, IsFresh}
-use Rattle.go_tree.specs.ScopeNames.Scopes.{Scope, holds_at, locals_at, decls_scopes, environment_at}
+use Rattle.go_rules.specs.declared.scope_names.names.Entity.{Entity}
+use Rattle.go_rules.specs.declared.scope_names.names.Entity.TheVariants.{Local, Import, Package, Universe}
+use Rattle.go_rules.specs.declared.scope_names.names.FileNames.{FileNames}
+use Rattle.go_rules.specs.declared.scope_names.names.ImportName.{ImportName}
+use Rattle.go_rules.specs.ScopeNames.FreeNames.{names_of}
+use Rattle.go_rules.specs.ScopeNames.Identifiers.{identifiers}
+use Rattle.go_rules.specs.ScopeNames.Means.{Environment, means, or_else, file_environment, outermost, predeclared}
+use Rattle.go_rules.specs.ScopeNames.Occurrences.{means_import}
+use Rattle.go_rules.specs.ScopeNames.Fresh.{candidate, is_new, IsFresh}
+use Rattle.go_rules.specs.ScopeNames.Scopes.{Scope, holds_at, locals_at, decls_scopes, environment_at}
 use Rattle.scope_tables.specs.Table.{Table, IsTableOf}
 use Rattle.run_rules.specs.declared.import_rules.new_import.Needed.{Needed}
 use Rattle.run_rules.specs.ImportRules.Needs.{serving_from, serving, avoided, IsNeeded, IsNeededAt, there, new}

@@ -4,16 +4,16 @@ use Rattle.std.proofs.lemmas.Bool.{eqb-true}
 use Rattle.std.proofs.lemmas.Option.{same_Some}
 use denote.Ref.{Bor}
 use Rattle.go_tree.specs.Tree.{Expr, ident, selector}
-use Rattle.go_tree.specs.declared.scope_names.names.Entity.{Entity}
-use Rattle.go_tree.specs.declared.scope_names.names.Entity.TheVariants as entity
-use Rattle.go_tree.specs.ScopeNames.Means.{Environment, means, or_else, is_blank, binding, numbered}
-use Rattle.go_tree.specs.ScopeNames.Means as names
+use Rattle.go_rules.specs.declared.scope_names.names.Entity.{Entity}
+use Rattle.go_rules.specs.declared.scope_names.names.Entity.TheVariants as entity
+use Rattle.go_rules.specs.ScopeNames.Means.{Environment, means, or_else, is_blank, binding, numbered}
+use Rattle.go_rules.specs.ScopeNames.Means as names
 use Rattle.run_rules.proofs.ImportRules.MeaningLaws.{means_append}
 use Rattle.pkg_graph.specs.Package.{Package, import_specs}
 use Rattle.pkg_graph.specs.Members.{Target, local, imported, member, predeclared, import_name, package_block}
 use Rattle.pkg_graph.specs.ModuleFiles.Internal.{may_import}
-use Rattle.go_tree.specs.GoTypes.Answers.{given, one_of, is_empty}
-use Rattle.go_tree.specs.GoTypes.Entities.{is_exported}
+use Rattle.go_rules.specs.GoTypes.Answers.{given, one_of, is_empty}
+use Rattle.go_rules.specs.GoTypes.Entities.{is_exported}
 use Rattle.run_rules.specs.Surroundings.{Place, other, is_local}
 use Rattle.run_rules.specs.Places.{expr_seen}
 use Rattle.run_rules.specs.Sites.{MarkRef, Where, same_target, mark_of, imported_by, import_number, outer, outer_meaning}

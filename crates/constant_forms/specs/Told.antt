@@ -5,15 +5,15 @@ use Rattle.std.specs.Prelude.{if◌then◌else◌}
 use Rattle.std.specs.Prelude.{bytes_eq, nat_eq, length, slice_get}
 use Rattle.std.specs.List.{list_any}
 use Rattle.go_tree.specs.FileView.{file_of}
-use Rattle.go_tree.specs.declared.scope_names.names.Entity.{Entity}
-use Rattle.go_tree.specs.declared.scope_names.names.Entity.TheVariants.{Package, Universe}
+use Rattle.go_rules.specs.declared.scope_names.names.Entity.{Entity}
+use Rattle.go_rules.specs.declared.scope_names.names.Entity.TheVariants.{Package, Universe}
 use Rattle.scope_tables.specs.Table.{meaning_in, table_of}
 use Rattle.pkg_graph.specs.ModuleFiles.Internal.{may_import}
 use Rattle.run_rules.specs.declared.import_rules.new_import.Needed.{Needed}
 use Rattle.run_rules.specs.ImportRules.Needs.{IsNeededAt}
 use Rattle.pkg_graph.specs.declared.packages.Package as code
-use Rattle.go_tree.specs.GoTypes.Answers.{given, one_of}
-use Rattle.go_tree.specs.GoTypes.Entities.{is_exported}
+use Rattle.go_rules.specs.GoTypes.Answers.{given, one_of}
+use Rattle.go_rules.specs.GoTypes.Entities.{is_exported}
 use Rattle.run_rules.specs.Naming.{Named}
 use Rattle.run_rules.specs.Obstacles.{Obstacle, NotAccessible, Internal, Shadowed, CommentInside, Repeated, obstacle_if}
 use Rattle.run_rules.specs.Steps.{lies_in}

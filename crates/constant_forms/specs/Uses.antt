@@ -4,15 +4,15 @@ use Rattle.std.specs.Prelude.{◌≡◌, ℕ, Bool, not, List, [], map, Option, 
 use Rattle.std.specs.List.{list_any}
 use Rattle.go_tree.specs.Tree.{NameAt, Expr, ident, selector}
 use Rattle.go_tree.specs.FileView.{file_of}
-use Rattle.go_tree.specs.declared.scope_names.names.Entity.{Entity}
-use Rattle.go_tree.specs.declared.scope_names.names.Entity.TheVariants as entity
-use Rattle.go_tree.specs.ScopeNames.Identifiers.{identifiers}
+use Rattle.go_rules.specs.declared.scope_names.names.Entity.{Entity}
+use Rattle.go_rules.specs.declared.scope_names.names.Entity.TheVariants as entity
+use Rattle.go_rules.specs.ScopeNames.Identifiers.{identifiers}
 use Rattle.scope_tables.specs.Table.{IsTableOf, table_of}
 use Rattle.fresh_names.specs.Laws.{TakesFew}
 use Rattle.run_rules.specs.ImportRules.Needs.{avoided}
 use Rattle.pkg_graph.specs.Package.{Package}
 use Rattle.pkg_graph.specs.Views.{package_view}
-use Rattle.go_tree.specs.GoTypes.Answers.{given, is_empty}
+use Rattle.go_rules.specs.GoTypes.Answers.{given, is_empty}
 use Rattle.run_rules.specs.Surroundings.{Place}
 use Rattle.run_rules.specs.Programs.{top_place}
 use Rattle.run_rules.specs.Sites.{MarkRef, Where, Site, a_constant, part_span, where_is, inlinable, mark_of}

@@ -11,7 +11,7 @@ ghost use Rattle.constant_forms.specs.Told.{refused, refused_path, shadowed_told
 use crate::uses::{ConstantUse, ConstantValue, value_name};
 use comments_within::comment_lies_in;
 use exported_names::is_exported;
-use go_tree::scope_names::Entity;
+use go_rules::scope_names::Entity;
 use go_tree::{Name, NoMemory, Text};
 use pkg_graph::module_files::may_import;
 use std::alloc::Global;

@@ -7,7 +7,7 @@ ghost use Rattle.constant_forms.specs.Views.{named_of};
 ghost use Rattle.constant_forms.specs.Told.{IsNamed, named_by};
 
 use crate::uses::ConstantUse;
-use go_tree::scope_names::NameList;
+use go_rules::scope_names::NameList;
 use go_tree::{Name, NoMemory, Text};
 use import_edit::need;
 use pkg_graph::Package;

@@ -3,7 +3,7 @@
 ghost use Rattle.std.specs.Prelude.{◌≡◌, ◌<◌, ◌↔◌, IsTrue, length, slice_get, Some};
 ghost use Rattle.constant_forms.specs.Told.{AreInPackages, is_elsewhere, needed, needed_package, value_name};
 
-use go_tree::scope_names::{Entity, FileNames};
+use go_rules::scope_names::{Entity, FileNames};
 use go_tree::{Comment, FileTree, Name, Span};
 use pkg_graph::Package;
 use scope_tables::Scopes;

@@ -6,14 +6,14 @@ use Rattle.go_tree.specs.Tree.{NameAt, Expr, ValueSpecs}
 use Rattle.go_tree.specs.File.{TypeSpec, Receiver, Decl, File}
 use Rattle.pkg_graph.specs.Package.{Package}
 use Rattle.pkg_graph.specs.Members.{specs_names, unless_method, block_names, items_from, decls_from}
-use Rattle.go_tree.specs.GoTypes.Answers.{given}
-use Rattle.go_tree.specs.GoTypes.Programs.{SourceFile, SourcePackage, Program}
+use Rattle.go_rules.specs.GoTypes.Answers.{given}
+use Rattle.go_rules.specs.GoTypes.Programs.{SourceFile, SourcePackage, Program}
 use Rattle.run_rules.specs.Surroundings.{Place, head_use, alike, value_use, in_constant}
 use Rattle.run_rules.specs.Rewriting.{Changes, new_expr}
 use Rattle.run_rules.specs.Programs.{top_place}
 use Rattle.run_rules.specs.Sites.{a_constant, an_alias, nth_constant, aliased, inlinable_in}
 use Rattle.run_rules.specs.Steps.{change_nth, new_constants, new_variables, new_type_spec, new_receiver_option, new_decl}
-use Rattle.go_tree.proofs.GoTypes.Agreeing.{some_same}
+use Rattle.go_rules.proofs.GoTypes.Agreeing.{some_same}
 use Rattle.constant_steps.specs.StepLaws.DeclStands.{AtNth, decl_changed, file_changed, changed}
 use Rattle.constant_steps.specs.Alone.{SingleSpecs, no_constants, and_constant, and_typed, and_repeated, spec_type, type_in, SingleVariables, no_variables, and_variable, PlainDecl, constants_alone, variables_alone, some_types, PlainDecls, no_decls, and_decl, PlainFiles, no_files, and_file, block_from, PackageAt, this_package, a_later_package}
 use Rattle.constant_steps.specs.Alone as alone

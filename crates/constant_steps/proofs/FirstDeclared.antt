@@ -4,12 +4,12 @@ use mathlib.Core.Path.{ap, sym, ◌∙◌, subst}
 use Rattle.std.proofs.Common.{arith}
 use Rattle.go_tree.specs.Tree.{NameAt, TypeExpr, Expr}
 use Rattle.go_tree.specs.File.{Decl}
-use Rattle.go_tree.specs.ScopeNames.Means.{Environment, means, is_blank, or_else}
+use Rattle.go_rules.specs.ScopeNames.Means.{Environment, means, is_blank, or_else}
 use Rattle.pkg_graph.specs.Members.{Target, member, decls_from}
-use Rattle.go_tree.specs.GoTypes.Answers.{is_among}
-use Rattle.go_tree.specs.GoTypes.Entities.{Entity}
-use Rattle.go_tree.specs.GoTypes.Programs.{Header, Headed, SourceFile, SourcePackage, Program, all_headers, header_names, names_in, headed, headed_file, headed_files, headed_package, block_names, file_block, is_main}
-use Rattle.go_tree.proofs.GoTypes.Agreeing.{some_same}
+use Rattle.go_rules.specs.GoTypes.Answers.{is_among}
+use Rattle.go_rules.specs.GoTypes.Entities.{Entity}
+use Rattle.go_rules.specs.GoTypes.Programs.{Header, Headed, SourceFile, SourcePackage, Program, all_headers, header_names, names_in, headed, headed_file, headed_files, headed_package, block_names, file_block, is_main}
+use Rattle.go_rules.proofs.GoTypes.Agreeing.{some_same}
 use Rattle.typed_in_place.specs.Declared.{FirstWith, this_one, a_later_one}
 use Rattle.run_rules.specs.Sites.{inlinable_in}
 use Rattle.constant_steps.proofs.WrittenLiteral.NamesMeant.{means_join}

@@ -6,12 +6,12 @@ use Rattle.std.proofs.Common.{arith}
 use Rattle.std.proofs.lemmas.Slice.Eq.{bytes_eq-Decides}
 use Rattle.go_tree.specs.Tree.{NameAt, TypeExpr, Expr, Exprs, no_exprs, expr_and, ValueSpecs, spec}
 use Rattle.go_tree.specs.File.{TypeSpec, Receiver, Func, Decl, func}
-use Rattle.go_tree.specs.ScopeNames.Means.{Environment, means, is_blank, binding, or_else}
+use Rattle.go_rules.specs.ScopeNames.Means.{Environment, means, is_blank, binding, or_else}
 use Rattle.pkg_graph.specs.Members.{Target, member, specs_names, unless_method, block_names, items_from, decls_from}
-use Rattle.go_tree.specs.GoTypes.Answers.{given, is_among}
-use Rattle.go_tree.specs.GoTypes.Entities.{Entity}
-use Rattle.go_tree.specs.GoTypes.Declarations.{names_once}
-use Rattle.go_tree.specs.GoTypes.Programs.{Header, constants, variables, a_type_spec, a_func, Headed, headers, all_headers, constant_headers, variable_headers, header_names, header_sound, headed_file, at_member, is_init}
+use Rattle.go_rules.specs.GoTypes.Answers.{given, is_among}
+use Rattle.go_rules.specs.GoTypes.Entities.{Entity}
+use Rattle.go_rules.specs.GoTypes.Declarations.{names_once}
+use Rattle.go_rules.specs.GoTypes.Programs.{Header, constants, variables, a_type_spec, a_func, Headed, headers, all_headers, constant_headers, variable_headers, header_names, header_sound, headed_file, at_member, is_init}
 use Rattle.typed_in_place.specs.Declared.{FirstWith, this_one, a_later_one}
 use Rattle.form_meaning.proofs.FormInPlace.Uses.{among_append}
 use Rattle.run_rules.specs.Sites.{a_constant, an_alias, a_function, nth_constant, aliased}
@@ -149,7 +149,7 @@ sound_alone n m b f e a =
     subst (λ k. is_blank k ≡ false → (names_once (k ∷ []) && list_all (λ k. is_blank k || not (is_among k b || is_init k)) (k ∷ [])) ≡ not (is_init n)) (sym e)
     (λ f. by (is_blank n) f (is_among n b) a (is_init n)) f
   where
-    by : (x : Bool) → x ≡ false → (y : Bool) → y ≡ false → (z : Bool) → (Rattle.go_tree.specs.GoTypes.Answers.distinct_by bytes_eq (if x then [] else n ∷ []) && ((x || not (y || z)) && true)) ≡ not z
+    by : (x : Bool) → x ≡ false → (y : Bool) → y ≡ false → (z : Bool) → (Rattle.go_rules.specs.GoTypes.Answers.distinct_by bytes_eq (if x then [] else n ∷ []) && ((x || not (y || z)) && true)) ≡ not z
     by true e y f z = absurd (grind (arith, e))
     by false e true f z = absurd (grind (arith, f))
     by false e false f true = refl

@@ -9,7 +9,7 @@ use Rattle.pkg_graph.specs.Package.{SourceTree, Package, import_specs}
 use Rattle.pkg_graph.specs.Graph.{files_import, imports_of}
 use Rattle.pkg_graph.specs.Order.{has_path, is_placed}
 use Rattle.pkg_graph.specs.Members.{package_name, name_or}
-use Rattle.go_tree.specs.GoTypes.Programs.{SourcePackage, Program}
+use Rattle.go_rules.specs.GoTypes.Programs.{SourcePackage, Program}
 use Rattle.typed_in_place.specs.ProgramsAlike.{OneByOne, no_more, and_more}
 use Rattle.run_rules.specs.Programs.{numbered_from, number_from, is_ready, lesser, least_ready, ordered_after, in_dependency_order, linked_import, linked_file, linked_package, linked_packages, linked}
 use Rattle.run_rules.specs.Steps.{change_nth}

@@ -5,8 +5,8 @@ use Rattle.std.proofs.Common.{arith}
 use Rattle.go_tree.specs.File.{Decl}
 use Rattle.pkg_graph.specs.Package.{Package}
 use Rattle.pkg_graph.specs.Members.{Target, local, imported, member, predeclared}
-use Rattle.go_tree.specs.GoTypes.Answers.{given, meets, one_of}
-use Rattle.go_tree.proofs.GoTypes.Agreeing.{from_given, some_same}
+use Rattle.go_rules.specs.GoTypes.Answers.{given, meets, one_of}
+use Rattle.go_rules.proofs.GoTypes.Agreeing.{from_given, some_same}
 use Rattle.run_rules.specs.Sites.{MarkRef, Where, Inlinable, mark_of, is_among_marks, where_is, inlinable, inlinable_in, marked, marked_as}
 
 -- the member of a mark

@@ -4,13 +4,13 @@ use mathlib.Core.Path.{ap, sym, ◌∙◌}
 use Rattle.std.proofs.Common.{arith}
 use Rattle.go_tree.specs.Tree.{ident}
 use Rattle.go_tree.specs.File.{ImportSpec}
-use Rattle.go_tree.specs.ScopeNames.Means as names
-use Rattle.go_tree.specs.ScopeNames.Means.{Environment, means, is_blank, numbered, or_else}
+use Rattle.go_rules.specs.ScopeNames.Means as names
+use Rattle.go_rules.specs.ScopeNames.Means.{Environment, means, is_blank, numbered, or_else}
 use Rattle.pkg_graph.specs.Package.{SourceTree, Package, import_specs}
 use Rattle.pkg_graph.specs.Members.{Target, local, imported, member, predeclared, decls_from, files_from, package_block, import_name}
-use Rattle.go_tree.specs.GoTypes.Answers.{given, one_of}
-use Rattle.go_tree.specs.GoTypes.Entities.{Entity}
-use Rattle.go_tree.specs.GoTypes.Programs.{import_entity, import_sound, file_block}
+use Rattle.go_rules.specs.GoTypes.Answers.{given, one_of}
+use Rattle.go_rules.specs.GoTypes.Entities.{Entity}
+use Rattle.go_rules.specs.GoTypes.Programs.{import_entity, import_sound, file_block}
 use Rattle.run_rules.specs.Programs.{package_number, linked_import, linked_file, top_place}
 use Rattle.run_rules.specs.Places.{expr_seen}
 use Rattle.run_rules.specs.Surroundings.{Place, other, is_local}

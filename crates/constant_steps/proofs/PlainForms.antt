@@ -4,7 +4,7 @@ use mathlib.Core.Path.{ap, sym, ◌∙◌}
 use Rattle.std.proofs.Common.{arith}
 use Rattle.go_tree.specs.Tree.{Expr, ident, selector}
 use Rattle.pkg_graph.specs.Package.{Package}
-use Rattle.go_tree.specs.GoTypes.Answers.{given, otherwise, one_of}
+use Rattle.go_rules.specs.GoTypes.Answers.{given, otherwise, one_of}
 use Rattle.run_rules.specs.Surroundings.{Place, Seen, other}
 use Rattle.run_rules.specs.Places.{expr_seen}
 use Rattle.run_rules.specs.Sites.{MarkRef, Site, part_span, mark_of, outer_meaning}

@@ -5,12 +5,12 @@ use Rattle.std.proofs.Common.{arith}
 use Rattle.go_tree.specs.Tree.{Expr, ident, no_exprs, expr_and}
 use Rattle.go_tree.specs.File.{Decl, File}
 use Rattle.pkg_graph.specs.Package.{Package}
-use Rattle.go_tree.specs.GoTypes.Answers.{only_if}
-use Rattle.go_tree.specs.GoTypes.Entities.{World}
-use Rattle.go_tree.specs.GoTypes.Programs.{constants, SourceFile, SourcePackage, Program, headed, file_block, block_names, is_init}
-use Rattle.go_tree.specs.GoTypes.Collect.{file_env, declared_by, types_declared, collected}
-use Rattle.go_tree.specs.GoTypes.WellTyped.{well_typed}
-use Rattle.go_tree.proofs.GoTypes.Agreeing.{some_same}
+use Rattle.go_rules.specs.GoTypes.Answers.{only_if}
+use Rattle.go_rules.specs.GoTypes.Entities.{World}
+use Rattle.go_rules.specs.GoTypes.Programs.{constants, SourceFile, SourcePackage, Program, headed, file_block, block_names, is_init}
+use Rattle.go_rules.specs.GoTypes.Collect.{file_env, declared_by, types_declared, collected}
+use Rattle.go_rules.specs.GoTypes.WellTyped.{well_typed}
+use Rattle.go_rules.proofs.GoTypes.Agreeing.{some_same}
 use Rattle.typed_in_place.specs.ProgramReplaced.{at_last}
 use Rattle.run_rules.specs.Programs.{linked_file, linked_imports, decl_seen}
 use Rattle.run_rules.specs.Sites.{MarkRef, Site, part_span}

@@ -4,13 +4,13 @@ use mathlib.Core.Path.{ap, ap₂, sym, ◌∙◌}
 use Rattle.std.proofs.Common.{arith}
 use Rattle.go_tree.specs.Tree.{NameAt, TypeExpr, Expr, ident}
 use Rattle.go_tree.specs.File.{Decl}
-use Rattle.go_tree.specs.ScopeNames.Means.{means, is_blank}
+use Rattle.go_rules.specs.ScopeNames.Means.{means, is_blank}
 use Rattle.pkg_graph.specs.Package.{SourceTree, Package}
 use Rattle.pkg_graph.specs.Members.{Target, member}
-use Rattle.go_tree.specs.GoTypes.Entities.{World}
-use Rattle.go_tree.specs.GoTypes.Programs.{SourceFile, SourcePackage, Program, headed, file_block, block_names, is_init}
-use Rattle.go_tree.specs.GoTypes.Collect.{file_env}
-use Rattle.go_tree.proofs.GoTypes.Agreeing.{some_same}
+use Rattle.go_rules.specs.GoTypes.Entities.{World}
+use Rattle.go_rules.specs.GoTypes.Programs.{SourceFile, SourcePackage, Program, headed, file_block, block_names, is_init}
+use Rattle.go_rules.specs.GoTypes.Collect.{file_env}
+use Rattle.go_rules.proofs.GoTypes.Agreeing.{some_same}
 use Rattle.typed_in_place.specs.ProgramReplaced.{ValuesEnd}
 use Rattle.run_rules.specs.Surroundings.{Place, is_local}
 use Rattle.run_rules.specs.Programs.{linked_file, linked_imports}
@@ -22,7 +22,7 @@ use Rattle.run_rules.specs.Steps.{change_nth, changes_for, new_decl}
 use Rattle.constant_steps.specs.StepLaws.DeclStands.{decl_changed, file_changed}
 use Rattle.constant_steps.specs.StepLaws.ConstantUses.{UseOfConstant}
 use Rattle.constant_steps.specs.Alone.{block_from, PackageAt, FirstIs, type_in, AsConstant}
-use Rattle.go_tree.specs.GoTypes.Answers.{given}
+use Rattle.go_rules.specs.GoTypes.Answers.{given}
 use Rattle.constant_steps.specs.PlainUse.{linked_at, type_marked, PlainUse, UseStands}
 use Rattle.constant_steps.proofs.FirstDeclared.{first_declared, spelled_where_declared, package_where_declared}
 use Rattle.constant_steps.proofs.NamesOutside.{equal_numbers, MemberThere, member_there, unshadowed, not_local}

@@ -3,8 +3,8 @@ use Rattle.std.specs.Prelude.{◌≡◌, ℕ, suc, Bool, List, [], ◌∷◌}
 use Rattle.std.proofs.Common.{arith}
 use mathlib.Core.Path.{sym, subst, ◌∙◌}
 use Rattle.go_tree.specs.Tree.{NameAt, Expr, composite, func_lit, Stmt, const_decl, ValueSpecs, no_specs, spec}
-use Rattle.go_tree.specs.GoTypes.Entities.{Env}
-use Rattle.go_tree.specs.GoTypes.Typing.{Repeated, nothing_to_repeat}
+use Rattle.go_rules.specs.GoTypes.Entities.{Env}
+use Rattle.go_rules.specs.GoTypes.Typing.{Repeated, nothing_to_repeat}
 use Rattle.run_rules.specs.Surroundings.{Place, Use, Seen, seen, seen_type, seen_stmt, plain_slot, after_constants, repeated_by}
 use Rattle.run_rules.specs.Rewriting.{Changes}
 use Rattle.run_rules.specs.Sites.{Site, part_span}

@@ -3,20 +3,20 @@ use Rattle.std.specs.Prelude.{◌≡◌, refl, ℕ, true, false, not, List, [], 
 use mathlib.Core.Path.{ap, sym, ◌∙◌, subst}
 use Rattle.std.proofs.Common.{arith}
 use Rattle.go_tree.specs.Tree.{NameAt, TypeExpr, Expr, ident, no_exprs, expr_and}
-use Rattle.go_tree.specs.ScopeNames.Means.{Environment, means, is_blank, binding, or_else}
-use Rattle.go_tree.specs.GoTypes.Answers.{given, both, otherwise}
-use Rattle.go_tree.specs.GoTypes.Types.{GoType}
-use Rattle.go_tree.specs.GoTypes.Entities.{run, exact, shift, Entity, constant, refused, universe, World, Env, Binds, meaning, block_of}
-use Rattle.go_tree.specs.GoTypes.Operands.{Operand, Typed, all_typed}
-use Rattle.go_tree.specs.GoTypes.Declarations.{bind_all, constant_entity}
-use Rattle.go_tree.specs.GoTypes.TypeNames.{written_type}
-use Rattle.go_tree.specs.GoTypes.Typing.{all_parts}
-use Rattle.go_tree.specs.GoTypes.Bodiless.{all_bodiless}
-use Rattle.go_tree.specs.GoTypes.Statements.{bind_each}
-use Rattle.go_tree.specs.GoTypes.Programs.{constants, Headed, SourcePackage, Program, headed, header_names, is_init}
-use Rattle.go_tree.specs.GoTypes.Collect.{file_env, env_of, DeclaredTypes, good_entity, declared_by, binds_or_refused, value_round, types_declared, named_world, valued_world}
-use Rattle.go_tree.specs.GoTypes.SingleNames.{by_names}
-use Rattle.go_tree.proofs.GoTypes.Agreeing.{from_given, from_both, from_only, some_same}
+use Rattle.go_rules.specs.ScopeNames.Means.{Environment, means, is_blank, binding, or_else}
+use Rattle.go_rules.specs.GoTypes.Answers.{given, both, otherwise}
+use Rattle.go_rules.specs.GoTypes.Types.{GoType}
+use Rattle.go_rules.specs.GoTypes.Entities.{run, exact, shift, Entity, constant, refused, universe, World, Env, Binds, meaning, block_of}
+use Rattle.go_rules.specs.GoTypes.Operands.{Operand, Typed, all_typed}
+use Rattle.go_rules.specs.GoTypes.Declarations.{bind_all, constant_entity}
+use Rattle.go_rules.specs.GoTypes.TypeNames.{written_type}
+use Rattle.go_rules.specs.GoTypes.Typing.{all_parts}
+use Rattle.go_rules.specs.GoTypes.Bodiless.{all_bodiless}
+use Rattle.go_rules.specs.GoTypes.Statements.{bind_each}
+use Rattle.go_rules.specs.GoTypes.Programs.{constants, Headed, SourcePackage, Program, headed, header_names, is_init}
+use Rattle.go_rules.specs.GoTypes.Collect.{file_env, env_of, DeclaredTypes, good_entity, declared_by, binds_or_refused, value_round, types_declared, named_world, valued_world}
+use Rattle.go_rules.specs.GoTypes.SingleNames.{by_names}
+use Rattle.go_rules.proofs.GoTypes.Agreeing.{from_given, from_both, from_only, some_same}
 use Rattle.typed_in_place.specs.Declared.{FirstWith, HasNumber, ConstantOrRefused, a_constant, refused_yet, NamesConstant}
 use Rattle.typed_in_place.specs.Declared as declared
 use Rattle.typed_in_place.specs.Leaves.{Names, plain_name}

@@ -6,10 +6,10 @@ use Rattle.std.specs.Prelude.{None, nat_eq}
 use Rattle.go_tree.specs.Tree.{NameAt, TypeExpr, Expr, Exprs, no_exprs, expr_and, const_decl, var_decl, ValueSpecs}
 use Rattle.go_tree.specs.Tree.{no_specs, spec}
 use Rattle.go_tree.specs.File.{TypeSpec, Func, Decl, values, types, func}
-use Rattle.go_tree.specs.ScopeNames.Means.{Environment}
+use Rattle.go_rules.specs.ScopeNames.Means.{Environment}
 use Rattle.pkg_graph.specs.Members.{Target, decls_from}
-use Rattle.go_tree.specs.GoTypes.Entities.{Entity}
-use Rattle.go_tree.specs.GoTypes.Programs.{Header, constants, Headed, SourceFile, SourcePackage, Program, is_init}
+use Rattle.go_rules.specs.GoTypes.Entities.{Entity}
+use Rattle.go_rules.specs.GoTypes.Programs.{Header, constants, Headed, SourceFile, SourcePackage, Program, is_init}
 use Rattle.run_rules.specs.Sites.{a_constant, inlinable_in}
 use Rattle.typed_in_place.specs.Declared.{FirstWith}
 

@@ -1,11 +1,11 @@
 -- What headers use of the names at the top of their file, before a step and after it (Go specification, Import
 -- declarations).
 use Rattle.std.specs.Prelude.{◌≡◌, ℕ, Bool, false, List, bytes_eq}
-use Rattle.go_tree.specs.ScopeNames.Means.{Environment}
-use Rattle.go_tree.specs.GoTypes.Answers.{is_among}
-use Rattle.go_tree.specs.GoTypes.Entities.{Entity, World}
-use Rattle.go_tree.specs.GoTypes.Programs.{Header, header_names}
-use Rattle.go_tree.specs.GoTypes.WellTyped.{header_uses}
+use Rattle.go_rules.specs.ScopeNames.Means.{Environment}
+use Rattle.go_rules.specs.GoTypes.Answers.{is_among}
+use Rattle.go_rules.specs.GoTypes.Entities.{Entity, World}
+use Rattle.go_rules.specs.GoTypes.Programs.{Header, header_names}
+use Rattle.go_rules.specs.GoTypes.WellTyped.{header_uses}
 use Rattle.constant_steps.specs.StepLaws.SwapPrograms.{headed_there}
 
 -- the name is neither of two

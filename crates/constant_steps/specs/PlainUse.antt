@@ -6,8 +6,8 @@ use Rattle.go_tree.specs.Tree.{NameAt, TypeExpr, Expr, ident, composite, func_li
 use Rattle.go_tree.specs.Tree.{spec}
 use Rattle.go_tree.specs.File.{Decl}
 use Rattle.pkg_graph.specs.Package.{Package}
-use Rattle.go_tree.specs.GoTypes.Answers.{given}
-use Rattle.go_tree.specs.GoTypes.Programs.{SourcePackage}
+use Rattle.go_rules.specs.GoTypes.Answers.{given}
+use Rattle.go_rules.specs.GoTypes.Programs.{SourcePackage}
 use Rattle.go_translation.specs.Swapped.{begins_anew}
 use Rattle.run_rules.specs.Surroundings.{Seen, seen, seen_type, seen_stmt}
 use Rattle.run_rules.specs.Programs.{linked_file, decl_seen}

@@ -4,14 +4,14 @@ use Rattle.std.specs.Prelude.{◌≡◌, refl, ℕ, suc, ◌||◌, List, [], ◌
 use mathlib.Core.Path.{ap, sym, subst}
 use Rattle.go_tree.specs.Tree.{NameAt, Sig, const_decl, var_decl, Stmt, ValueSpecs, no_specs, spec}
 use Rattle.go_tree.specs.File.{TypeSpec, Receiver, Func, Decl, values, types, func, File}
-use Rattle.go_tree.specs.ScopeNames.Scopes.{sig_declares}
-use Rattle.go_tree.specs.ScopeNames.FreeNames.{sig_names}
+use Rattle.go_rules.specs.ScopeNames.Scopes.{sig_declares}
+use Rattle.go_rules.specs.ScopeNames.FreeNames.{sig_names}
 use Rattle.pkg_graph.specs.Package.{Package}
-use Rattle.go_tree.specs.GoTypes.Types.{FuncType}
-use Rattle.go_tree.specs.GoTypes.Entities.{Env}
-use Rattle.go_tree.specs.GoTypes.TypeNames.{func_type}
-use Rattle.go_tree.specs.GoTypes.Bodies.{body_ctx, literal_env}
-use Rattle.go_tree.specs.GoTypes.WellTyped.{receiver_names}
+use Rattle.go_rules.specs.GoTypes.Types.{FuncType}
+use Rattle.go_rules.specs.GoTypes.Entities.{Env}
+use Rattle.go_rules.specs.GoTypes.TypeNames.{func_type}
+use Rattle.go_rules.specs.GoTypes.Bodies.{body_ctx, literal_env}
+use Rattle.go_rules.specs.GoTypes.WellTyped.{receiver_names}
 use Rattle.run_rules.specs.Surroundings.{Place, Seen, in_constant, in_literal, value_use, alike}
 use Rattle.run_rules.specs.Programs.{world, top_env, top_place, body_place, headed_func, imports_mean, constants_at_top, variables_at_top, types_at_top, receiver_seen, decl_seen}
 use Rattle.constant_steps.specs.StepLaws.Answered.{HoldsWithin}

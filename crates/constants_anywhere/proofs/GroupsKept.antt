@@ -6,16 +6,16 @@ use Rattle.std.proofs.Common.{arith}
 use Rattle.go_tree.specs.Tree.{Expr, ident, int_lit, rune_lit, str_lit, composite, selector, index, slice, call, func_lit, type_operand, unary, binary, star, Exprs, no_exprs, expr_and, ExprOption, no_expr, some_expr, Elems, no_elems, elem, Value, plain, braced, ValueOption, no_value, some_value, const_decl, ValueSpecs, no_specs, spec}
 use Rattle.go_tree.specs.GoWords.Terminals.{level_of}
 use Rattle.pkg_graph.specs.Package.{Package}
-use Rattle.go_tree.specs.GoTypes.Answers.{given, meets, one_of, is_empty}
-use Rattle.go_tree.specs.GoTypes.Types.{GoType}
-use Rattle.go_tree.specs.GoTypes.Defined.{under}
-use Rattle.go_tree.specs.GoTypes.Entities.{defined_in}
-use Rattle.go_tree.specs.GoTypes.TypeNames.{type_meant}
-use Rattle.go_tree.specs.GoTypes.Literals.{is_struct, literal_type}
-use Rattle.go_tree.specs.GoTypes.Typing.{parts, all_parts}
-use Rattle.go_tree.specs.GoTypes.Bodies.{no_values}
-use Rattle.go_tree.specs.GoTypes.Declarations.{Repeated, nothing_to_repeat}
-use Rattle.go_tree.specs.GoTypes.Bodiless.{bodiless, all_bodiless, bodiless_option, bodiless_elems, bodiless_value, bodiless_key}
+use Rattle.go_rules.specs.GoTypes.Answers.{given, meets, one_of, is_empty}
+use Rattle.go_rules.specs.GoTypes.Types.{GoType}
+use Rattle.go_rules.specs.GoTypes.Defined.{under}
+use Rattle.go_rules.specs.GoTypes.Entities.{defined_in}
+use Rattle.go_rules.specs.GoTypes.TypeNames.{type_meant}
+use Rattle.go_rules.specs.GoTypes.Literals.{is_struct, literal_type}
+use Rattle.go_rules.specs.GoTypes.Typing.{parts, all_parts}
+use Rattle.go_rules.specs.GoTypes.Bodies.{no_values}
+use Rattle.go_rules.specs.GoTypes.Declarations.{Repeated, nothing_to_repeat}
+use Rattle.go_rules.specs.GoTypes.Bodiless.{bodiless, all_bodiless, bodiless_option, bodiless_elems, bodiless_value, bodiless_key}
 use Rattle.typed_in_place.proofs.Rising.{and_first, and_second}
 use Rattle.go_translation.specs.Swapped.{begins_anew}
 use Rattle.run_rules.specs.Surroundings.{Use, called, other, a_slot, Slot, Place, Seen, seen, seen_type, seen_stmt, alike, into_type, head_use, later_uses, arg_uses, unary_use, operand_use, value_use, elem_use, key_use, inner_slot, last_slot, in_slot, callee_place, comma_slot, elem_closed, plain_slot, repeated_by, in_constant, after_constants, before_repeats, repeated_around}
@@ -177,7 +177,7 @@ module _ {S : Type 0} (same : S → S → Bool) (x : Site S) (old : Expr S) (alo
   some_again bound no_specs e = absurd (grind (arith, e))
   some_again bound (spec s ns t es ss) e = go (no_values es) e
     where
-      go : (b : Bool) → not b ≡ false → (if b then bound ∷ repeated_around (Rattle.go_tree.specs.ScopeNames.FreeNames.names_of ns ++ bound) ss else []) ≡ [] → ⊥
+      go : (b : Bool) → not b ≡ false → (if b then bound ∷ repeated_around (Rattle.go_rules.specs.ScopeNames.FreeNames.names_of ns ++ bound) ss else []) ≡ [] → ⊥
       go true e f = grind (arith, ap is_empty f)
       go false e f = grind (arith, e)
 
@@ -188,7 +188,7 @@ module _ {S : Type 0} (same : S → S → Bool) (x : Site S) (old : Expr S) (alo
       let us : List Use = alike (value_use p.env t) ns in
       let rest : List (Seen S) = constants_seen (after_constants p (repeated_by r t es) i ns) (repeated_by r t es) (suc i) ss in
       let vs : List (Seen S) = all_seen at us es in (
-        λ b. none_there at.again (some_again (Rattle.go_tree.specs.ScopeNames.FreeNames.names_of ns ++ Rattle.go_tree.specs.ScopeNames.FreeNames.names_of p.bound) ss b) (all_again at.again at refl us es (n.0 b))
+        λ b. none_there at.again (some_again (Rattle.go_rules.specs.ScopeNames.FreeNames.names_of ns ++ Rattle.go_rules.specs.ScopeNames.FreeNames.names_of p.bound) ss b) (all_again at.again at refl us es (n.0 b))
             (use_behind (written_seen at t) vs (use_front (written_seen at t ++ vs) rest a)),
         repeats_kept (after_constants p (repeated_by r t es) i ns) (repeated_by r t es) (suc i) ss n.1 (use_behind (written_seen at t ++ vs) rest a),
       )

@@ -5,16 +5,16 @@ use mathlib.Core.Path.{ap, sym, ◌∙◌, subst}
 use Rattle.std.proofs.lemmas.Slice.Eq.{bytes_eq-Decides}
 use Rattle.go_tree.specs.Tree.{TypeExpr, Expr, Exprs, no_exprs, expr_and, ident, Stmts, ValueSpecs}
 use Rattle.go_tree.specs.File.{TypeSpec, Receiver, Func, Decl, func, File}
-use Rattle.go_tree.specs.ScopeNames.Means.{Environment}
-use Rattle.go_tree.specs.ScopeNames.FreeNames.{sig_names}
+use Rattle.go_rules.specs.ScopeNames.Means.{Environment}
+use Rattle.go_rules.specs.ScopeNames.FreeNames.{sig_names}
 use Rattle.pkg_graph.specs.Package.{Package}
-use Rattle.go_tree.specs.GoTypes.Answers.{is_among, without}
-use Rattle.go_tree.specs.GoTypes.Entities.{Entity, World, Env}
-use Rattle.go_tree.specs.GoTypes.Typing.{used_all, used_stmts}
-use Rattle.go_tree.specs.GoTypes.Programs.{Header, a_type_spec, a_func, headers, constant_headers, variable_headers, at_member}
-use Rattle.go_tree.specs.ScopeNames.FreeNames.{free_params, free_type_option}
-use Rattle.go_tree.specs.GoTypes.Collect.{file_env}
-use Rattle.go_tree.specs.GoTypes.WellTyped.{receiver_names, body_env}
+use Rattle.go_rules.specs.GoTypes.Answers.{is_among, without}
+use Rattle.go_rules.specs.GoTypes.Entities.{Entity, World, Env}
+use Rattle.go_rules.specs.GoTypes.Typing.{used_all, used_stmts}
+use Rattle.go_rules.specs.GoTypes.Programs.{Header, a_type_spec, a_func, headers, constant_headers, variable_headers, at_member}
+use Rattle.go_rules.specs.ScopeNames.FreeNames.{free_params, free_type_option}
+use Rattle.go_rules.specs.GoTypes.Collect.{file_env}
+use Rattle.go_rules.specs.GoTypes.WellTyped.{receiver_names, body_env}
 use Rattle.typed_in_place.specs.SameFacts.{UsedAlike}
 use Rattle.typed_in_place.specs.Leaves.{Names, plain_name}
 use Rattle.typed_in_place.specs.ProgramsAlike.{OneByOne, no_more, and_more}

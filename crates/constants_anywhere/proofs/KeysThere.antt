@@ -4,14 +4,14 @@ use Rattle.std.specs.Prelude.{◌≡◌, refl, ℕ, suc, Bool, true, false, List
 use mathlib.Core.Path.{ap, sym, ◌∙◌, subst}
 use Rattle.std.proofs.Common.{arith}
 use Rattle.go_tree.specs.Tree.{Elems, no_elems, elem, Value, plain, braced, ValueOption, no_value, some_value}
-use Rattle.go_tree.specs.GoTypes.Answers.{given}
-use Rattle.go_tree.specs.GoTypes.Types.{GoType, base_of}
-use Rattle.go_tree.specs.GoTypes.Defined.{under}
-use Rattle.go_tree.specs.GoTypes.Entities.{World, Env, defined_in}
-use Rattle.go_tree.specs.GoTypes.Operands.{Operand}
-use Rattle.go_tree.specs.GoTypes.Literals.{Element, of_field, keyed, is_struct, field_key, key_type, inner_type, literal_type, built_inside}
-use Rattle.go_tree.specs.GoTypes.Typing.{elements, element, with_key}
-use Rattle.go_tree.proofs.GoTypes.Agreeing.{from_given, from_both}
+use Rattle.go_rules.specs.GoTypes.Answers.{given}
+use Rattle.go_rules.specs.GoTypes.Types.{GoType, base_of}
+use Rattle.go_rules.specs.GoTypes.Defined.{under}
+use Rattle.go_rules.specs.GoTypes.Entities.{World, Env, defined_in}
+use Rattle.go_rules.specs.GoTypes.Operands.{Operand}
+use Rattle.go_rules.specs.GoTypes.Literals.{Element, of_field, keyed, is_struct, field_key, key_type, inner_type, literal_type, built_inside}
+use Rattle.go_rules.specs.GoTypes.Typing.{elements, element, with_key}
+use Rattle.go_rules.proofs.GoTypes.Agreeing.{from_given, from_both}
 use Rattle.run_rules.specs.Surroundings.{Use, into_type, elem_use, key_use}
 use Rattle.constant_steps.specs.StepLaws.Stands.{SameAnswer}
 use Rattle.constant_steps.specs.StepLaws.Answered.{KeysAlike, KeyAlike, InnerAlike}

@@ -5,23 +5,23 @@ use Rattle.std.proofs.Common.{arith}
 use Rattle.std.proofs.lemmas.Slice.Eq.{bytes_eq-Decides}
 use Rattle.go_tree.specs.Tree.{NameAt, TypeExpr, named, pointer, slice_type, map_type, struct_type, Param, Sig, Fields, no_fields, field}
 use Rattle.go_tree.specs.File.{Receiver, Func}
-use Rattle.go_tree.specs.ScopeNames.Means.{Environment, means, is_blank, binding}
-use Rattle.go_tree.specs.ScopeNames.FreeNames.{names_of}
-use Rattle.go_tree.specs.ScopeNames.Scopes as scopes
-use Rattle.go_tree.specs.ScopeNames.Scopes.{not_blank, sig_declares, param_names, with_name}
+use Rattle.go_rules.specs.ScopeNames.Means.{Environment, means, is_blank, binding}
+use Rattle.go_rules.specs.ScopeNames.FreeNames.{names_of}
+use Rattle.go_rules.specs.ScopeNames.Scopes as scopes
+use Rattle.go_rules.specs.ScopeNames.Scopes.{not_blank, sig_declares, param_names, with_name}
 use Rattle.pkg_graph.specs.Package.{Package}
-use Rattle.go_tree.specs.GoTypes.Answers.{given, both, only_if, otherwise, distinct_by, is_among}
-use Rattle.go_tree.specs.GoTypes.Types.{GoType, pointer_to, slice_of, map_of, FuncType, named_type, GoFields, struct_of}
-use Rattle.go_tree.specs.GoTypes.Defined.{Defined, has_keys}
-use Rattle.go_tree.specs.GoTypes.Entities.{run, exact, shift, Entity, variable, constant, refused, World, Env, Binds, meaning, package_of, type_of_name, exported, defined_in, extend, in_block}
-use Rattle.go_tree.specs.GoTypes.TypeNames.{resolved, type_meant, params_meant, func_type, resolved_fields, field_before}
-use Rattle.go_tree.specs.GoTypes.Operands.{Operand, Typed, all_typed}
-use Rattle.go_tree.specs.GoTypes.Declarations.{Declared, bound_names, bind_all, bind_each, constant_entity, may_declare, constants_declared, new_constants, binds_of, Repeated}
-use Rattle.go_tree.specs.GoTypes.Bodies.{param_binding, param_binds, body_binds, body_ctx, literal_env}
-use Rattle.go_tree.specs.GoTypes.MethodDeclarations.{receiver_type, receiver_binds}
-use Rattle.go_tree.specs.GoTypes.Programs.{Headed, env_of}
-use Rattle.go_tree.specs.GoTypes.WellTyped.{receiver_of, body_env}
-use Rattle.go_tree.proofs.GoTypes.Agreeing.{from_given, from_both, from_only, some_same}
+use Rattle.go_rules.specs.GoTypes.Answers.{given, both, only_if, otherwise, distinct_by, is_among}
+use Rattle.go_rules.specs.GoTypes.Types.{GoType, pointer_to, slice_of, map_of, FuncType, named_type, GoFields, struct_of}
+use Rattle.go_rules.specs.GoTypes.Defined.{Defined, has_keys}
+use Rattle.go_rules.specs.GoTypes.Entities.{run, exact, shift, Entity, variable, constant, refused, World, Env, Binds, meaning, package_of, type_of_name, exported, defined_in, extend, in_block}
+use Rattle.go_rules.specs.GoTypes.TypeNames.{resolved, type_meant, params_meant, func_type, resolved_fields, field_before}
+use Rattle.go_rules.specs.GoTypes.Operands.{Operand, Typed, all_typed}
+use Rattle.go_rules.specs.GoTypes.Declarations.{Declared, bound_names, bind_all, bind_each, constant_entity, may_declare, constants_declared, new_constants, binds_of, Repeated}
+use Rattle.go_rules.specs.GoTypes.Bodies.{param_binding, param_binds, body_binds, body_ctx, literal_env}
+use Rattle.go_rules.specs.GoTypes.MethodDeclarations.{receiver_type, receiver_binds}
+use Rattle.go_rules.specs.GoTypes.Programs.{Headed, env_of}
+use Rattle.go_rules.specs.GoTypes.WellTyped.{receiver_of, body_env}
+use Rattle.go_rules.proofs.GoTypes.Agreeing.{from_given, from_both, from_only, some_same}
 use Rattle.form_meaning.specs.FormInPlace.Bound.{stmt_binds, first_binds, range_left_binds, literal_binds, variable_binds}
 use Rattle.form_meaning.proofs.FormInPlace.Uses.{among_left}
 use Rattle.run_rules.specs.Surroundings.{Place, first_declares, left_declares, in_literal, is_local}
@@ -285,13 +285,13 @@ module _ {S : Type 0} (p : Place S) (each : (n : List ℕ) → is_local p n ≡ 
   value_no_type : (d : Option Entity) → is_value d ≡ true → type_of_name d ≡ None
   value_no_type (Some (variable t)) e = refl
   value_no_type (Some (constant t c)) e = refl
-  value_no_type (Some (Rattle.go_tree.specs.GoTypes.Entities.stand_in q t c)) e = refl
+  value_no_type (Some (Rattle.go_rules.specs.GoTypes.Entities.stand_in q t c)) e = refl
   value_no_type (Some refused) e = refl
-  value_no_type (Some (Rattle.go_tree.specs.GoTypes.Entities.type_name t)) e = absurd (grind (arith, e))
+  value_no_type (Some (Rattle.go_rules.specs.GoTypes.Entities.type_name t)) e = absurd (grind (arith, e))
   value_no_type d e = refl
 
   value_no_package : (d : Option Entity) → is_value d ≡ true → package_of d ≡ None
-  value_no_package (Some (Rattle.go_tree.specs.GoTypes.Entities.package_name k)) e = absurd (grind (arith, e))
+  value_no_package (Some (Rattle.go_rules.specs.GoTypes.Entities.package_name k)) e = absurd (grind (arith, e))
   value_no_package d e = refl
 
   -- what means a type isn't local

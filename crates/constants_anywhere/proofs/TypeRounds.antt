@@ -5,23 +5,23 @@ use mathlib.Core.Path.{ap, sym, ◌∙◌, subst}
 use Rattle.std.proofs.Common.{arith}
 use Rattle.go_tree.specs.Tree.{NameAt, TypeExpr, Exprs}
 use Rattle.go_tree.specs.File.{TypeSpec, Receiver, Func}
-use Rattle.go_tree.specs.ScopeNames.Means.{Environment, means, is_blank, binding}
-use Rattle.go_tree.specs.ScopeNames.FreeNames.{names_of}
-use Rattle.go_tree.specs.GoTypes.Answers.{given, both, meets, only_if, otherwise}
-use Rattle.go_tree.specs.GoTypes.Types.{GoType, named_type, basic_kind}
-use Rattle.go_tree.specs.GoTypes.Defined.{Defined, under}
-use Rattle.go_tree.specs.GoTypes.Entities.{run, exact, shift, Entity, variable, constant, function, refused, World, Env, Binds, package_of, type_of_name, block_of}
-use Rattle.go_tree.specs.GoTypes.TypeNames.{resolved, func_type, written_type}
-use Rattle.go_tree.specs.GoTypes.Operands.{Typed, all_typed, settled, fits}
-use Rattle.go_tree.specs.GoTypes.Declarations.{bind_all, bind_each, constant_entity, variable_entity}
-use Rattle.go_tree.specs.GoTypes.Bodies.{body_binds, no_values}
-use Rattle.go_tree.specs.GoTypes.Bodiless.{all_bodiless}
-use Rattle.go_tree.specs.GoTypes.Initial.{all_initial}
-use Rattle.go_tree.specs.GoTypes.Typing.{all_parts}
-use Rattle.go_tree.specs.GoTypes.Programs.{Program, Header, constants, variables, a_type_spec, a_func, spec_of, Headed, header_names, env_of}
-use Rattle.go_tree.specs.GoTypes.TypeDeclarations.{DeclaredTypes}
-use Rattle.go_tree.specs.GoTypes.Collect.{times, type_entity, spec_type, is_good_type, good_entity, package_constants, package_variables, may_be_main, function_declared, func_declared, declared_by, binds_or_refused, block_by, blocks_by, entity_binds, type_round, value_round, rounds, typed_world}
-use Rattle.go_tree.specs.GoTypes.SingleNames.{by_names}
+use Rattle.go_rules.specs.ScopeNames.Means.{Environment, means, is_blank, binding}
+use Rattle.go_rules.specs.ScopeNames.FreeNames.{names_of}
+use Rattle.go_rules.specs.GoTypes.Answers.{given, both, meets, only_if, otherwise}
+use Rattle.go_rules.specs.GoTypes.Types.{GoType, named_type, basic_kind}
+use Rattle.go_rules.specs.GoTypes.Defined.{Defined, under}
+use Rattle.go_rules.specs.GoTypes.Entities.{run, exact, shift, Entity, variable, constant, function, refused, World, Env, Binds, package_of, type_of_name, block_of}
+use Rattle.go_rules.specs.GoTypes.TypeNames.{resolved, func_type, written_type}
+use Rattle.go_rules.specs.GoTypes.Operands.{Typed, all_typed, settled, fits}
+use Rattle.go_rules.specs.GoTypes.Declarations.{bind_all, bind_each, constant_entity, variable_entity}
+use Rattle.go_rules.specs.GoTypes.Bodies.{body_binds, no_values}
+use Rattle.go_rules.specs.GoTypes.Bodiless.{all_bodiless}
+use Rattle.go_rules.specs.GoTypes.Initial.{all_initial}
+use Rattle.go_rules.specs.GoTypes.Typing.{all_parts}
+use Rattle.go_rules.specs.GoTypes.Programs.{Program, Header, constants, variables, a_type_spec, a_func, spec_of, Headed, header_names, env_of}
+use Rattle.go_rules.specs.GoTypes.TypeDeclarations.{DeclaredTypes}
+use Rattle.go_rules.specs.GoTypes.Collect.{times, type_entity, spec_type, is_good_type, good_entity, package_constants, package_variables, may_be_main, function_declared, func_declared, declared_by, binds_or_refused, block_by, blocks_by, entity_binds, type_round, value_round, rounds, typed_world}
+use Rattle.go_rules.specs.GoTypes.SingleNames.{by_names}
 use Rattle.typed_in_place.specs.Known.{Keeps, no_answer, kept, BlockClearer, end_of_block, was_refused, was_known}
 use Rattle.typed_in_place.proofs.Rising.{keeps_given, keeps_only, keeps_meets}
 use Rattle.imported_typing.specs.Reach.{IfAny}
@@ -29,8 +29,8 @@ use Rattle.imported_typing.proofs.TypesKept.{EntityKept, TypesKept, no_names, an
 use Rattle.typed_in_place.proofs.Blocks.{block_of_clearer}
 use Rattle.typed_in_place.proofs.Collected.{typed_settled, named_is, valued_is, types_in_names, types_in_values, ends_below}
 use Rattle.typed_in_place.proofs.NameRounds.TypeBlocks.{typed_by_names}
-use Rattle.go_tree.specs.GoTypes.Collect.{is_finite, types_declared, named_world, valued_world}
-use Rattle.go_tree.specs.GoTypes.Defined.{has_keys}
+use Rattle.go_rules.specs.GoTypes.Collect.{is_finite, types_declared, named_world, valued_world}
+use Rattle.go_rules.specs.GoTypes.Defined.{has_keys}
 
 itself : (e : Entity) → EntityKept e e
 itself e = record { type = kept; package_there = kept }

@@ -4,26 +4,26 @@ use mathlib.Core.Path.{ap, sym, ◌∙◌, subst}
 use Rattle.std.proofs.Common.{arith}
 use Rattle.go_tree.specs.Tree.{NameAt, TypeExpr, Exprs, no_exprs, expr_and, const_decl, var_decl, ValueSpecs, no_specs, spec}
 use Rattle.go_tree.specs.File.{TypeSpec, Receiver, Func, Decl, values, types, func, File}
-use Rattle.go_tree.specs.ScopeNames.Means.{Environment}
-use Rattle.go_tree.specs.ScopeNames.FreeNames.{names_of}
+use Rattle.go_rules.specs.ScopeNames.Means.{Environment}
+use Rattle.go_rules.specs.ScopeNames.FreeNames.{names_of}
 use Rattle.pkg_graph.specs.Package.{Package}
-use Rattle.go_tree.specs.GoTypes.Answers.{given, both, meets, only_if, distinct_by, is_empty}
-use Rattle.go_tree.specs.GoTypes.Types.{GoType, FuncType, named_type}
-use Rattle.go_tree.specs.GoTypes.Defined.{Method}
-use Rattle.go_tree.specs.GoTypes.Entities.{Entity, variable, function, World, Env, Binds}
-use Rattle.go_tree.specs.GoTypes.TypeNames.{written_type, func_type}
-use Rattle.go_tree.specs.GoTypes.Operands.{Operand, all_typed}
-use Rattle.go_tree.specs.GoTypes.Declarations.{bind_all, bind_each, constant_entity, variable_entity}
-use Rattle.go_tree.specs.GoTypes.Bodies.{no_values, body_ctx, body_binds, is_body}
-use Rattle.go_tree.specs.GoTypes.MethodDeclarations.{is_new_method, receiver_type, receiver_binds, method_declared}
-use Rattle.go_tree.specs.GoTypes.Jumps.{labels_in}
-use Rattle.go_tree.specs.GoTypes.Bodiless.{all_bodiless}
-use Rattle.go_tree.specs.GoTypes.Initial.{all_initial}
-use Rattle.go_tree.specs.GoTypes.Typing.{all_parts, stmts}
-use Rattle.go_tree.specs.GoTypes.Programs.{Header, constants, variables, a_func, Headed, SourceFile, SourcePackage, Program, constant_headers, variable_headers, at_member, headed, headed_package, block_names, file_block, file_env, is_main}
-use Rattle.go_tree.specs.GoTypes.Collect.{DeclaredTypes, may_be_main, function_declared, package_constants, package_variables, types_declared}
-use Rattle.go_tree.specs.GoTypes.WellTyped.{receiver_of, well_typed}
-use Rattle.go_tree.proofs.GoTypes.Agreeing.{from_given, from_both, from_only, some_same}
+use Rattle.go_rules.specs.GoTypes.Answers.{given, both, meets, only_if, distinct_by, is_empty}
+use Rattle.go_rules.specs.GoTypes.Types.{GoType, FuncType, named_type}
+use Rattle.go_rules.specs.GoTypes.Defined.{Method}
+use Rattle.go_rules.specs.GoTypes.Entities.{Entity, variable, function, World, Env, Binds}
+use Rattle.go_rules.specs.GoTypes.TypeNames.{written_type, func_type}
+use Rattle.go_rules.specs.GoTypes.Operands.{Operand, all_typed}
+use Rattle.go_rules.specs.GoTypes.Declarations.{bind_all, bind_each, constant_entity, variable_entity}
+use Rattle.go_rules.specs.GoTypes.Bodies.{no_values, body_ctx, body_binds, is_body}
+use Rattle.go_rules.specs.GoTypes.MethodDeclarations.{is_new_method, receiver_type, receiver_binds, method_declared}
+use Rattle.go_rules.specs.GoTypes.Jumps.{labels_in}
+use Rattle.go_rules.specs.GoTypes.Bodiless.{all_bodiless}
+use Rattle.go_rules.specs.GoTypes.Initial.{all_initial}
+use Rattle.go_rules.specs.GoTypes.Typing.{all_parts, stmts}
+use Rattle.go_rules.specs.GoTypes.Programs.{Header, constants, variables, a_func, Headed, SourceFile, SourcePackage, Program, constant_headers, variable_headers, at_member, headed, headed_package, block_names, file_block, file_env, is_main}
+use Rattle.go_rules.specs.GoTypes.Collect.{DeclaredTypes, may_be_main, function_declared, package_constants, package_variables, types_declared}
+use Rattle.go_rules.specs.GoTypes.WellTyped.{receiver_of, well_typed}
+use Rattle.go_rules.proofs.GoTypes.Agreeing.{from_given, from_both, from_only, some_same}
 use Rattle.typed_in_place.specs.ProgramReplaced.{All, all_and}
 use Rattle.run_rules.specs.Surroundings.{Place, Seen, alike, value_use, in_constant}
 use Rattle.run_rules.specs.Places.{written_seen, all_seen, sig_seen, stmts_seen}
@@ -126,7 +126,7 @@ module _ {S : Type 0} (ps : List (Package S)) where
             let hd : Headed S = headed_there k in_main n (imports_mean ps p file) f.span h.0 (a_func f) in
             let env : Env = file_env (world ps) k (imports_mean ps p file) None in
             let y = there_is (only_if h.0 (function_declared (world ps) hd f)) e in
-            let last : (FuncType → Binds → Option Binds) = (λ g bs. only_if (may_be_main hd f g) (Some (Rattle.go_tree.specs.ScopeNames.Means.binding f.name.name (function g)))) in
+            let last : (FuncType → Binds → Option Binds) = (λ g bs. only_if (may_be_main hd f g) (Some (Rattle.go_rules.specs.ScopeNames.Means.binding f.name.name (function g)))) in
             let r = from_given (func_type env f.sig) (λ g. given (body_binds [] f.sig g) (last g)) y.0 (from_only h.0 (function_declared (world ps) hd f) y.0 y.1) in
             let b = from_given (body_binds [] f.sig r.0) (last r.0) y.0 r.2 in
             record {

@@ -5,15 +5,15 @@ use Rattle.std.specs.List.{list_all}
 use mathlib.Core.Path.{ap, ap₂, sym, ◌∙◌}
 use Rattle.std.proofs.Common.{arith}
 use Rattle.go_tree.specs.Tree.{TypeExpr, named, pointer, slice_type, map_type, struct_type, Param, Sig, no_exprs, Fields, no_fields, field}
-use Rattle.go_tree.specs.ScopeNames.Means.{means, is_blank, binding}
-use Rattle.go_tree.specs.GoTypes.Answers.{given, both, only_if, is_among}
-use Rattle.go_tree.specs.GoTypes.Types.{pointer_to, slice_of, map_of, go_field, field_names, struct_of}
-use Rattle.go_tree.specs.GoTypes.Defined.{has_keys}
-use Rattle.go_tree.specs.GoTypes.Entities.{Env, meaning, exported, package_of, type_of_name, block_of, is_exported}
-use Rattle.go_tree.specs.GoTypes.TypeNames.{resolved, type_meant, params_meant, func_type, resolved_fields, field_package}
-use Rattle.go_tree.specs.GoTypes.Programs.{variables, Import, Headed, Program, file_block, import_entity, import_sound, file_env}
-use Rattle.go_tree.specs.GoTypes.Collect.{collected}
-use Rattle.go_tree.specs.GoTypes.WellTyped.{well_typed}
+use Rattle.go_rules.specs.ScopeNames.Means.{means, is_blank, binding}
+use Rattle.go_rules.specs.GoTypes.Answers.{given, both, only_if, is_among}
+use Rattle.go_rules.specs.GoTypes.Types.{pointer_to, slice_of, map_of, go_field, field_names, struct_of}
+use Rattle.go_rules.specs.GoTypes.Defined.{has_keys}
+use Rattle.go_rules.specs.GoTypes.Entities.{Env, meaning, exported, package_of, type_of_name, block_of, is_exported}
+use Rattle.go_rules.specs.GoTypes.TypeNames.{resolved, type_meant, params_meant, func_type, resolved_fields, field_package}
+use Rattle.go_rules.specs.GoTypes.Programs.{variables, Import, Headed, Program, file_block, import_entity, import_sound, file_env}
+use Rattle.go_rules.specs.GoTypes.Collect.{collected}
+use Rattle.go_rules.specs.GoTypes.WellTyped.{well_typed}
 use Rattle.run_rules.specs.Surroundings.{Place, is_local}
 use Rattle.imported_typing.specs.Reach.{IfAny, TypeWithin, FunctionWithin, EntityWithin, HeaderWithin, SameWithin}
 use Rattle.imported_typing.specs.Further.{has_package, imports_itself, are_others, own_reach}

@@ -4,9 +4,9 @@ use mathlib.Core.Path.{ap, sym, ◌∙◌, subst}
 use Rattle.go_tree.specs.Tree.{Expr, ident, composite, func_lit}
 use Rattle.go_tree.specs.File.{Decl}
 use Rattle.pkg_graph.specs.Package.{Package}
-use Rattle.go_tree.specs.GoTypes.Entities.{Env}
-use Rattle.go_tree.specs.GoTypes.Programs.{Program}
-use Rattle.go_tree.specs.GoTypes.WellTyped.{well_typed}
+use Rattle.go_rules.specs.GoTypes.Entities.{Env}
+use Rattle.go_rules.specs.GoTypes.Programs.{Program}
+use Rattle.go_rules.specs.GoTypes.WellTyped.{well_typed}
 use Rattle.go_translation.specs.Packages as translated
 use Rattle.go_translation.specs.Packages.{sources, are_distinct, are_linked, are_well_typed}
 use Rattle.go_translation.specs.SameMeaning.{Packages, SameMeaning}

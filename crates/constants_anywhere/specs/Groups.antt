@@ -2,7 +2,7 @@
 -- declarations; Iota).
 use Rattle.std.specs.Prelude.{◌≡◌, true, false, List, [], ◌∷◌}
 use Rattle.go_tree.specs.Tree.{const_decl, ValueSpecs, no_specs, spec}
-use Rattle.go_tree.specs.GoTypes.Bodiless.{all_bodiless}
+use Rattle.go_rules.specs.GoTypes.Bodiless.{all_bodiless}
 use Rattle.go_translation.specs.Swapped.{begins_anew}
 use Rattle.run_rules.specs.Surroundings.{Seen, seen_stmt}
 

@@ -3,7 +3,7 @@
 use Rattle.std.specs.Prelude.{◌≡◌, true, List, [], ◌∷◌}
 use Rattle.go_tree.specs.Tree.{TypeExpr, named, pointer, slice_type, map_type, struct_type, Fields, no_fields, field}
 use Rattle.go_tree.specs.Tree.{Param, Sig, composite, func_lit}
-use Rattle.go_tree.specs.GoTypes.Entities.{is_exported}
+use Rattle.go_rules.specs.GoTypes.Entities.{is_exported}
 use Rattle.run_rules.specs.Surroundings.{Seen, seen, seen_type, seen_stmt}
 
 module _ {S : Type 0} where

@@ -3,13 +3,13 @@
 -- Function literals; Constant declarations).
 use Rattle.std.specs.Prelude.{◌≡◌, List, [], ◌∷◌, Some}
 use Rattle.go_tree.specs.Tree.{TypeExpr, Sig, composite, func_lit, Elems, const_decl}
-use Rattle.go_tree.specs.GoTypes.Types.{GoType, FuncType}
-use Rattle.go_tree.specs.GoTypes.Defined.{under}
-use Rattle.go_tree.specs.GoTypes.Entities.{Env, Binds, defined_in}
-use Rattle.go_tree.specs.GoTypes.TypeNames.{type_meant, func_type}
-use Rattle.go_tree.specs.GoTypes.Literals.{Element}
-use Rattle.go_tree.specs.GoTypes.Statements.{body_binds}
-use Rattle.go_tree.specs.GoTypes.Typing.{elements}
+use Rattle.go_rules.specs.GoTypes.Types.{GoType, FuncType}
+use Rattle.go_rules.specs.GoTypes.Defined.{under}
+use Rattle.go_rules.specs.GoTypes.Entities.{Env, Binds, defined_in}
+use Rattle.go_rules.specs.GoTypes.TypeNames.{type_meant, func_type}
+use Rattle.go_rules.specs.GoTypes.Literals.{Element}
+use Rattle.go_rules.specs.GoTypes.Statements.{body_binds}
+use Rattle.go_rules.specs.GoTypes.Typing.{elements}
 use Rattle.run_rules.specs.Surroundings.{Seen, seen, seen_stmt}
 use Rattle.constants_anywhere.specs.Groups.{RepeatsBodiless}
 

@@ -1,6 +1,6 @@
 -- The body around a `return` (Go specification, Return statements).
 use Rattle.std.specs.Prelude.{◌≡◌}
-use Rattle.go_tree.specs.GoTypes.Bodies.{Ctx}
+use Rattle.go_rules.specs.GoTypes.Bodies.{Ctx}
 use Rattle.type_table.specs.TypeRelations.Environment.{Environment}
 use Rattle.operator_rules.specs.AccessRules.Functions.{types_at}
 use Rattle.control_steps.specs.declared.returns.Body.{Body}

@@ -1,12 +1,12 @@
 //! Conditions (Go specification, If statements; For statements with single condition).
 
 ghost use Rattle.std.specs.Prelude.{◌≡◌, IfOk, Option};
-ghost use Rattle.go_tree.specs.ConstEval.Exact.{is_truth_kind};
-ghost use Rattle.go_tree.specs.GoTypes.Answers.{meets, unless_missing};
-ghost use Rattle.go_tree.specs.GoTypes.Entities as go_entity;
-ghost use Rattle.go_tree.specs.GoTypes.Operands as go_operand;
-ghost use Rattle.go_tree.specs.GoTypes.Operands.{Typed, kind_passes, value};
-ghost use Rattle.go_tree.specs.GoTypes.Statements as go;
+ghost use Rattle.go_rules.specs.ConstEval.Exact.{is_truth_kind};
+ghost use Rattle.go_rules.specs.GoTypes.Answers.{meets, unless_missing};
+ghost use Rattle.go_rules.specs.GoTypes.Entities as go_entity;
+ghost use Rattle.go_rules.specs.GoTypes.Operands as go_operand;
+ghost use Rattle.go_rules.specs.GoTypes.Operands.{Typed, kind_passes, value};
+ghost use Rattle.go_rules.specs.GoTypes.Statements as go;
 ghost use Rattle.type_table.specs.TypeRelations.Environment.{defined_types};
 ghost use Rattle.type_table.specs.OperandRules.Values.{IsType, type_of};
 ghost use Rattle.operand_modes.specs.Operands.{IsOperand, operand_at};

@@ -1,14 +1,14 @@
 //! Calls of the predeclared `panic` (Go specification, Terminating statements).
 
 ghost use Rattle.std.specs.Prelude.{◌≡◌, List, Some};
-ghost use Rattle.go_tree.specs.declared.const_eval.consts.Const.{Const};
+ghost use Rattle.go_rules.specs.declared.const_eval.consts.Const.{Const};
 ghost use Rattle.go_tree.specs.declared.exprs.Rest.{Rest};
 ghost use Rattle.go_tree.specs.declared.spans.Span.{Span};
 ghost use Rattle.go_tree.specs.Tree as tree;
 ghost use Rattle.go_tree.specs.Tree.{Exprs};
 ghost use Rattle.go_tree.specs.View.{expr_of};
-ghost use Rattle.go_tree.specs.GoTypes.Entities as go_entity;
-ghost use Rattle.go_tree.specs.GoTypes.Statements as go;
+ghost use Rattle.go_rules.specs.GoTypes.Entities as go_entity;
+ghost use Rattle.go_rules.specs.GoTypes.Statements as go;
 ghost use Rattle.type_table.specs.TypeRelations.Environment.{Environment};
 ghost use Rattle.universe_block.specs.Meanings.{builtin_of, entity_of};
 ghost use Rattle.typed_names.specs.Meanings.{entity_at, entity_option};

@@ -1,7 +1,7 @@
 //! Tests of what isn't typed, and statements that pass a test.
 
 ghost use Rattle.std.specs.Prelude.{◌≡◌, Bool, Some, false, IfOk};
-ghost use Rattle.go_tree.specs.GoTypes.Answers.{only_if};
+ghost use Rattle.go_rules.specs.GoTypes.Answers.{only_if};
 ghost use Rattle.type_table.specs.declared.operand_rules.values.Refusal.TheVariants.{NotTyped};
 ghost use Rattle.control_steps.specs.Ends.{EndsAs};
 

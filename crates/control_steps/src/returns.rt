@@ -2,11 +2,11 @@
 
 ghost use Rattle.std.specs.Prelude.{◌≡◌, ◌||◌, List, Option, Some, true, IfOk};
 ghost use Rattle.go_tree.specs.View.{exprs_of};
-ghost use Rattle.go_tree.specs.GoTypes.Answers.{is_empty, meets, only_if};
-ghost use Rattle.go_tree.specs.GoTypes.Bodies as go;
-ghost use Rattle.go_tree.specs.GoTypes.Entities as go_entity;
-ghost use Rattle.go_tree.specs.GoTypes.Operands as go_operand;
-ghost use Rattle.go_tree.specs.GoTypes.Operands.{spread, takes_all};
+ghost use Rattle.go_rules.specs.GoTypes.Answers.{is_empty, meets, only_if};
+ghost use Rattle.go_rules.specs.GoTypes.Bodies as go;
+ghost use Rattle.go_rules.specs.GoTypes.Entities as go_entity;
+ghost use Rattle.go_rules.specs.GoTypes.Operands as go_operand;
+ghost use Rattle.go_rules.specs.GoTypes.Operands.{spread, takes_all};
 ghost use Rattle.type_table.specs.TypeRelations.Environment.{Environment, defined_types};
 ghost use Rattle.operator_rules.specs.AccessRules.Functions.{AreTypes, types_at};
 ghost use Rattle.operand_modes.specs.Operands.{AreOperands, operands_at};

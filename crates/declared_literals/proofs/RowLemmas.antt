@@ -1,6 +1,6 @@
 -- Rows of a table that tell of all types what literals need.
 use Rattle.std.proofs.Common.{◌≡◌, ◌∙◌, refl, sym, ap, subst, arith, ℕ, zero, suc, ◌<◌, ◌≤◌, Bool, true, false, List, [], ◌∷◌, ◌++◌, length, Option, Some, None, nat_eq, nat_lt, slice_get}
-use Rattle.go_tree.specs.GoTypes.Types.{GoType, untyped_nil}
+use Rattle.go_rules.specs.GoTypes.Types.{GoType, untyped_nil}
 use Rattle.type_table.specs.TypeRelations.Environment.{Environment, defined_types, env_type}
 use Rattle.type_table.specs.TypesAt.{type_of_row, type_within, type_at}
 use Rattle.repeated_parts.specs.declared.literal_types.table.LiteralType.{LiteralType}

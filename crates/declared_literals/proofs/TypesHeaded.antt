@@ -5,14 +5,14 @@ use Rattle.std.proofs.lemmas.Option.{none-some, same_Some}
 use Rattle.std.proofs.lemmas.Slice.Eq.{bytes_eq-Decides}
 use Rattle.go_tree.specs.declared.spans.Span.{Span}
 use Rattle.go_tree.specs.FileView.{type_spec_of}
-use Rattle.go_tree.specs.ScopeNames.Means.{Environment, is_blank, means, or_else}
-use Rattle.go_tree.specs.GoTypes.Answers.{given, only_if, otherwise}
-use Rattle.go_tree.specs.GoTypes.Types.{GoType}
-use Rattle.go_tree.specs.GoTypes.Declarations.{bind_each}
-use Rattle.go_tree.specs.GoTypes.Entities.{Entity, refused, World, Binds, block_of, type_of_name}
-use Rattle.go_tree.specs.GoTypes.Programs.{Program, spec_of, Headed, headed, header_names}
-use Rattle.go_tree.specs.GoTypes.Collect.{DeclaredTypes, is_good_type, spec_type, type_entity, good_entity, binds_or_refused, entity_binds, block_by, blocks_by, types_declared, typed_world, valued_world, collected}
-use Rattle.go_tree.proofs.GoTypes.Agreeing.{from_given, from_only}
+use Rattle.go_rules.specs.ScopeNames.Means.{Environment, is_blank, means, or_else}
+use Rattle.go_rules.specs.GoTypes.Answers.{given, only_if, otherwise}
+use Rattle.go_rules.specs.GoTypes.Types.{GoType}
+use Rattle.go_rules.specs.GoTypes.Declarations.{bind_each}
+use Rattle.go_rules.specs.GoTypes.Entities.{Entity, refused, World, Binds, block_of, type_of_name}
+use Rattle.go_rules.specs.GoTypes.Programs.{Program, spec_of, Headed, headed, header_names}
+use Rattle.go_rules.specs.GoTypes.Collect.{DeclaredTypes, is_good_type, spec_type, type_entity, good_entity, binds_or_refused, entity_binds, block_by, blocks_by, types_declared, typed_world, valued_world, collected}
+use Rattle.go_rules.proofs.GoTypes.Agreeing.{from_given, from_only}
 use Rattle.typed_in_place.proofs.Collected.{typed_settled}
 use Rattle.typed_names.specs.declared.scopes.Scope.{Scope}
 use Rattle.declared_types.specs.declared.headers.TypeHeader.{TypeHeader}

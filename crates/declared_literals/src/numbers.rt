@@ -2,7 +2,7 @@
 
 ghost use Rattle.std.specs.Prelude.{◌≡◌, ◌<◌, ◌&&◌, ℕ, List, [], length, Some, IfOk, OnOk};
 ghost use Rattle.std.specs.Prelude.{bytes_eq, nat_eq, if◌then◌else◌};
-ghost use Rattle.go_tree.specs.ScopeNames.Means.{means};
+ghost use Rattle.go_rules.specs.ScopeNames.Means.{means};
 ghost use Rattle.declared_literals.specs.Numbers.{AreNumbered, NumbersHeader, NumbersName, numbers_of, type_number};
 
 use declared_types::TypeHeader;

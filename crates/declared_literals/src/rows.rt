@@ -2,10 +2,10 @@
 
 ghost use Rattle.std.specs.Prelude.{◌≡◌, Some, IfOk, IfSome};
 ghost use Rattle.std.specs.Option.{option_map};
-ghost use Rattle.go_tree.specs.GoTypes.Answers.{given};
-ghost use Rattle.go_tree.specs.GoTypes.Defined.{under};
-ghost use Rattle.go_tree.specs.GoTypes.Literals as go;
-ghost use Rattle.go_tree.specs.GoTypes.Types.{base_of};
+ghost use Rattle.go_rules.specs.GoTypes.Answers.{given};
+ghost use Rattle.go_rules.specs.GoTypes.Defined.{under};
+ghost use Rattle.go_rules.specs.GoTypes.Literals as go;
+ghost use Rattle.go_rules.specs.GoTypes.Types.{base_of};
 ghost use Rattle.type_table.specs.TypeRelations.Environment.{defined_types, env_type};
 ghost use Rattle.type_table.specs.declared.operand_rules.values.ValueType.TheVariants.{Typed};
 ghost use Rattle.type_table.specs.OperandRules.Values.{IsType};

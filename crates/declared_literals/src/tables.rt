@@ -1,10 +1,10 @@
 //! The table of the types that packages declare.
 
 ghost use Rattle.std.specs.Prelude.{List, map, IfOk};
-ghost use Rattle.go_tree.specs.declared.const_eval.consts.Const.{Const};
+ghost use Rattle.go_rules.specs.declared.const_eval.consts.Const.{Const};
 ghost use Rattle.go_tree.specs.declared.spans.Span.{Span};
-ghost use Rattle.go_tree.specs.GoTypes.Programs.{headed};
-ghost use Rattle.go_tree.specs.GoTypes.Collect.{collected};
+ghost use Rattle.go_rules.specs.GoTypes.Programs.{headed};
+ghost use Rattle.go_rules.specs.GoTypes.Collect.{collected};
 ghost use Rattle.pkg_graph.specs.Package.{Package};
 ghost use Rattle.run_rules.specs.Programs.{linked};
 ghost use Rattle.typed_names.specs.Meanings.{world_at};

@@ -8,16 +8,16 @@ use Rattle.go_tree.specs.declared.files.TypeSpec as code
 use Rattle.go_tree.specs.Tree.{TypeExpr}
 use Rattle.go_tree.specs.File.{TypeSpec}
 use Rattle.go_tree.specs.FileView.{type_spec_of}
-use Rattle.go_tree.specs.declared.const_eval.consts.Const.{Const}
-use Rattle.go_tree.specs.ScopeNames.Means.{means, or_else, is_blank}
-use Rattle.go_tree.specs.GoTypes.Answers.{given, only_if, is_among}
-use Rattle.go_tree.specs.GoTypes.Types.{GoType, named_type}
-use Rattle.go_tree.specs.GoTypes.Entities as go
-use Rattle.go_tree.specs.GoTypes.Entities.{refused, type_name, World, Env, block_of, universe}
-use Rattle.go_tree.specs.GoTypes.Declarations.{bind_each}
-use Rattle.go_tree.specs.GoTypes.TypeNames.{resolved}
-use Rattle.go_tree.specs.GoTypes.Programs.{spec_of, Header, Headed, header_names, Program, env_of}
-use Rattle.go_tree.specs.GoTypes.Collect.{type_entity, spec_type, alias_entity, refused_world, aliased_world}
+use Rattle.go_rules.specs.declared.const_eval.consts.Const.{Const}
+use Rattle.go_rules.specs.ScopeNames.Means.{means, or_else, is_blank}
+use Rattle.go_rules.specs.GoTypes.Answers.{given, only_if, is_among}
+use Rattle.go_rules.specs.GoTypes.Types.{GoType, named_type}
+use Rattle.go_rules.specs.GoTypes.Entities as go
+use Rattle.go_rules.specs.GoTypes.Entities.{refused, type_name, World, Env, block_of, universe}
+use Rattle.go_rules.specs.GoTypes.Declarations.{bind_each}
+use Rattle.go_rules.specs.GoTypes.TypeNames.{resolved}
+use Rattle.go_rules.specs.GoTypes.Programs.{spec_of, Header, Headed, header_names, Program, env_of}
+use Rattle.go_rules.specs.GoTypes.Collect.{type_entity, spec_type, alias_entity, refused_world, aliased_world}
 use Rattle.type_table.specs.TypeRelations.Environment as types
 use Rattle.type_table.specs.TypeRelations.Environment.{env_type}
 use Rattle.typed_names.specs.PredeclaredEntity.TheVariants as predeclared

@@ -3,12 +3,12 @@
 use Rattle.std.specs.Prelude.{◌≡◌, refl, ℕ, zero, suc, Bool, true, false, List, [], ◌∷◌, ◌++◌, Option, Some, None, if◌then◌else◌, is_some, nat_eq, ◌⊎◌}
 use mathlib.Core.Path.{ap, sym, ◌∙◌, subst}
 use Rattle.std.proofs.Common.{inl, inr, arith}
-use Rattle.go_tree.specs.ScopeNames.Means.{Environment, means}
-use Rattle.go_tree.specs.GoTypes.Answers.{given, only_if, is_among}
-use Rattle.go_tree.specs.GoTypes.Entities.{Entity, refused, World, block_of, Binds}
-use Rattle.go_tree.specs.GoTypes.Declarations.{bind_each}
-use Rattle.go_tree.specs.GoTypes.Programs.{spec_of, Headed, header_names, Program, env_of}
-use Rattle.go_tree.specs.GoTypes.Collect.{times, alias_entity, entity_binds, binds_or_refused, block_by, blocks_by, refused_world, alias_round, rounds, aliased_world}
+use Rattle.go_rules.specs.ScopeNames.Means.{Environment, means}
+use Rattle.go_rules.specs.GoTypes.Answers.{given, only_if, is_among}
+use Rattle.go_rules.specs.GoTypes.Entities.{Entity, refused, World, block_of, Binds}
+use Rattle.go_rules.specs.GoTypes.Declarations.{bind_each}
+use Rattle.go_rules.specs.GoTypes.Programs.{spec_of, Headed, header_names, Program, env_of}
+use Rattle.go_rules.specs.GoTypes.Collect.{times, alias_entity, entity_binds, binds_or_refused, block_by, blocks_by, refused_world, alias_round, rounds, aliased_world}
 use Rattle.typed_in_place.specs.Known.{Keeps, kept, Clearer, as_before, refused_before, BlocksClearer}
 use Rattle.typed_in_place.proofs.Rising.{keeps_given, keeps_only, keeps_either, resolved-keeps}
 use Rattle.typed_in_place.proofs.Blocks.{Blocks, name_clearer, block_of_clearer}

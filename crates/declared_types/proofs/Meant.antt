@@ -5,13 +5,13 @@ use mathlib.Core.Path.{ap, ap₂, sym, ◌∙◌}
 use Rattle.std.proofs.Common.{arith}
 use Rattle.std.proofs.lemmas.Slice.Eq.{bytes_eq-Decides}
 use Rattle.go_tree.specs.File.{TypeSpec}
-use Rattle.go_tree.specs.ScopeNames.Means.{Environment, means, is_blank}
-use Rattle.go_tree.specs.GoTypes.Answers.{given, only_if, otherwise}
-use Rattle.go_tree.specs.GoTypes.Types.{GoType}
-use Rattle.go_tree.specs.GoTypes.Entities.{Entity, refused, type_name, World, block_of, Binds}
-use Rattle.go_tree.specs.GoTypes.Declarations.{bind_each}
-use Rattle.go_tree.specs.GoTypes.Programs.{a_type_spec, Headed, header_names, Program}
-use Rattle.go_tree.specs.GoTypes.Collect.{type_entity, spec_type, alias_entity, entity_binds, binds_or_refused, block_by, blocks_by, refused_world, aliased_world}
+use Rattle.go_rules.specs.ScopeNames.Means.{Environment, means, is_blank}
+use Rattle.go_rules.specs.GoTypes.Answers.{given, only_if, otherwise}
+use Rattle.go_rules.specs.GoTypes.Types.{GoType}
+use Rattle.go_rules.specs.GoTypes.Entities.{Entity, refused, type_name, World, block_of, Binds}
+use Rattle.go_rules.specs.GoTypes.Declarations.{bind_each}
+use Rattle.go_rules.specs.GoTypes.Programs.{a_type_spec, Headed, header_names, Program}
+use Rattle.go_rules.specs.GoTypes.Collect.{type_entity, spec_type, alias_entity, entity_binds, binds_or_refused, block_by, blocks_by, refused_world, aliased_world}
 use Rattle.typed_in_place.specs.Declared.{FirstWith, HasNumber}
 use Rattle.typed_in_place.proofs.Headers.{alias_in, alias_phase}
 use Rattle.typed_in_place.proofs.Collected.{aliased_settled}

@@ -2,11 +2,11 @@
 use Rattle.std.specs.Prelude.{◌≡◌, refl, ℕ, Bool, true, false, ◌||◌, List, [], ◌∷◌, ◌++◌, Option, Some, None, if◌then◌else◌, is_some, bytes_eq, ◌⊎◌}
 use mathlib.Core.Path.{ap, sym, ◌∙◌, subst}
 use Rattle.std.proofs.Common.{inl, inr}
-use Rattle.go_tree.specs.ScopeNames.Means.{Environment, means, or_else, is_blank}
-use Rattle.go_tree.specs.GoTypes.Answers.{is_among}
-use Rattle.go_tree.specs.GoTypes.Entities.{Entity, variable, constant, stand_in, type_name, function, package_name, builtin, nil_name, iota_name, refused, universe, World, block_of, is_exported}
-use Rattle.go_tree.specs.GoTypes.Declarations.{bind_each}
-use Rattle.go_tree.specs.GoTypes.Programs.{file_env}
+use Rattle.go_rules.specs.ScopeNames.Means.{Environment, means, or_else, is_blank}
+use Rattle.go_rules.specs.GoTypes.Answers.{is_among}
+use Rattle.go_rules.specs.GoTypes.Entities.{Entity, variable, constant, stand_in, type_name, function, package_name, builtin, nil_name, iota_name, refused, universe, World, block_of, is_exported}
+use Rattle.go_rules.specs.GoTypes.Declarations.{bind_each}
+use Rattle.go_rules.specs.GoTypes.Programs.{file_env}
 use Rattle.typed_in_place.specs.Known.{Keeps, no_answer, kept, Clearer, as_before, refused_before, BlockClearer, end_of_block, was_refused, was_known, Knows}
 use Rattle.typed_names.proofs.NameLaws.{turned}
 use Rattle.declared_types.specs.Members.{member, Below}

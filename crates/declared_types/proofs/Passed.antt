@@ -5,10 +5,10 @@ use Rattle.std.proofs.Common.{arith, get_or, nat_lt}
 use Rattle.std.proofs.lemmas.Bool.Decides.{nat_tests}
 use Rattle.go_tree.specs.declared.spans.Span.{Span}
 use Rattle.go_tree.specs.FileView.{type_spec_of}
-use Rattle.go_tree.specs.GoTypes.Programs.{Headed, Program}
-use Rattle.go_tree.specs.GoTypes.Collect.{aliased_world, refused_world}
-use Rattle.go_tree.specs.declared.const_eval.consts.Const.{Const}
-use Rattle.go_tree.specs.GoTypes.Table.{named_node}
+use Rattle.go_rules.specs.GoTypes.Programs.{Headed, Program}
+use Rattle.go_rules.specs.GoTypes.Collect.{aliased_world, refused_world}
+use Rattle.go_rules.specs.declared.const_eval.consts.Const.{Const}
+use Rattle.go_rules.specs.GoTypes.Table.{named_node}
 use Rattle.type_table.specs.TypeRelations.Environment.{Environment, env_type, with_type}
 use Rattle.type_table.specs.ValueTypes.ValueTypes.{HasValueTypes}
 use Rattle.type_table.proofs.ValueTypes.ValueLemmas.{value_types_stay}

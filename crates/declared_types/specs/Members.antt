@@ -1,8 +1,8 @@
 -- What names mean in the package blocks of a program, while types are being found (Go specification, Package block;
 -- Declarations and scope).
 use Rattle.std.specs.Prelude.{◌≡◌, ℕ, List, Option, is_some}
-use Rattle.go_tree.specs.ScopeNames.Means.{means}
-use Rattle.go_tree.specs.GoTypes.Entities.{Entity, World, block_of}
+use Rattle.go_rules.specs.ScopeNames.Means.{means}
+use Rattle.go_rules.specs.GoTypes.Entities.{Entity, World, block_of}
 use Rattle.typed_in_place.specs.Known.{Clearer}
 
 -- what a name means in the block of a package

@@ -2,10 +2,10 @@
 //! definitions; Declarations and scope).
 
 ghost use Rattle.std.specs.Prelude.{◌≡◌, List, false, true, length, IfOk, OnErr, OnOk};
-ghost use Rattle.go_tree.specs.declared.const_eval.consts.Const.{Const};
+ghost use Rattle.go_rules.specs.declared.const_eval.consts.Const.{Const};
 ghost use Rattle.go_tree.specs.declared.spans.Span.{Span};
-ghost use Rattle.go_tree.specs.GoTypes.Programs.{Headed, Program};
-ghost use Rattle.go_tree.specs.GoTypes.Collect.{aliased_world, refused_world};
+ghost use Rattle.go_rules.specs.GoTypes.Programs.{Headed, Program};
+ghost use Rattle.go_rules.specs.GoTypes.Collect.{aliased_world, refused_world};
 ghost use Rattle.type_table.specs.ValueTypes.ValueTypes.{HasValueTypes};
 ghost use Rattle.typed_names.specs.Known.{KnowsTypes};
 ghost use Rattle.typed_names.specs.Meanings.{world_at};

@@ -2,16 +2,16 @@
 use Rattle.std.specs.Prelude.{◌≡◌, refl, ℕ, ◌++◌, List, [], ◌∷◌, map, Option, Some, None, Ok, Err, slice_get, Bool, true, false, not, ◌||◌}
 use mathlib.Core.Path.{ap, ap₂, sym, ◌∙◌}
 use Rattle.std.proofs.Common.{arith, append_assoc}
-use Rattle.go_tree.specs.declared.const_eval.consts.Const.{Const}
+use Rattle.go_rules.specs.declared.const_eval.consts.Const.{Const}
 use Rattle.go_tree.specs.declared.spans.Span.{Span}
 use Rattle.go_tree.specs.File.{TypeSpec}
 use Rattle.go_tree.specs.FileView.{type_spec_of}
-use Rattle.go_tree.specs.ScopeNames.Means.{is_blank}
-use Rattle.go_tree.specs.GoTypes.Entities.{Env}
-use Rattle.go_tree.specs.GoTypes.TypeNames.{resolved}
-use Rattle.go_tree.specs.GoTypes.Answers.{and_also, given, only_if}
-use Rattle.go_tree.specs.GoTypes.Types.{GoType, named_type}
-use Rattle.go_tree.specs.GoTypes.TypeDeclarations as go
+use Rattle.go_rules.specs.ScopeNames.Means.{is_blank}
+use Rattle.go_rules.specs.GoTypes.Entities.{Env}
+use Rattle.go_rules.specs.GoTypes.TypeNames.{resolved}
+use Rattle.go_rules.specs.GoTypes.Answers.{and_also, given, only_if}
+use Rattle.go_rules.specs.GoTypes.Types.{GoType, named_type}
+use Rattle.go_rules.specs.GoTypes.TypeDeclarations as go
 use Rattle.type_table.specs.TypeRelations.Environment.{Environment, env_type, is_named_type}
 use Rattle.type_table.specs.declared.nodes.TypeId.{TypeId}
 use Rattle.type_table.specs.declared.operand_rules.values.ValueType.TheVariants.{Typed}

@@ -1,14 +1,14 @@
 //! Defined types with the types that they are declared as (Go specification, Type definitions).
 
 ghost use Rattle.std.specs.Prelude.{◌≡◌, ◌++◌, ◌||◌, [], List, Some, map, not, IfOk, OnOk};
-ghost use Rattle.go_tree.specs.declared.const_eval.consts.Const.{Const};
+ghost use Rattle.go_rules.specs.declared.const_eval.consts.Const.{Const};
 ghost use Rattle.go_tree.specs.declared.spans.Span.{Span};
 ghost use Rattle.go_tree.specs.FileView.{type_spec_of};
-ghost use Rattle.go_tree.specs.GoTypes.Answers.{and_also};
-ghost use Rattle.go_tree.specs.GoTypes.Programs.{Headed, Program};
-ghost use Rattle.go_tree.specs.GoTypes.Collect as go;
-ghost use Rattle.go_tree.specs.GoTypes.Collect.{aliased_world};
-ghost use Rattle.go_tree.specs.ScopeNames.Means.{is_blank};
+ghost use Rattle.go_rules.specs.GoTypes.Answers.{and_also};
+ghost use Rattle.go_rules.specs.GoTypes.Programs.{Headed, Program};
+ghost use Rattle.go_rules.specs.GoTypes.Collect as go;
+ghost use Rattle.go_rules.specs.GoTypes.Collect.{aliased_world};
+ghost use Rattle.go_rules.specs.ScopeNames.Means.{is_blank};
 ghost use Rattle.type_table.specs.OperandRules.Values.{IsType};
 ghost use Rattle.type_table.specs.declared.operand_rules.values.ValueType.TheVariants.{Typed};
 ghost use Rattle.type_table.specs.TypeRelations.Environment.{env_type};

@@ -5,10 +5,10 @@ use Rattle.std.proofs.Math.ListN.{drop_of_length-le}
 use Rattle.std.specs.List.{list_any}
 use Rattle.std.proofs.lemmas.Bool.{true≢false}
 use Rattle.std.proofs.lemmas.Slice.Eq.{bytes_eq-Decides}
-use Rattle.go_tree.specs.declared.scope_names.names.Entity.{Entity}
-use Rattle.go_tree.specs.declared.scope_names.names.Entity.TheVariants.{Import, Package, Universe}
-use Rattle.go_tree.specs.declared.scope_names.names.FileNames.{FileNames}
-use Rattle.go_tree.specs.ScopeNames.Means.{Environment, means, is_blank, numbered, outermost, predeclared}
+use Rattle.go_rules.specs.declared.scope_names.names.Entity.{Entity}
+use Rattle.go_rules.specs.declared.scope_names.names.Entity.TheVariants.{Import, Package, Universe}
+use Rattle.go_rules.specs.declared.scope_names.names.FileNames.{FileNames}
+use Rattle.go_rules.specs.ScopeNames.Means.{Environment, means, is_blank, numbered, outermost, predeclared}
 use Rattle.directive_scan.specs.Items.{is_import, is_predeclared}
 use Rattle.directive_scan.specs.Around.{has_name, declares_one, declares}
 

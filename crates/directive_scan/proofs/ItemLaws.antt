@@ -9,8 +9,8 @@ use Rattle.go_tree.specs.FileView.{type_spec_of}
 use Rattle.go_tree.specs.Tree.{NameAt, Expr, Exprs, TypeExpr}
 use Rattle.go_tree.specs.Lists.{exprs_from}
 use Rattle.go_tree.specs.View.{expr_of, type_of, name_at_of}
-use Rattle.go_tree.specs.declared.scope_names.names.Entity.{Entity}
-use Rattle.go_tree.specs.ScopeNames.Means.{Environment}
+use Rattle.go_rules.specs.declared.scope_names.names.Entity.{Entity}
+use Rattle.go_rules.specs.ScopeNames.Means.{Environment}
 use Rattle.directive_scan.specs.declared.mark_types.MarkKind.TheVariants.{Constant}
 use Rattle.directive_scan.specs.declared.mark_types.BadReason.TheVariants.{NotNamedConstant}
 use Rattle.std.proofs.lemmas.List.{append_assoc}

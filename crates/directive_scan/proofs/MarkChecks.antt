@@ -6,7 +6,7 @@ use Rattle.go_tree.specs.declared.tokens.Comment.{Comment}
 use Rattle.go_tree.specs.declared.tokens.TokenKind.TheVariants.{Ident}
 use Rattle.go_tree.specs.Tree.{NameAt, Expr, ident, int_lit, no_exprs, expr_and, const_decl, var_decl, no_specs, spec}
 use Rattle.go_tree.specs.File.{Decl, values, File}
-use Rattle.go_tree.specs.declared.scope_names.names.FileNames.{FileNames}
+use Rattle.go_rules.specs.declared.scope_names.names.FileNames.{FileNames}
 use Rattle.directive_scan.specs.declared.mark_types.MarkKind.TheVariants.{Constant}
 use Rattle.directive_scan.specs.declared.mark_types.BadReason.TheVariants.{NotNamedConstant, NothingMarked}
 use Rattle.directive_scan.specs.Lines.{may_follow, is_inline, is_directive}

@@ -2,7 +2,7 @@
 -- scope).
 use Rattle.std.specs.Prelude.{◌≡◌, ℕ, Bool, not, ◌&&◌, List, map, bytes_eq}
 use Rattle.std.specs.List.{list_any}
-use Rattle.go_tree.specs.ScopeNames.Means.{is_blank}
+use Rattle.go_rules.specs.ScopeNames.Means.{is_blank}
 use Rattle.directive_scan.specs.declared.around.Around.{Around}
 
 -- whether the name is one of these

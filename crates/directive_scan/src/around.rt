@@ -1,12 +1,12 @@
 //! The names that the file block and the package block declare, each found in one step.
 
 ghost use Rattle.std.specs.Prelude.{◌≡◌, ◌||◌, ◌&&◌, not, [], List, ℕ, map, IfOk, OnOk};
-ghost use Rattle.go_tree.specs.declared.scope_names.names.Entity.TheVariants.{Universe};
-ghost use Rattle.go_tree.specs.ScopeNames.Means.{is_blank, means, numbered, outermost, predeclared as universe};
+ghost use Rattle.go_rules.specs.declared.scope_names.names.Entity.TheVariants.{Universe};
+ghost use Rattle.go_rules.specs.ScopeNames.Means.{is_blank, means, numbered, outermost, predeclared as universe};
 ghost use Rattle.directive_scan.specs.Items.{is_predeclared, is_import};
 ghost use Rattle.directive_scan.specs.Around.{has_name, declares_one, AreDeclared, AreAround};
 
-use go_tree::scope_names::{Entity, FileNames, ImportName, predeclared};
+use go_rules::scope_names::{Entity, FileNames, ImportName, predeclared};
 use go_tree::{Name, NoMemory};
 use indexmap::IndexSet;
 use std::alloc::Global;

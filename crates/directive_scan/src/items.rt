@@ -5,7 +5,7 @@ ghost use Rattle.std.specs.Option.{option_map, option_to_list};
 ghost use Rattle.go_tree.specs.Lists.{exprs_from, specs_from};
 ghost use Rattle.go_tree.specs.View.{expr_of, exprs_of, type_of, name_at_of, const_spec_of};
 ghost use Rattle.go_tree.specs.FileView.{type_spec_of, func_of, decl_of, file_of};
-ghost use Rattle.go_tree.specs.ScopeNames.Means.{outermost};
+ghost use Rattle.go_rules.specs.ScopeNames.Means.{outermost};
 ghost use Rattle.directive_scan.specs.Around.{AreAround};
 ghost use Rattle.directive_scan.specs.Items.{constant_verdict, names_items, member_starts, specs_items, func_item};
 ghost use Rattle.directive_scan.specs.Items.{type_item, types_items, decl_items, items_of};
@@ -13,7 +13,7 @@ ghost use Rattle.directive_scan.specs.Items.{type_item, types_items, decl_items,
 use crate::around::Around;
 use crate::constants::names_constant;
 use crate::mark_types::{BadReason, MarkKind, Verdict};
-use go_tree::scope_names::FileNames;
+use go_rules::scope_names::FileNames;
 use go_tree::{ConstSpec, Decl, Expr, FileTree, FuncDecl, Name, NameAt, NoMemory, Span, TypeSpec};
 use std::alloc::Global;
 use std::marker::Model;

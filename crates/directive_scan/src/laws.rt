@@ -5,7 +5,7 @@ ghost use Rattle.go_tree.specs.declared.spans.Span.{Span};
 ghost use Rattle.go_tree.specs.declared.tokens.Token.{Token};
 ghost use Rattle.go_tree.specs.declared.tokens.Comment.{Comment};
 ghost use Rattle.go_tree.specs.File.{File};
-ghost use Rattle.go_tree.specs.declared.scope_names.names.FileNames.{FileNames};
+ghost use Rattle.go_rules.specs.declared.scope_names.names.FileNames.{FileNames};
 ghost use Rattle.directive_scan.specs.declared.mark_types.Mark.{Mark};
 ghost use Rattle.directive_scan.specs.declared.mark_types.BadMark.{BadMark};
 ghost use Rattle.directive_scan.specs.Marked.{Marked, IsBad, good_marks, bad_marks};

@@ -13,8 +13,8 @@ use crate::line_marks::{clear_tokens, flag_comments, flag_marks, flag_starts};
 use crate::line_table::{line_at, line_numbers};
 use crate::mark_types::{BadMark, Marks};
 use crate::merge::placed_in;
+use go_rules::scope_names::FileNames;
 use go_scan::Tokens;
-use go_tree::scope_names::FileNames;
 use go_tree::{FileTree, MAX_FILE_BYTES, NoMemory};
 use std::alloc::Global;
 

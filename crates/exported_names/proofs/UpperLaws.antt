@@ -6,14 +6,14 @@ use Rattle.std.proofs.Common.{arith}
 use Rattle.std.specs.Str.{chars, chars_after, continuation_len, lead_bits}
 use Rattle.std.proofs.lemmas.List.{take_all}
 use Rattle.std.proofs.lemmas.Bool.Decides.{nat_tests}
-use Rattle.go_tree.proofs.GoTypes.IdenticalLaws.{and_left, and_right}
+use Rattle.go_rules.proofs.GoTypes.IdenticalLaws.{and_left, and_right}
 use Rattle.ucd_table.specs.Steps.{Step, step_value}
 use Rattle.ucd_table.proofs.Computing.{tables}
 use Rattle.ucd_category.specs.declared.GeneralCategory.{GeneralCategory}
 use Rattle.ucd_category.specs.declared.GeneralCategory.TheVariants as category
 use Rattle.ucd_category.specs.GeneralCategory.{general_category, general_category_number}
 use Rattle.ucd_category.proofs.GeneralCategoryLemmas.{general_category_stepped}
-use Rattle.go_tree.specs.GoTypes.Entities.{is_upper, is_upper_category}
+use Rattle.go_rules.specs.GoTypes.Entities.{is_upper, is_upper_category}
 use Rattle.exported_names.specs.Room.{room}
 
 -- no step ends after a number: then each code point from it on has the default

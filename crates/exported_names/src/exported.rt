@@ -3,7 +3,7 @@
 ghost use Rattle.std.specs.Prelude.{◌≡◌, ◌<◌, [], ◌∷◌, length, slice_get, chars};
 ghost use Rattle.std.specs.Str.{chars_after, continuation_len, lead_bits};
 ghost use Rattle.unicode.specs.GeneralCategory.{general_category};
-ghost use Rattle.go_tree.specs.GoTypes.Entities.{is_exported, is_upper, is_upper_category};
+ghost use Rattle.go_rules.specs.GoTypes.Entities.{is_exported, is_upper, is_upper_category};
 ghost use Rattle.exported_names.specs.Room.{room};
 
 use ucd_table::search;

@@ -1,7 +1,7 @@
 -- Expressions without function literals may be walked at each place.
 use Rattle.go_tree.specs.declared.spans.Span.{Span}
 use Rattle.go_tree.specs.Tree.{Expr, ident, int_lit, rune_lit, str_lit, composite, selector, index, slice, call, func_lit, type_operand, unary, binary, star, Exprs, no_exprs, expr_and, ExprOption, no_expr, some_expr, Elems, no_elems, elem, Value, plain, braced, ValueOption, no_value, some_value}
-use Rattle.go_tree.specs.GoTypes.Entities.{Env}
+use Rattle.go_rules.specs.GoTypes.Entities.{Env}
 use Rattle.expr_walk.specs.Walked.{AreAllWalked, AreAllWalkedAt, AreWalkedElems, AreWalkedElemsAt, IsWalked, IsWalkedAt, IsWalkedKey, IsWalkedKeyAt, IsWalkedOption, IsWalkedOptionAt, IsWalkedValue, IsWalkedValueAt}
 
 module _ (env : Env) where

@@ -3,7 +3,7 @@ use Rattle.std.proofs.Common.{◌≡◌, ◌<◌, ◌+◌, ℕ, zero, suc, arith
 use Rattle.go_tree.specs.declared.exprs.Elem as source
 use Rattle.go_tree.specs.declared.exprs.Expr as expression
 use Rattle.go_tree.specs.Lists.{elems_from, exprs_from}
-use Rattle.go_tree.specs.GoTypes.Entities.{Env}
+use Rattle.go_rules.specs.GoTypes.Entities.{Env}
 use Rattle.go_tree.specs.View.{elem_of, expr_of, held_value_option_of, value_of}
 use Rattle.expr_walk.specs.Walked.{AreAllWalked, AreAllWalkedAt, AreWalkedElems, AreWalkedElemsAt, IsWalked, IsWalkedAt, IsWalkedKey, IsWalkedKeyAt, IsWalkedValue, IsWalkedValueAt, size, size_all, size_elems, size_key, size_value}
 

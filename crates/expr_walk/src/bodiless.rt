@@ -1,7 +1,7 @@
 //! What expressions are in which no function literal stands (Go specification, Expressions).
 
 ghost use Rattle.go_tree.specs.View.{expr_of, exprs_of};
-ghost use Rattle.go_tree.specs.GoTypes.Typing as go;
+ghost use Rattle.go_rules.specs.GoTypes.Typing as go;
 ghost use Rattle.typed_names.specs.Scopes.{env_at};
 ghost use Rattle.operand_modes.specs.CheckerTables.Ready.{Keeps};
 ghost use Rattle.operand_modes.specs.OperandAnswers.Known.{Stands};

@@ -5,11 +5,11 @@ ghost use Rattle.go_tree.specs.declared.spans.Span.{Span};
 ghost use Rattle.go_tree.specs.Tree as tree;
 ghost use Rattle.go_tree.specs.View.{boxed_expr_option_of, elems_of, expr_of, exprs_of, held_value_option_of};
 ghost use Rattle.go_tree.specs.View.{name_at_of, type_of, value_of};
-ghost use Rattle.go_tree.specs.GoTypes.Answers.{given};
-ghost use Rattle.go_tree.specs.GoTypes.Defined.{under};
-ghost use Rattle.go_tree.specs.GoTypes.Literals as go_literal;
-ghost use Rattle.go_tree.specs.GoTypes.Operands as go_operand;
-ghost use Rattle.go_tree.specs.GoTypes.Typing as go;
+ghost use Rattle.go_rules.specs.GoTypes.Answers.{given};
+ghost use Rattle.go_rules.specs.GoTypes.Defined.{under};
+ghost use Rattle.go_rules.specs.GoTypes.Literals as go_literal;
+ghost use Rattle.go_rules.specs.GoTypes.Operands as go_operand;
+ghost use Rattle.go_rules.specs.GoTypes.Typing as go;
 ghost use Rattle.type_table.specs.TypeRelations.Environment.{defined_types, env_type};
 ghost use Rattle.type_table.specs.declared.operand_rules.values.ValueType.TheVariants.{Typed};
 ghost use Rattle.type_table.specs.OperandRules.Values.{IsType};
@@ -32,7 +32,7 @@ use composite_steps::{
     ElementList, inner_type, is_struct, key_type, keyed, literal as composite_literal,
     literal_inside, literal_type, of_field, operand_of, unkeyed,
 };
-use go_tree::const_eval::Kind;
+use go_rules::const_eval::Kind;
 use go_tree::{Elem, ElemList, Expr, ExprList, NameAt, TypeExpr, Value as ElemValue};
 use name_steps::{literal, named, qualified, type_operand};
 use operand_modes::Operand;

@@ -4,7 +4,7 @@ use Rattle.std.proofs.lemmas.List.{map-append}
 use Rattle.go_tree.specs.declared.spans.Span.{Span}
 use Rattle.go_tree.specs.Tree.{NameAt}
 use Rattle.go_tree.specs.File.{Receiver, Decl, values, types, func}
-use Rattle.go_tree.specs.ScopeNames.Means.{Environment, binding, is_blank}
+use Rattle.go_rules.specs.ScopeNames.Means.{Environment, binding, is_blank}
 use Rattle.pkg_graph.specs.Package.{SourceTree, Package}
 use Rattle.pkg_graph.specs.Members.{Target, member, decl_names, block_names, unless_method, items_from, decls_from, files_from, package_block}
 use Rattle.file_names.specs.Members.{member_of, is_method, IsBlockOf}

@@ -3,7 +3,7 @@ use Rattle.std.proofs.Common.{◌≡◌, ◌∙◌, ℕ, zero, suc, Bool, true, 
 use Rattle.std.specs.Option.{option_map}
 use Rattle.pkg_graph.specs.ModuleFiles.PathLists.{number_of}
 use Rattle.name_walks.specs.Around.{place_in}
-use Rattle.go_tree.specs.ScopeNames.Means.{or_else}
+use Rattle.go_rules.specs.ScopeNames.Means.{or_else}
 use Rattle.name_walks.proofs.SetLaws.{same_name}
 use Rattle.file_names.specs.Places.{Finds}
 

@@ -8,7 +8,7 @@ ghost use Rattle.pkg_graph.specs.Views.{package_view};
 ghost use Rattle.file_names.specs.Imports.{import_in, FindsPackages};
 
 use crate::places::Places;
-use go_tree::scope_names::{ImportList, ImportName};
+use go_rules::scope_names::{ImportList, ImportName};
 use go_tree::{FileTree, ImportSpec, Name, NoMemory, Text};
 use pkg_graph::Package;
 use std::alloc::Global;

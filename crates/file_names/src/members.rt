@@ -2,13 +2,13 @@
 
 ghost use Rattle.std.specs.Prelude.{◌≡◌, ◌++◌, ◌∷◌, [], map, IfOk, OnOk};
 ghost use Rattle.go_tree.specs.FileView.{decl_of, file_of};
-ghost use Rattle.go_tree.specs.ScopeNames.Means.{binding, is_blank};
+ghost use Rattle.go_rules.specs.ScopeNames.Means.{binding, is_blank};
 ghost use Rattle.pkg_graph.specs.Members.{items_from, decls_from, files_from, block_names, package_block};
 ghost use Rattle.pkg_graph.specs.Views.{package_view, source_of};
 ghost use Rattle.file_names.specs.Members.{member_of, target_of, is_method};
 
 use crate::declared::declared_names;
-use go_tree::scope_names::NameList;
+use go_rules::scope_names::NameList;
 use go_tree::{Decl, FileTree, Name, NameAt, NoMemory};
 use pkg_graph::Package;
 use std::alloc::Global;

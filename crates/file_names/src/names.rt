@@ -11,7 +11,7 @@ ghost use Rattle.file_names.specs.Members.{IsBlockOf};
 
 use crate::imports::file_imports;
 use crate::places::Places;
-use go_tree::scope_names::{FileNames, NameList};
+use go_rules::scope_names::{FileNames, NameList};
 use go_tree::{FileTree, NoMemory};
 use pkg_graph::Package as SourcePackage;
 use std::alloc::Global;

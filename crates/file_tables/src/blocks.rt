@@ -4,8 +4,8 @@ ghost use Rattle.std.specs.Prelude.{◌≡◌, IfOk};
 ghost use Rattle.file_tables.specs.Blocks.{HasOwnTable, block_in};
 
 use crate::tables::FileTables;
+use go_rules::scope_names::{FileNames, NameList};
 use go_tree::NoMemory;
-use go_tree::scope_names::{FileNames, NameList};
 use scope_tables::BlockTable;
 use std::alloc::{AllocError, Global};
 

@@ -16,7 +16,7 @@ ghost use Rattle.file_tables.specs.Numbers.{number_in};
 use crate::blocks::Block;
 use crate::numbers::import_numbers;
 use file_names::{Places, names_of_file};
-use go_tree::scope_names::FileNames;
+use go_rules::scope_names::FileNames;
 use go_tree::{FileTree, NoMemory};
 use pkg_graph::Package;
 use scope_tables::{BlockTable, Scopes, scopes_in};

@@ -6,11 +6,11 @@ use borrow.Author.Tests.{eqb-true}
 use Rattle.std.proofs.Common.{inl, inr, arith, length-append}
 use Rattle.std.proofs.lemmas.List.{get_or_append_left, get_or_push}
 use Rattle.std.specs.Cmp.{both_ways}
-use Rattle.go_tree.specs.GoTypes.Answers.{meets}
-use Rattle.go_tree.specs.GoTypes.Types.{GoType, named_type}
-use Rattle.go_tree.specs.GoTypes.Table.{NodeField, TypeNode as Row, basic_node, named_node, pointer_node, slice_node, map_node, struct_node, tuple_node, untyped_node, nil_node, node_parts, AllBelow, none_above, below_and}
-use Rattle.go_tree.specs.GoTypes.TypeDeclarations.{DeclaredTypes, declared_as, is_finite_by, are_finite_by, is_finite_within, is_finite, under_within}
-use Rattle.go_tree.proofs.GoTypes.IdenticalLaws.{and_left, and_right}
+use Rattle.go_rules.specs.GoTypes.Answers.{meets}
+use Rattle.go_rules.specs.GoTypes.Types.{GoType, named_type}
+use Rattle.go_rules.specs.GoTypes.Table.{NodeField, TypeNode as Row, basic_node, named_node, pointer_node, slice_node, map_node, struct_node, tuple_node, untyped_node, nil_node, node_parts, AllBelow, none_above, below_and}
+use Rattle.go_rules.specs.GoTypes.TypeDeclarations.{DeclaredTypes, declared_as, is_finite_by, are_finite_by, is_finite_within, is_finite, under_within}
+use Rattle.go_rules.proofs.GoTypes.IdenticalLaws.{and_left, and_right}
 use Rattle.type_table.specs.declared.nodes.Field.{Field}
 use Rattle.type_table.specs.declared.nodes.TypeNode.{TypeNode}
 use Rattle.type_table.specs.declared.nodes.TypeNode.TheVariants.{Struct}

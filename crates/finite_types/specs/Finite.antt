@@ -1,6 +1,6 @@
 -- Which types of an environment are finite, a flag for each (Go specification, Struct types; Underlying types).
 use Rattle.std.specs.Prelude.{◌≡◌, ℕ, ◌<◌, Bool, List, map, length, Some, slice_get}
-use Rattle.go_tree.specs.GoTypes.TypeDeclarations.{is_finite}
+use Rattle.go_rules.specs.GoTypes.TypeDeclarations.{is_finite}
 use Rattle.type_table.specs.TypeRelations.Environment.{Environment, env_type}
 use Rattle.defined_types.specs.declared.declared.DeclaredType.{DeclaredType}
 use Rattle.defined_types.specs.DeclaredTypes.{declared_of}

@@ -4,12 +4,12 @@ use mathlib.Core.Path.{sym, ◌∙◌, subst}
 use Rattle.std.proofs.Common.{arith}
 use Rattle.go_tree.specs.declared.exprs.Rest.{Rest}
 use Rattle.go_tree.specs.Tree.{Sig, Expr, call, func_lit, Exprs, expr_and, Stmts}
-use Rattle.go_tree.specs.GoTypes.Answers.{both}
-use Rattle.go_tree.specs.GoTypes.Types.{GoType}
-use Rattle.go_tree.specs.GoTypes.Entities.{extend, in_block}
-use Rattle.go_tree.specs.GoTypes.Statements.{body_binds}
-use Rattle.go_tree.specs.GoTypes.Operands.{spread}
-use Rattle.go_tree.specs.GoTypes.Typing.{all_parts}
+use Rattle.go_rules.specs.GoTypes.Answers.{both}
+use Rattle.go_rules.specs.GoTypes.Types.{GoType}
+use Rattle.go_rules.specs.GoTypes.Entities.{extend, in_block}
+use Rattle.go_rules.specs.GoTypes.Statements.{body_binds}
+use Rattle.go_rules.specs.GoTypes.Operands.{spread}
+use Rattle.go_rules.specs.GoTypes.Typing.{all_parts}
 use Rattle.go_kernel.specs.Kernel.{FuncName, Program, Term, Call, Defer, DeferLit, Let, Alone, code}
 use Rattle.go_kernel.specs.Scope.{Scoped}
 use Rattle.go_kernel.specs.Alike.{MeanSame}

@@ -3,13 +3,13 @@ use Rattle.std.specs.Prelude.{◌≡◌, ℕ, List, [], Some, None}
 use mathlib.Core.Path.{ap, sym, ◌∙◌}
 use Rattle.go_tree.specs.Tree.{func_lit}
 use Rattle.go_tree.specs.File.{Func as Function}
-use Rattle.go_tree.specs.ScopeNames.Means.{Environment}
-use Rattle.go_tree.specs.GoTypes.Types.{GoType, FuncType}
-use Rattle.go_tree.specs.GoTypes.Entities.{Entity, World, Binds, extend, in_block}
-use Rattle.go_tree.specs.GoTypes.TypeNames.{func_type}
-use Rattle.go_tree.specs.GoTypes.Statements.{body_binds}
-use Rattle.go_tree.specs.GoTypes.Programs.{Headed}
-use Rattle.go_tree.specs.GoTypes.Collect.{env_of}
+use Rattle.go_rules.specs.ScopeNames.Means.{Environment}
+use Rattle.go_rules.specs.GoTypes.Types.{GoType, FuncType}
+use Rattle.go_rules.specs.GoTypes.Entities.{Entity, World, Binds, extend, in_block}
+use Rattle.go_rules.specs.GoTypes.TypeNames.{func_type}
+use Rattle.go_rules.specs.GoTypes.Statements.{body_binds}
+use Rattle.go_rules.specs.GoTypes.Programs.{Headed}
+use Rattle.go_rules.specs.GoTypes.Collect.{env_of}
 use Rattle.go_kernel.specs.Kernel.{ImportPath, Slot}
 use Rattle.go_translation.specs.Mentions.{Mention, mentions_stmts}
 use Rattle.go_translation.specs.Here.{Location, Here, function_of, at_body}

@@ -8,12 +8,12 @@ use Rattle.std.proofs.Common.{arith}
 use Rattle.go_tree.specs.declared.exprs.Rest.TheVariants.{Plain}
 use Rattle.go_tree.specs.declared.operators.BinOp.TheVariants.{Add}
 use Rattle.go_tree.specs.Tree.{Sig, Expr, Stmts, func_lit}
-use Rattle.go_tree.specs.declared.const_eval.kinds.Kind.TheVariants as kind
-use Rattle.go_tree.specs.ScopeNames.Means.{Environment, means}
-use Rattle.go_tree.specs.GoTypes.Answers.{is_among}
-use Rattle.go_tree.specs.GoTypes.Types.{basic}
-use Rattle.go_tree.specs.GoTypes.Entities.{Entity, variable, function, package_name, universe, World, Env}
-use Rattle.go_tree.specs.GoTypes.Collect.{collected}
+use Rattle.go_rules.specs.declared.const_eval.kinds.Kind.TheVariants as kind
+use Rattle.go_rules.specs.ScopeNames.Means.{Environment, means}
+use Rattle.go_rules.specs.GoTypes.Answers.{is_among}
+use Rattle.go_rules.specs.GoTypes.Types.{basic}
+use Rattle.go_rules.specs.GoTypes.Entities.{Entity, variable, function, package_name, universe, World, Env}
+use Rattle.go_rules.specs.GoTypes.Collect.{collected}
 use Rattle.go_kernel.specs.Kernel.{FuncName, Program, Call, Let, Alone, code, ReadGlobal, Prim, Vals}
 use Rattle.go_translation.specs.Here.{in_frame, Here}
 use Rattle.go_translation.specs.Packages.{Package, sources, paths_in, codes_of, program_of}
@@ -25,7 +25,7 @@ use Rattle.form_meaning.proofs.FormInPlace.TypesInPlace.{type_kept}
 use Rattle.form_meaning.specs.CallMeaning.{CallOf}
 use Rattle.form_meaning.proofs.Located.{same_name}
 use Rattle.form_meaning.proofs.CallTerms.{call_term_is, literal_term_is}
-use Rattle.go_tree.proofs.GoTypes.Trees.{ty, par, sig, v, int, sel, es, app, bin, ss, asg, def, ret, ev, dfr, vars_at, func_at, file, pack}
+use Rattle.go_rules.proofs.GoTypes.Trees.{ty, par, sig, v, int, sel, es, app, bin, ss, asg, def, ret, ev, dfr, vars_at, func_at, file, pack}
 
 abbrev twice_sig : Sig ℕ
 twice_sig = sig (par (Some (codes "x")) (ty (codes "int")) ∷ []) (par None (ty (codes "int")) ∷ [])

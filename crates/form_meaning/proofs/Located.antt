@@ -3,11 +3,11 @@ use Rattle.std.specs.Prelude.{◌≡◌, refl, ℕ, Bool, true, false, ◌&&◌,
 use mathlib.Core.Path.{ap, ap₂, sym, ◌∙◌, subst}
 use Rattle.std.proofs.lemmas.Slice.Eq.{bytes_eq-Decides}
 use Rattle.std.proofs.Common.{inl, inr, arith}
-use Rattle.go_tree.specs.ScopeNames.Means.{Environment, means, is_blank}
-use Rattle.go_tree.specs.GoTypes.Answers.{is_among}
-use Rattle.go_tree.specs.GoTypes.Entities.{Entity, variable, Env, Binds}
-use Rattle.go_tree.specs.GoTypes.Statements.{bound_names}
-use Rattle.go_tree.proofs.GoTypes.Agreeing.{among_right, Bound, binds, later, Covers}
+use Rattle.go_rules.specs.ScopeNames.Means.{Environment, means, is_blank}
+use Rattle.go_rules.specs.GoTypes.Answers.{is_among}
+use Rattle.go_rules.specs.GoTypes.Entities.{Entity, variable, Env, Binds}
+use Rattle.go_rules.specs.GoTypes.Statements.{bound_names}
+use Rattle.go_rules.proofs.GoTypes.Agreeing.{among_right, Bound, binds, later, Covers}
 use Rattle.go_translation.specs.Mentions.{Mention, is_addressed, is_stored, is_held, is_held_param}
 use Rattle.go_translation.specs.Here.{Location, location_at, entity_location, located}
 use Rattle.form_meaning.proofs.FormInPlace.Uses.{among_append, among_left}

@@ -4,18 +4,18 @@ use mathlib.Core.Path.{ap, ap₂, sym, ◌∙◌, subst}
 use Rattle.std.proofs.lemmas.Slice.Eq.{bytes_eq-Decides}
 use Rattle.std.proofs.Common.{arith}
 use Rattle.go_tree.specs.Tree.{Sig, Expr, ident, Exprs, ExprOption, Elems, Value, ValueOption, Stmt, Stmts, StmtOption, BlockOption, RangeLeft, Arms, Cases, ValueSpecs}
-use Rattle.go_tree.specs.ScopeNames.Means.{Environment, means}
-use Rattle.go_tree.specs.ScopeNames.FreeNames.{names_of, sig_names}
-use Rattle.go_tree.specs.GoTypes.Answers.{given, meets, is_among}
-use Rattle.go_tree.specs.GoTypes.Types.{GoType, base_of}
-use Rattle.go_tree.specs.GoTypes.Defined.{Defined, under, methods}
-use Rattle.go_tree.specs.GoTypes.Primary.{find_method}
-use Rattle.go_tree.specs.GoTypes.Entities.{Entity, variable, stand_in, Env, meaning, defined_in, Binds, extend, in_block}
-use Rattle.go_tree.specs.GoTypes.TypeNames.{func_type}
-use Rattle.go_tree.specs.GoTypes.Operands.{Operand, value}
-use Rattle.go_tree.specs.GoTypes.Literals.{is_struct, key_type, inner_type}
-use Rattle.go_tree.specs.GoTypes.Statements.{bound_names}
-use Rattle.go_tree.specs.GoTypes.Typing.{parts, binds_of, new_variables, right_values}
+use Rattle.go_rules.specs.ScopeNames.Means.{Environment, means}
+use Rattle.go_rules.specs.ScopeNames.FreeNames.{names_of, sig_names}
+use Rattle.go_rules.specs.GoTypes.Answers.{given, meets, is_among}
+use Rattle.go_rules.specs.GoTypes.Types.{GoType, base_of}
+use Rattle.go_rules.specs.GoTypes.Defined.{Defined, under, methods}
+use Rattle.go_rules.specs.GoTypes.Primary.{find_method}
+use Rattle.go_rules.specs.GoTypes.Entities.{Entity, variable, stand_in, Env, meaning, defined_in, Binds, extend, in_block}
+use Rattle.go_rules.specs.GoTypes.TypeNames.{func_type}
+use Rattle.go_rules.specs.GoTypes.Operands.{Operand, value}
+use Rattle.go_rules.specs.GoTypes.Literals.{is_struct, key_type, inner_type}
+use Rattle.go_rules.specs.GoTypes.Statements.{bound_names}
+use Rattle.go_rules.specs.GoTypes.Typing.{parts, binds_of, new_variables, right_values}
 use Rattle.form_meaning.specs.FormInPlace.Places.{at_place, Landing, SelectorAlike, results_in}
 use Rattle.form_meaning.specs.FormInPlace.Bound.{inner_under, stmt_binds, first_binds, range_left_binds, literal_binds, variable_binds, literal_under}
 use Rattle.form_meaning.specs.FormInPlace.Leaves.{Leaf, member, imported, own, argument, WrittenParams}
@@ -26,7 +26,7 @@ use Rattle.form_meaning.proofs.FormInPlace.Shapes.{declared_alike, first_declare
 use Rattle.form_meaning.proofs.FormInPlace.InPlace.{type_there, type_option_there, literal_binds_there, sig_names_there, parts_there, all_there, places_there, declares_there, declares_first_there, range_declares_there}
 use Rattle.go_translation.specs.Values.{typed_of}
 use Rattle.go_translation.specs.Mentions.{Way, Read, Stored, Addressed, Deferred, Mention, mention, callee_way, variable_mention, in_deferred, literal_mentions, is_pointer, operand_way, unary_way, beyond_names, beyond, within_names, group_mentions, own_mentions, stored_again, mentions, mentions_all, mentions_option, mentions_left, mentions_elems, mentions_key, mentions_value, mentions_stmt, mentions_stmts, mentions_first, mentions_block, mentions_range, mentions_arms, mentions_cases, mentions_specs, any_mention}
-use Rattle.go_tree.proofs.GoTypes.Agreeing.{among_right}
+use Rattle.go_rules.proofs.GoTypes.Agreeing.{among_right}
 
 -- of these names, two lists have the same mentions
 pub record MentionsAlike (declared : List (List ℕ)) (xs ys : List Mention) : Type 0 where
@@ -171,7 +171,7 @@ if_true_mentions true xs ys e = same_mentions
 if_true_mentions false xs ys e = absurd (grind (arith, e))
 
 -- how the operand of a selector stands is alike in both packages
-operand_alike : (ds : List Defined) (home p : ℕ) (n : List ℕ) (w : Way) (o : Option Operand) → ((t : GoType) (c : Rattle.go_tree.specs.GoTypes.Entities.Content) → o ≡ Some (value t c) → SelectorAlike ds home p n t) → operand_way ds home n w (typed_of o) ≡ operand_way ds p n w (typed_of o)
+operand_alike : (ds : List Defined) (home p : ℕ) (n : List ℕ) (w : Way) (o : Option Operand) → ((t : GoType) (c : Rattle.go_rules.specs.GoTypes.Entities.Content) → o ≡ Some (value t c) → SelectorAlike ds home p n t) → operand_way ds home n w (typed_of o) ≡ operand_way ds p n w (typed_of o)
 operand_alike ds home p n w None f = refl
 operand_alike ds home p n Read (Some (value t c)) f = λ i. if is_none (field_seen ds home p n t (f t c refl) i) && (is_none (base_of t) && meets (find_method n (methods ds t)) (λ m. m.pointer)) then Addressed else (if is_pointer ds t then Read else Read)
 operand_alike ds home p n Stored (Some (value t c)) f = λ i. if is_none (field_seen ds home p n t (f t c refl) i) && (is_none (base_of t) && meets (find_method n (methods ds t)) (λ m. m.pointer)) then Addressed else (if is_pointer ds t then Read else Stored)
@@ -184,7 +184,7 @@ stored_there p r a m ns = subst (λ z. MentionsAlike r (stored_again a ns) z) (g
   where
     go : (ns : List (List ℕ)) → stored_again a ns ≡ stored_again (at_place a m p) ns
     go [] = refl
-    go (n ∷ ns) = ap (λ l. if Rattle.go_tree.specs.GoTypes.Entities.is_declared_here a n then mention Stored n ∷ l else l) (go ns)
+    go (n ∷ ns) = ap (λ l. if Rattle.go_rules.specs.GoTypes.Entities.is_declared_here a n then mention Stored n ∷ l else l) (go ns)
 
 module _ {S : Type 0} (site : Landing) (bound : site.puts ≡ false) where
   leaf_mentions : {r : List (List ℕ)} {a : Env} {m : Environment Entity} {x e : Expr S} (w : Way) → Leaf site r a m x e → MentionsAlike r (mentions w a x) (mentions w (at_place a m site.home) e)

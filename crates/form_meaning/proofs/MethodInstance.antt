@@ -6,12 +6,12 @@ use Rattle.std.proofs.lemmas.Slice.Eq.{bytes_eq-Decides}
 use Rattle.go_tree.specs.declared.exprs.Rest.TheVariants.{Plain}
 use Rattle.go_tree.specs.declared.operators.BinOp.TheVariants.{Add}
 use Rattle.go_tree.specs.Tree.{Sig, func_lit, Stmts}
-use Rattle.go_tree.specs.declared.const_eval.kinds.Kind.TheVariants as kind
-use Rattle.go_tree.specs.ScopeNames.Means.{Environment, means}
-use Rattle.go_tree.specs.GoTypes.Answers.{is_among}
-use Rattle.go_tree.specs.GoTypes.Types.{GoType, basic, named_type, struct_of, go_field, no_go_fields, FuncType}
-use Rattle.go_tree.specs.GoTypes.Entities.{Entity, variable, type_name, function, universe, World}
-use Rattle.go_tree.specs.GoTypes.Collect.{collected}
+use Rattle.go_rules.specs.declared.const_eval.kinds.Kind.TheVariants as kind
+use Rattle.go_rules.specs.ScopeNames.Means.{Environment, means}
+use Rattle.go_rules.specs.GoTypes.Answers.{is_among}
+use Rattle.go_rules.specs.GoTypes.Types.{GoType, basic, named_type, struct_of, go_field, no_go_fields, FuncType}
+use Rattle.go_rules.specs.GoTypes.Entities.{Entity, variable, type_name, function, universe, World}
+use Rattle.go_rules.specs.GoTypes.Collect.{collected}
 use Rattle.go_kernel.specs.Kernel.{FuncName, Program, Call}
 use Rattle.go_translation.specs.Here.{Here, in_frame}
 use Rattle.go_translation.specs.Packages.{Package, sources, paths_in, codes_of, program_of}
@@ -23,7 +23,7 @@ use Rattle.form_meaning.proofs.FormInPlace.TypesInPlace.{type_kept}
 use Rattle.form_meaning.specs.CallMeaning.{MethodCallOf}
 use Rattle.form_meaning.proofs.Located.{same_name}
 use Rattle.form_meaning.proofs.CallTerms.{method_term_is}
-use Rattle.go_tree.proofs.GoTypes.Trees.{ty, st, par, sig, v, int, sel, es, app, bin, ss, ret, ev, vr, type_at, method_at, func_at, file, pack}
+use Rattle.go_rules.proofs.GoTypes.Trees.{ty, st, par, sig, v, int, sel, es, app, bin, ss, ret, ev, vr, type_at, method_at, func_at, file, pack}
 
 -- type C struct{ n int }; func (c C) Sum(x int) int { return x + x }; func main() { var v C; println(v.Sum(3)) }
 abbrev int_type : GoType

@@ -3,13 +3,13 @@ use Rattle.std.specs.Prelude.{◌≡◌, refl, ℕ, Bool, true, false, ◌||◌,
 use mathlib.Core.Path.{ap, ◌∙◌, subst}
 use Rattle.std.proofs.lemmas.Slice.Eq.{bytes_eq-Decides}
 use Rattle.std.proofs.Common.{arith}
-use Rattle.go_tree.specs.ScopeNames.Means.{binding, is_blank}
-use Rattle.go_tree.specs.GoTypes.Answers.{given, both, only_if, is_among}
-use Rattle.go_tree.specs.GoTypes.Types.{GoType}
-use Rattle.go_tree.specs.GoTypes.Entities.{Entity, variable, refused, Env, Binds, defined_in}
-use Rattle.go_tree.specs.GoTypes.Operands.{Typed}
-use Rattle.go_tree.specs.GoTypes.Statements.{bound_names, bind_all, bind_each, variable_entity, may_declare, variables_declared}
-use Rattle.go_tree.specs.GoTypes.Typing.{binds_or, binds_of, new_variables}
+use Rattle.go_rules.specs.ScopeNames.Means.{binding, is_blank}
+use Rattle.go_rules.specs.GoTypes.Answers.{given, both, only_if, is_among}
+use Rattle.go_rules.specs.GoTypes.Types.{GoType}
+use Rattle.go_rules.specs.GoTypes.Entities.{Entity, variable, refused, Env, Binds, defined_in}
+use Rattle.go_rules.specs.GoTypes.Operands.{Typed}
+use Rattle.go_rules.specs.GoTypes.Statements.{bound_names, bind_all, bind_each, variable_entity, may_declare, variables_declared}
+use Rattle.go_rules.specs.GoTypes.Typing.{binds_or, binds_of, new_variables}
 
 pub record Named (ns : List (List ℕ)) (bs : Binds) : Type 0 where
   pub own : (n : List ℕ) → is_among n (bound_names bs) ≡ true → is_among n ns ≡ true

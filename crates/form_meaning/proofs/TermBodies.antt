@@ -4,14 +4,14 @@ use mathlib.Core.Path.{ap, ap₂, sym, ◌∙◌, subst}
 use Rattle.std.proofs.lemmas.Slice.Eq.{bytes_eq-Decides}
 use Rattle.std.proofs.Common.{inl, inr, arith}
 use Rattle.go_tree.specs.Tree.{NameAt, Param, Sig}
-use Rattle.go_tree.specs.ScopeNames.Means.{Environment, is_blank}
-use Rattle.go_tree.specs.ScopeNames.FreeNames.{name_then, params_names, sig_names}
-use Rattle.go_tree.specs.GoTypes.Answers.{given, both, is_among, distinct_by}
-use Rattle.go_tree.specs.GoTypes.Types.{GoType, FuncType}
-use Rattle.go_tree.specs.GoTypes.Entities.{Entity, variable, Env, Binds, in_block}
-use Rattle.go_tree.specs.GoTypes.TypeNames.{func_type, params_meant, type_meant}
-use Rattle.go_tree.specs.GoTypes.Statements.{bound_names, body_binds, param_binding, param_binds}
-use Rattle.go_tree.proofs.GoTypes.Agreeing.{Bound, binds, later, literal_cover}
+use Rattle.go_rules.specs.ScopeNames.Means.{Environment, is_blank}
+use Rattle.go_rules.specs.ScopeNames.FreeNames.{name_then, params_names, sig_names}
+use Rattle.go_rules.specs.GoTypes.Answers.{given, both, is_among, distinct_by}
+use Rattle.go_rules.specs.GoTypes.Types.{GoType, FuncType}
+use Rattle.go_rules.specs.GoTypes.Entities.{Entity, variable, Env, Binds, in_block}
+use Rattle.go_rules.specs.GoTypes.TypeNames.{func_type, params_meant, type_meant}
+use Rattle.go_rules.specs.GoTypes.Statements.{bound_names, body_binds, param_binding, param_binds}
+use Rattle.go_rules.proofs.GoTypes.Agreeing.{Bound, binds, later, literal_cover}
 use Rattle.go_kernel.specs.Kernel.{Name, named_result}
 use Rattle.form_meaning.specs.FormInPlace.Places.{Landing}
 use Rattle.form_meaning.specs.FormInPlace.Leaves.{WrittenParams, no_params, param_and}

@@ -3,11 +3,11 @@ use Rattle.std.specs.Prelude.{◌≡◌, refl, ℕ, Bool, true, false, List, Opt
 use mathlib.Core.Path.{ap, sym, ◌∙◌}
 use Rattle.std.proofs.Common.{arith}
 use Rattle.go_tree.specs.Tree.{Expr, ident}
-use Rattle.go_tree.specs.ScopeNames.Means.{Environment, means, is_blank}
-use Rattle.go_tree.specs.GoTypes.Answers.{given, is_among}
-use Rattle.go_tree.specs.GoTypes.Types.{GoType}
-use Rattle.go_tree.specs.GoTypes.Entities.{Entity, variable, stand_in, function, iota_name, Env, meaning, exported}
-use Rattle.go_tree.specs.GoTypes.Operands.{a_function, named_operand}
+use Rattle.go_rules.specs.ScopeNames.Means.{Environment, means, is_blank}
+use Rattle.go_rules.specs.GoTypes.Answers.{given, is_among}
+use Rattle.go_rules.specs.GoTypes.Types.{GoType}
+use Rattle.go_rules.specs.GoTypes.Entities.{Entity, variable, stand_in, function, iota_name, Env, meaning, exported}
+use Rattle.go_rules.specs.GoTypes.Operands.{a_function, named_operand}
 use Rattle.go_kernel.specs.Kernel.{ImportPath, Term}
 use Rattle.form_meaning.specs.FormInPlace.Places.{at_place, Landing, SameName, has_home, means_function}
 use Rattle.form_meaning.specs.FormInPlace.Leaves.{Leaf, member, imported, own, argument}
@@ -46,8 +46,8 @@ no_function : (a : Env) (p q : ImportPath) (n : List ℕ) (e : Option Entity) �
 no_function a p q n (Some (function f)) k = absurd (grind (arith, k))
 no_function a p q n (Some iota_name) k = go a.iota
   where
-    go : (i : Option ℕ) → named_callee p n (given i (λ i. Some (Rattle.go_tree.specs.GoTypes.Operands.value (Rattle.go_tree.specs.GoTypes.Types.untyped Rattle.go_tree.specs.declared.const_eval.kinds.Kind.TheVariants.UntypedInt) (Rattle.go_tree.specs.GoTypes.Entities.exact (Rattle.go_tree.specs.declared.const_eval.consts.Const.TheVariants.Whole (Rattle.std.specs.Prelude.pos i))))))
-        ≡ named_callee q n (given i (λ i. Some (Rattle.go_tree.specs.GoTypes.Operands.value (Rattle.go_tree.specs.GoTypes.Types.untyped Rattle.go_tree.specs.declared.const_eval.kinds.Kind.TheVariants.UntypedInt) (Rattle.go_tree.specs.GoTypes.Entities.exact (Rattle.go_tree.specs.declared.const_eval.consts.Const.TheVariants.Whole (Rattle.std.specs.Prelude.pos i))))))
+    go : (i : Option ℕ) → named_callee p n (given i (λ i. Some (Rattle.go_rules.specs.GoTypes.Operands.value (Rattle.go_rules.specs.GoTypes.Types.untyped Rattle.go_rules.specs.declared.const_eval.kinds.Kind.TheVariants.UntypedInt) (Rattle.go_rules.specs.GoTypes.Entities.exact (Rattle.go_rules.specs.declared.const_eval.consts.Const.TheVariants.Whole (Rattle.std.specs.Prelude.pos i))))))
+        ≡ named_callee q n (given i (λ i. Some (Rattle.go_rules.specs.GoTypes.Operands.value (Rattle.go_rules.specs.GoTypes.Types.untyped Rattle.go_rules.specs.declared.const_eval.kinds.Kind.TheVariants.UntypedInt) (Rattle.go_rules.specs.GoTypes.Entities.exact (Rattle.go_rules.specs.declared.const_eval.consts.Const.TheVariants.Whole (Rattle.std.specs.Prelude.pos i))))))
     go None = refl
     go (Some i) = refl
 no_function a p q n e k = refl

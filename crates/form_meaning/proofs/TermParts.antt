@@ -3,15 +3,15 @@ use Rattle.std.specs.Prelude.{◌≡◌, refl, ℕ, suc, Bool, true, false, not,
 use mathlib.Core.Path.{ap, ap₂, sym, ◌∙◌, subst}
 use Rattle.std.proofs.Common.{arith}
 use Rattle.go_tree.specs.Tree.{Expr, Exprs, ExprOption, Value, ValueOption, no_value, some_value, RangeLeft}
-use Rattle.go_tree.specs.ScopeNames.Means.{Environment, means, is_blank}
-use Rattle.go_tree.specs.GoTypes.Answers.{given, meets}
-use Rattle.go_tree.specs.GoTypes.Types.{GoType, GoFields, no_go_fields, go_field, fields_of, is_untyped}
-use Rattle.go_tree.specs.GoTypes.Defined.{Defined}
-use Rattle.go_tree.specs.GoTypes.Entities.{Content, Entity, Env, meaning, defined_in, is_declared_here}
-use Rattle.go_tree.specs.GoTypes.Operands.{Operand, value, Typed}
-use Rattle.go_tree.specs.GoTypes.Primary.{fields_in}
-use Rattle.go_tree.specs.GoTypes.Literals.{is_struct, field_key, key_type}
-use Rattle.go_tree.specs.GoTypes.Typing.{right_values}
+use Rattle.go_rules.specs.ScopeNames.Means.{Environment, means, is_blank}
+use Rattle.go_rules.specs.GoTypes.Answers.{given, meets}
+use Rattle.go_rules.specs.GoTypes.Types.{GoType, GoFields, no_go_fields, go_field, fields_of, is_untyped}
+use Rattle.go_rules.specs.GoTypes.Defined.{Defined}
+use Rattle.go_rules.specs.GoTypes.Entities.{Content, Entity, Env, meaning, defined_in, is_declared_here}
+use Rattle.go_rules.specs.GoTypes.Operands.{Operand, value, Typed}
+use Rattle.go_rules.specs.GoTypes.Primary.{fields_in}
+use Rattle.go_rules.specs.GoTypes.Literals.{is_struct, field_key, key_type}
+use Rattle.go_rules.specs.GoTypes.Typing.{right_values}
 use Rattle.go_kernel.specs.Kernel.{Term, Local, temporary, Let}
 use Rattle.form_meaning.specs.FormInPlace.Places.{at_place, Landing, AllSame, SeenFields, SeenIn, SelectorAlike}
 use Rattle.form_meaning.specs.FormInPlace.Written.{Written, WrittenAll, all_none, all_and, WrittenOption, option_none, option_some, WrittenKey, key_none, key_field, key_some, WrittenValue, value_plain, value_braced, WrittenLeft, left_none, left_assigns, left_defines}
@@ -45,7 +45,7 @@ field_alike ds home p n (Some o) f = refl
 
 -- a struct is no map
 pub struct_no_map : (u : GoType) (x y e : Term) → is_struct u ≡ true → keyed_term u x e ≡ keyed_term u y e
-struct_no_map (Rattle.go_tree.specs.GoTypes.Types.map_of k t) x y e s = absurd (grind (arith, s))
+struct_no_map (Rattle.go_rules.specs.GoTypes.Types.map_of k t) x y e s = absurd (grind (arith, s))
 struct_no_map u x y e s = refl
 
 no_fields_of : (fs : Option GoFields) → is_some fs ≡ false → fs ≡ None

@@ -4,20 +4,20 @@ use mathlib.Core.Path.{ap, sym, ◌∙◌, subst}
 use Rattle.std.proofs.Common.{inl, inr, arith}
 use Rattle.go_tree.specs.declared.exprs.Rest.{Rest}
 use Rattle.go_tree.specs.Tree.{NameAt, Sig, TypeExpr, Expr, call, binary, Exprs, ExprOption, Elems, elem, Value, ValueOption, no_value, some_value, Stmt, Stmts, StmtOption, BlockOption, RangeLeft, nothing, assigns, defines, Arms, Cases, ValueSpecs, spec}
-use Rattle.go_tree.specs.declared.const_eval.kinds.Kind.TheVariants as kind
-use Rattle.go_tree.specs.declared.const_eval.consts.Const.TheVariants.{Whole}
-use Rattle.go_tree.specs.ScopeNames.Means.{Environment, is_blank}
-use Rattle.go_tree.specs.ScopeNames.FreeNames.{names_of, specs_names, declared}
-use Rattle.go_tree.specs.GoTypes.Answers.{given, meets, is_among}
-use Rattle.go_tree.specs.GoTypes.Types.{GoType, GoFields, basic, FuncType, fields_of}
-use Rattle.go_tree.specs.GoTypes.Defined.{under}
-use Rattle.go_tree.specs.GoTypes.Entities.{run, Entity, Env, exported, Binds, extend, in_block}
-use Rattle.go_tree.specs.GoTypes.TypeNames.{type_meant, func_type, written_type}
-use Rattle.go_tree.specs.GoTypes.Operands.{a_type, named_operand, spread}
-use Rattle.go_tree.specs.GoTypes.Literals.{key_type, inner_type, literal_type, is_struct}
-use Rattle.go_tree.specs.GoTypes.Statements.{body_binds, bound_names, no_values}
-use Rattle.go_tree.specs.GoTypes.Typing.{parts, all_parts, places, declares, binds_of, new_variables, right_values, step_op}
-use Rattle.go_tree.proofs.GoTypes.Agreeing.{declares_cover, of_covers}
+use Rattle.go_rules.specs.declared.const_eval.kinds.Kind.TheVariants as kind
+use Rattle.go_rules.specs.declared.const_eval.consts.Const.TheVariants.{Whole}
+use Rattle.go_rules.specs.ScopeNames.Means.{Environment, is_blank}
+use Rattle.go_rules.specs.ScopeNames.FreeNames.{names_of, specs_names, declared}
+use Rattle.go_rules.specs.GoTypes.Answers.{given, meets, is_among}
+use Rattle.go_rules.specs.GoTypes.Types.{GoType, GoFields, basic, FuncType, fields_of}
+use Rattle.go_rules.specs.GoTypes.Defined.{under}
+use Rattle.go_rules.specs.GoTypes.Entities.{run, Entity, Env, exported, Binds, extend, in_block}
+use Rattle.go_rules.specs.GoTypes.TypeNames.{type_meant, func_type, written_type}
+use Rattle.go_rules.specs.GoTypes.Operands.{a_type, named_operand, spread}
+use Rattle.go_rules.specs.GoTypes.Literals.{key_type, inner_type, literal_type, is_struct}
+use Rattle.go_rules.specs.GoTypes.Statements.{body_binds, bound_names, no_values}
+use Rattle.go_rules.specs.GoTypes.Typing.{parts, all_parts, places, declares, binds_of, new_variables, right_values, step_op}
+use Rattle.go_rules.proofs.GoTypes.Agreeing.{declares_cover, of_covers}
 use Rattle.go_kernel.specs.Kernel.{Name, Truth, Checked, Load, MapGet, MapTry, Slicing, Alloc, Compare, Equal, in_cells, temporary, break_label, Term, Vals, Local, Both, Prim, If, Let, Leave, Catch, Field}
 use Rattle.form_meaning.specs.FormInPlace.Places.{at_place, Landing, KeysIn, results_in}
 use Rattle.form_meaning.specs.FormInPlace.Leaves.{member, imported, own, argument, WrittenType, WrittenParams}
@@ -60,12 +60,12 @@ answer_each {o = None} b k l e f = ap (λ z. answer_or b z l) e
 answer_each {o = Some x} b k l e f = f x refl ∙ ap (λ z. answer_or b z l) e
 
 -- the type of an element that typing has is the one that the translation has
-inner_is : (ds : List Rattle.go_tree.specs.GoTypes.Defined.Defined) (u z : GoType) (i : ℕ) → inner_type ds u ≡ Some z → z ≡ element_type ds u i
-inner_is ds (Rattle.go_tree.specs.GoTypes.Types.slice_of t) z i e = sym (ap (type_or z) e)
-inner_is ds (Rattle.go_tree.specs.GoTypes.Types.map_of q t) z i e = sym (ap (type_or z) e)
+inner_is : (ds : List Rattle.go_rules.specs.GoTypes.Defined.Defined) (u z : GoType) (i : ℕ) → inner_type ds u ≡ Some z → z ≡ element_type ds u i
+inner_is ds (Rattle.go_rules.specs.GoTypes.Types.slice_of t) z i e = sym (ap (type_or z) e)
+inner_is ds (Rattle.go_rules.specs.GoTypes.Types.map_of q t) z i e = sym (ap (type_or z) e)
 inner_is ds u z i e = absurd (grind (arith, e))
 
-some_is : (o : Option GoType) (t : GoType) (ds : List Rattle.go_tree.specs.GoTypes.Defined.Defined) → is_some o ≡ true → ((z : GoType) → o ≡ Some z → z ≡ t) → given o (λ t. Some (under ds (literal_type ds t))) ≡ Some (under ds (literal_type ds t))
+some_is : (o : Option GoType) (t : GoType) (ds : List Rattle.go_rules.specs.GoTypes.Defined.Defined) → is_some o ≡ true → ((z : GoType) → o ≡ Some z → z ≡ t) → given o (λ t. Some (under ds (literal_type ds t))) ≡ Some (under ds (literal_type ds t))
 some_is None t ds c f = absurd (grind (arith, c))
 some_is (Some z) t ds c f = ap (λ y. Some (under ds (literal_type ds y))) (f z refl)
 

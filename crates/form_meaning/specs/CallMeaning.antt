@@ -2,10 +2,10 @@
 -- specification, "Calls", "Function literals", "Defer statements").
 use Rattle.std.specs.Prelude.{◌≡◌, ℕ, true, false, List, [], ◌∷◌, Some, None}
 use Rattle.go_tree.specs.Tree.{Sig, Expr, func_lit, Stmts}
-use Rattle.go_tree.specs.ScopeNames.Means.{Environment, means, is_blank}
-use Rattle.go_tree.specs.GoTypes.Answers.{is_among}
-use Rattle.go_tree.specs.GoTypes.Types.{GoType}
-use Rattle.go_tree.specs.GoTypes.Entities.{Entity, in_block}
+use Rattle.go_rules.specs.ScopeNames.Means.{Environment, means, is_blank}
+use Rattle.go_rules.specs.GoTypes.Answers.{is_among}
+use Rattle.go_rules.specs.GoTypes.Types.{GoType}
+use Rattle.go_rules.specs.GoTypes.Entities.{Entity, in_block}
 use Rattle.go_kernel.specs.Kernel.{FuncName, Program}
 use Rattle.form_meaning.specs.FormInPlace.CalledLiteral.{declared_at, landing_at}
 use Rattle.form_meaning.specs.FormInPlace.Written.{Written}

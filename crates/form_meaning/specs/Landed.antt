@@ -1,9 +1,9 @@
 -- Where a body lands: other names, maybe another package, and other local variables around (Go specification,
 -- "Declarations and scope", "Blocks").
 use Rattle.std.specs.Prelude.{◌≡◌, ℕ, true, false, List, Some, None}
-use Rattle.go_tree.specs.ScopeNames.Means.{Environment, means, is_blank}
-use Rattle.go_tree.specs.GoTypes.Answers.{is_among}
-use Rattle.go_tree.specs.GoTypes.Entities.{Entity}
+use Rattle.go_rules.specs.ScopeNames.Means.{Environment, means, is_blank}
+use Rattle.go_rules.specs.GoTypes.Answers.{is_among}
+use Rattle.go_rules.specs.GoTypes.Entities.{Entity}
 use Rattle.form_meaning.specs.FormInPlace.Places.{at_place}
 use Rattle.go_translation.specs.Here.{Location, Here}
 

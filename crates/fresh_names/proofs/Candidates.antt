@@ -3,7 +3,7 @@ use Rattle.std.proofs.Common.{◌≡◌, refl, sym, ap, ◌∙◌, ℕ, zero, su
 use Rattle.std.specs.Prelude.{decimal}
 use Rattle.std.proofs.lemmas.List.{append_cancel_left, length-append}
 use Rattle.go_tree.specs.GoWords.Tokens.Pieces.{is_among}
-use Rattle.go_tree.specs.ScopeNames.Fresh.{candidate}
+use Rattle.go_rules.specs.ScopeNames.Fresh.{candidate}
 use Rattle.run_rules.proofs.ImportRules.NeededMeans.{same_name}
 use Rattle.fresh_names.proofs.Decimals.{told_apart, some-digit, all-differ, Told, told}
 

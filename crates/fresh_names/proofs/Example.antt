@@ -4,7 +4,7 @@ use Rattle.std.specs.Fmt.{digits}
 use Rattle.go_tree.specs.declared.spans.Span.{Span}
 use Rattle.go_tree.specs.File.{File}
 use Rattle.go_tree.specs.GoWords.Tokens.Pieces.{keyword_spellings}
-use Rattle.go_tree.specs.ScopeNames.Fresh.{candidate, is_new, IsFresh}
+use Rattle.go_rules.specs.ScopeNames.Fresh.{candidate, is_new, IsFresh}
 use Rattle.run_rules.specs.Naming.{no_span, fresh_name}
 use Rattle.fresh_names.specs.Laws.{IsNewCandidate}
 use Rattle.fresh_names.proofs.Found.{found-first}

@@ -4,9 +4,9 @@ use Rattle.std.proofs.lemmas.Bool.{eqb-true, eqb-false, cases_lt}
 use Rattle.std.proofs.lemmas.List.{length-append}
 use Rattle.go_tree.specs.File.{File}
 use Rattle.go_tree.specs.GoWords.Tokens.Pieces.{keyword_spellings, is_among}
-use Rattle.go_tree.specs.ScopeNames.Identifiers.{identifiers}
-use Rattle.go_tree.specs.ScopeNames.Means.{predeclared}
-use Rattle.go_tree.specs.ScopeNames.Fresh.{candidate, is_new, IsFirst, IsFresh}
+use Rattle.go_rules.specs.ScopeNames.Identifiers.{identifiers}
+use Rattle.go_rules.specs.ScopeNames.Means.{predeclared}
+use Rattle.go_rules.specs.ScopeNames.Fresh.{candidate, is_new, IsFirst, IsFresh}
 use Rattle.run_rules.proofs.ImportRules.NeededMeans.{any_append, own_eq}
 use Rattle.run_rules.specs.ImportRules.Needs.{serving, avoided, IsNeeded, there, new}
 use Rattle.pkg_graph.specs.Package.{Package}

@@ -3,7 +3,7 @@
 use Rattle.std.specs.Prelude.{◌≡◌, ℕ, ◌≤◌, ◌<◌, ◌+◌, ◌^◌, true, false, List, length}
 use Rattle.go_tree.specs.File.{File}
 use Rattle.go_tree.specs.GoWords.Tokens.Pieces.{is_among}
-use Rattle.go_tree.specs.ScopeNames.Fresh.{candidate, is_new, IsFresh}
+use Rattle.go_rules.specs.ScopeNames.Fresh.{candidate, is_new, IsFresh}
 use Rattle.pkg_graph.specs.Package.{Package}
 use Rattle.run_rules.specs.ImportRules.Needs.{avoided, IsNeeded}
 use Rattle.run_rules.specs.Surroundings.{Place}

@@ -2,12 +2,12 @@
 use Rattle.std.proofs.Common.{◌≡◌, ◌∙◌, ◌++◌, ◌<◌, List, [], ◌∷◌, Option, Some, None, Result, Ok, Err, IfOk, OnOk, OnErr, ℕ, refl, sym, ap, ap₂, subst, length, map}
 use Rattle.go_tree.specs.declared.spans.Span.{Span}
 use Rattle.go_tree.specs.Tree.{Param}
-use Rattle.go_tree.specs.declared.const_eval.consts.Const.{Const}
-use Rattle.go_tree.specs.GoTypes.Answers.{both, given}
-use Rattle.go_tree.specs.GoTypes.Types as go
-use Rattle.go_tree.specs.GoTypes.Types.{GoType, GoTypes}
-use Rattle.go_tree.specs.GoTypes.Table.{tuple_node}
-use Rattle.go_tree.specs.GoTypes.TypeNames.{params_meant, type_meant}
+use Rattle.go_rules.specs.declared.const_eval.consts.Const.{Const}
+use Rattle.go_rules.specs.GoTypes.Answers.{both, given}
+use Rattle.go_rules.specs.GoTypes.Types as go
+use Rattle.go_rules.specs.GoTypes.Types.{GoType, GoTypes}
+use Rattle.go_rules.specs.GoTypes.Table.{tuple_node}
+use Rattle.go_rules.specs.GoTypes.TypeNames.{params_meant, type_meant}
 use Rattle.type_table.specs.TypeRelations.Environment.{Environment, env_type, with_type}
 use Rattle.type_table.specs.ValueTypes.ValueTypes.{HasValueTypes}
 use Rattle.type_table.proofs.ValueTypes.ValueLemmas.{value_types_stay, values_same}

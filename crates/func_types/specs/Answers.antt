@@ -1,8 +1,8 @@
 -- What an answer tells of the types of parameters and results, and of the type of a function (Go specification,
 -- Function types).
 use Rattle.std.specs.Prelude.{◌≡◌, List, [], ◌∷◌, map, Option, Some, None, Result, Ok, Err}
-use Rattle.go_tree.specs.GoTypes.Types as go
-use Rattle.go_tree.specs.GoTypes.Types.{GoType}
+use Rattle.go_rules.specs.GoTypes.Types as go
+use Rattle.go_rules.specs.GoTypes.Types.{GoType}
 use Rattle.type_table.specs.TypeRelations.Environment.{Environment, env_type}
 use Rattle.type_table.specs.declared.type_relations.methods.FuncType.{FuncType}
 use Rattle.type_table.specs.declared.nodes.TypeId.{TypeId}

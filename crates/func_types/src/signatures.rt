@@ -1,11 +1,11 @@
 //! The types of parameters and results (Go specification, Function types).
 
 ghost use Rattle.std.specs.Prelude.{List, Option, Some, map, length};
-ghost use Rattle.go_tree.specs.declared.const_eval.consts.Const.{Const};
+ghost use Rattle.go_rules.specs.declared.const_eval.consts.Const.{Const};
 ghost use Rattle.go_tree.specs.View.{param_of, sig_of};
-ghost use Rattle.go_tree.specs.GoTypes.Answers.{given};
-ghost use Rattle.go_tree.specs.GoTypes.Types.{GoType};
-ghost use Rattle.go_tree.specs.GoTypes.TypeNames as go;
+ghost use Rattle.go_rules.specs.GoTypes.Answers.{given};
+ghost use Rattle.go_rules.specs.GoTypes.Types.{GoType};
+ghost use Rattle.go_rules.specs.GoTypes.TypeNames as go;
 ghost use Rattle.type_table.specs.TypeRelations.Environment.{Environment};
 ghost use Rattle.type_flags.specs.Grown.{AreFlagsSoFar, DefinedBelow};
 ghost use Rattle.typed_names.specs.Known.{KnowsTypes};

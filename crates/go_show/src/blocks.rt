@@ -2,7 +2,7 @@
 //! Blocks; Import declarations).
 
 use file_names::{DeclaredName, NameKind, declared_names};
-use go_tree::scope_names::{FileNames, ImportList, ImportName, NameList};
+use go_rules::scope_names::{FileNames, ImportList, ImportName, NameList};
 use go_tree::{Decl, FileTree, ImportSpec, Name, NoMemory, Span, Text};
 use std::alloc::Global;
 

@@ -2,7 +2,7 @@
 //! declarations; Method declarations; Program execution).
 
 ghost use Rattle.std.specs.Prelude.{◌≡◌, ◌<◌, ◌≤◌, ◌^◌, All, IfOk, None, OnOk, length};
-ghost use Rattle.go_tree.specs.GoTypes.WellTyped.{refused_place};
+ghost use Rattle.go_rules.specs.GoTypes.WellTyped.{refused_place};
 ghost use Rattle.package_blocks.specs.Collected.{AreOrdered};
 ghost use Rattle.package_blocks.specs.Imports.{views};
 ghost use Rattle.package_blocks.specs.FuncHeaders.Functions.{program_of};

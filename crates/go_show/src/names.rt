@@ -8,7 +8,7 @@ ghost use Rattle.scope_tables.specs.Table.{IsTableOf};
 use crate::blocks::file_blocks;
 use crate::tree::write_fault;
 use go_parse::{Source, read_file};
-use go_tree::scope_names::{Entity, FileNames};
+use go_rules::scope_names::{Entity, FileNames};
 use go_tree::{FileTree, MAX_FILE_BYTES, Name, Span, Token, TokenKind};
 use scope_tables::{Scopes, scopes};
 use std::alloc::Global;

@@ -6,7 +6,7 @@ use crate::blocks::{file_blocks, file_imports};
 use crate::names::table_of;
 use crate::tree::write_fault;
 use go_parse::read_file;
-use go_tree::scope_names::{FileNames, NameList};
+use go_rules::scope_names::{FileNames, NameList};
 use go_tree::{FileTree, MAX_FILE_BYTES, Name, NoMemory, Text};
 use import_edit::{Needed, need};
 use std::alloc::Global;

@@ -4,7 +4,7 @@ ghost use Rattle.std.specs.Prelude.{◌≤◌, length};
 
 use crate::tree::write_fault;
 use go_parse::read_file;
-use go_tree::scope_names::NameList;
+use go_rules::scope_names::NameList;
 use go_tree::{Decl, FuncDecl, MAX_FILE_BYTES, VarSpec};
 use names_within::{binders, free_names};
 use std::alloc::Global;

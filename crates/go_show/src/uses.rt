@@ -7,7 +7,7 @@ ghost use Rattle.typed_names.specs.Known.{AllHaveTypes};
 use crate::blocks::file_imports;
 use crate::tree::write_fault;
 use go_parse::read_file;
-use go_tree::scope_names::ImportName;
+use go_rules::scope_names::ImportName;
 use go_tree::{Decl, FileTree, MAX_FILE_BYTES, NoMemory};
 use name_uses::{NameUses, decls_uses};
 use name_walks::NameSet;

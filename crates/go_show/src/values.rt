@@ -4,8 +4,8 @@ ghost use Rattle.initial_values.specs.ValueBlocks.Values.{AreThere};
 
 use crate::declarations::{Declarations, push_text};
 use crate::lines::push_hex;
+use go_rules::const_eval::{Const, Kind};
 use go_tree::NoMemory;
-use go_tree::const_eval::{Const, Kind};
 use itoa::Buffer;
 use std::alloc::Global;
 use type_table::TypeId;

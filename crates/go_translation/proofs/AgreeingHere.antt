@@ -4,14 +4,14 @@ use mathlib.Core.Path.{ap, sym, subst}
 use Rattle.std.proofs.lemmas.Slice.Eq.{bytes_eq-Decides}
 use Rattle.std.proofs.Common.{inl, inr, arith}
 use Rattle.go_tree.specs.Tree.{NameAt, Param, Sig}
-use Rattle.go_tree.specs.ScopeNames.Means.{Environment, means, binding, is_blank}
-use Rattle.go_tree.specs.ScopeNames.FreeNames.{unless_declared, sig_names}
-use Rattle.go_tree.specs.GoTypes.Answers.{only_if, is_among, distinct_by}
-use Rattle.go_tree.specs.GoTypes.Types.{GoType, FuncType}
-use Rattle.go_tree.specs.GoTypes.Entities.{Entity, variable, Env, Binds, extend, in_block}
-use Rattle.go_tree.specs.GoTypes.Statements.{bound_names, param_binding, param_binds, body_binds}
-use Rattle.go_tree.specs.GoTypes.Agreement.{In, head, tail}
-use Rattle.go_tree.proofs.GoTypes.Agreeing.{on_first, on_second, agrees_in_block, Bound, binds, later, Covers, agrees_after, under_same}
+use Rattle.go_rules.specs.ScopeNames.Means.{Environment, means, binding, is_blank}
+use Rattle.go_rules.specs.ScopeNames.FreeNames.{unless_declared, sig_names}
+use Rattle.go_rules.specs.GoTypes.Answers.{only_if, is_among, distinct_by}
+use Rattle.go_rules.specs.GoTypes.Types.{GoType, FuncType}
+use Rattle.go_rules.specs.GoTypes.Entities.{Entity, variable, Env, Binds, extend, in_block}
+use Rattle.go_rules.specs.GoTypes.Statements.{bound_names, param_binding, param_binds, body_binds}
+use Rattle.go_rules.specs.GoTypes.Agreement.{In, head, tail}
+use Rattle.go_rules.proofs.GoTypes.Agreeing.{on_first, on_second, agrees_in_block, Bound, binds, later, Covers, agrees_after, under_same}
 use Rattle.go_translation.specs.Mentions.{Mention}
 use Rattle.go_translation.specs.Here.{Location, Here, in_inner, declaring, located, entity_location, location_at, located_name, located_names, name_option, name_options, param_locals, result_locals, at_body}
 use Rattle.go_translation.specs.Facts.{literal_names}

@@ -4,8 +4,8 @@ use Rattle.std.specs.List.{list_any, list_all}
 use mathlib.Core.Path.{ap, ap₂, sym, ◌∙◌}
 use Rattle.std.proofs.lemmas.List.Folds.{list_all-append, list_any-append}
 use Rattle.std.proofs.lemmas.Slice.Eq.{bytes_eq-Decides}
-use Rattle.go_tree.specs.GoTypes.Entities.{World}
-use Rattle.go_tree.specs.GoTypes.Programs.{Headed, headed_package, headed}
+use Rattle.go_rules.specs.GoTypes.Entities.{World}
+use Rattle.go_rules.specs.GoTypes.Programs.{Headed, headed_package, headed}
 use Rattle.go_kernel.specs.Kernel.{Name, ImportPath, FuncName, same_receiver, same_func, Func, Term, Vals, Local, Set, Both, Prim, If, Let, Loop, Leave, Catch, Within, Alone, Recover, Call, Defer, DeferLit}
 use Rattle.go_kernel.specs.Kernel as k
 use Rattle.go_translation.specs.Packages.{Package, PackageCode, sources, header_functions, header_initial, headers_functions, headers_initial, package_code, comes_first, inserted, in_path_order, one_by_one, functions_of}

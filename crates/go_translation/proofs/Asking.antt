@@ -4,12 +4,12 @@ use Rattle.go_tree.specs.declared.operators.UnOp.{UnOp}
 use Rattle.go_tree.specs.declared.operators.UnOp.TheVariants as un
 use Rattle.go_tree.specs.declared.operators.BinOp.{BinOp}
 use Rattle.go_tree.specs.declared.operators.BinOp.TheVariants as bin
-use Rattle.go_tree.specs.declared.const_eval.kinds.Kind.TheVariants as kind
-use Rattle.go_tree.specs.GoTypes.Types.{GoType, basic, slice_of, map_of, struct_of, untyped}
-use Rattle.go_tree.specs.GoTypes.Defined.{Defined, under}
-use Rattle.go_tree.specs.GoTypes.Entities.{Builtin, Append, Cap, Copy, Delete, Len, Make, New, Panic, Print, Println, Recover, exact}
-use Rattle.go_tree.specs.GoTypes.Operands.{Operand, value, Typed}
-use Rattle.go_tree.specs.GoTypes.Relations.{is_whole_number}
+use Rattle.go_rules.specs.declared.const_eval.kinds.Kind.TheVariants as kind
+use Rattle.go_rules.specs.GoTypes.Types.{GoType, basic, slice_of, map_of, struct_of, untyped}
+use Rattle.go_rules.specs.GoTypes.Defined.{Defined, under}
+use Rattle.go_rules.specs.GoTypes.Entities.{Builtin, Append, Cap, Copy, Delete, Len, Make, New, Panic, Print, Println, Recover, exact}
+use Rattle.go_rules.specs.GoTypes.Operands.{Operand, value, Typed}
+use Rattle.go_rules.specs.GoTypes.Relations.{is_whole_number}
 use Rattle.go_kernel.specs.Kernel.{Name, ImportPath, FuncName, Slot, InFrame, InCell, code, in_cells, Term, Vals, Local, Set, Both, Prim, If, Let, Loop, Leave, Catch, Within, Alone, Call, Defer, DeferLit}
 use Rattle.go_kernel.specs.Kernel as k
 use Rattle.go_kernel.specs.Forms.{give_slots, slot_names, return_to, return_to_slots}

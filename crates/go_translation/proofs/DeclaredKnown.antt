@@ -6,23 +6,23 @@ use Rattle.std.proofs.Common.{arith}
 use Rattle.std.proofs.lemmas.Slice.Eq.{bytes_eq-Decides}
 use Rattle.go_tree.specs.Tree.{NameAt, TypeExpr, Exprs, Sig}
 use Rattle.go_tree.specs.File.{TypeSpec, Receiver, Func as Function}
-use Rattle.go_tree.specs.ScopeNames.Means.{means, is_blank, binding}
-use Rattle.go_tree.specs.ScopeNames.FreeNames.{names_of}
-use Rattle.go_tree.specs.GoTypes.Answers.{given, both, only_if, answers_of}
-use Rattle.go_tree.specs.GoTypes.Types.{GoType, named_type, FuncType, type_name_of, base_of}
-use Rattle.go_tree.specs.GoTypes.Defined.{Method}
-use Rattle.go_tree.specs.GoTypes.Entities.{Entity, variable, constant, stand_in, type_name, function, package_name, builtin, nil_name, iota_name, refused, World, Env, Binds, meaning, type_of_name, defined_in}
-use Rattle.go_tree.specs.GoTypes.TypeNames.{func_type, written_type}
-use Rattle.go_tree.specs.GoTypes.Operands.{Operand, Typed, all_typed}
-use Rattle.go_tree.specs.GoTypes.Declarations.{bind_all, bind_each, constant_entity, variable_entity}
-use Rattle.go_tree.specs.GoTypes.Bodies.{body_binds, no_values}
-use Rattle.go_tree.specs.GoTypes.Typing.{all_parts}
-use Rattle.go_tree.specs.GoTypes.Initial.{all_initial}
-use Rattle.go_tree.specs.GoTypes.Bodiless.{all_bodiless}
-use Rattle.go_tree.specs.GoTypes.Programs.{Header, constants, variables, a_type_spec, a_func, func_of, spec_of, Headed, header_names, env_of}
-use Rattle.go_tree.specs.GoTypes.Collect.{DeclaredTypes, type_entity, spec_type, good_entity, is_good_type, package_constants, package_variables, may_be_main, function_declared, func_declared, declared_by, binds_or_refused}
-use Rattle.go_tree.specs.GoTypes.MethodDeclarations.{DeclaredMethod, with_methods, receiver_type, receiver_binds, method_declared, method_header}
-use Rattle.go_tree.proofs.GoTypes.Agreeing.{from_given}
+use Rattle.go_rules.specs.ScopeNames.Means.{means, is_blank, binding}
+use Rattle.go_rules.specs.ScopeNames.FreeNames.{names_of}
+use Rattle.go_rules.specs.GoTypes.Answers.{given, both, only_if, answers_of}
+use Rattle.go_rules.specs.GoTypes.Types.{GoType, named_type, FuncType, type_name_of, base_of}
+use Rattle.go_rules.specs.GoTypes.Defined.{Method}
+use Rattle.go_rules.specs.GoTypes.Entities.{Entity, variable, constant, stand_in, type_name, function, package_name, builtin, nil_name, iota_name, refused, World, Env, Binds, meaning, type_of_name, defined_in}
+use Rattle.go_rules.specs.GoTypes.TypeNames.{func_type, written_type}
+use Rattle.go_rules.specs.GoTypes.Operands.{Operand, Typed, all_typed}
+use Rattle.go_rules.specs.GoTypes.Declarations.{bind_all, bind_each, constant_entity, variable_entity}
+use Rattle.go_rules.specs.GoTypes.Bodies.{body_binds, no_values}
+use Rattle.go_rules.specs.GoTypes.Typing.{all_parts}
+use Rattle.go_rules.specs.GoTypes.Initial.{all_initial}
+use Rattle.go_rules.specs.GoTypes.Bodiless.{all_bodiless}
+use Rattle.go_rules.specs.GoTypes.Programs.{Header, constants, variables, a_type_spec, a_func, func_of, spec_of, Headed, header_names, env_of}
+use Rattle.go_rules.specs.GoTypes.Collect.{DeclaredTypes, type_entity, spec_type, good_entity, is_good_type, package_constants, package_variables, may_be_main, function_declared, func_declared, declared_by, binds_or_refused}
+use Rattle.go_rules.specs.GoTypes.MethodDeclarations.{DeclaredMethod, with_methods, receiver_type, receiver_binds, method_declared, method_header}
+use Rattle.go_rules.proofs.GoTypes.Agreeing.{from_given}
 use Rattle.typed_in_place.proofs.MethodsAside.{type_meant_methods, under_methods}
 use Rattle.go_kernel.specs.Kernel.{Name, ImportPath, FuncName, same_func, Func, Term, Vals}
 use Rattle.go_kernel.specs.Scope.{has}

@@ -2,8 +2,8 @@
 use Rattle.std.specs.Prelude.{◌≡◌, ◌⊎◌, refl, bytes_eq, ℕ, suc, Bool, true, false, not, ◌&&◌, ◌||◌, List, [], ◌∷◌, ◌++◌, Option, Some, None, if◌then◌else◌}
 use Rattle.std.proofs.Common.{arith, inl, inr}
 use mathlib.Core.Path.{ap, sym, ◌∙◌, subst}
-use Rattle.go_tree.specs.ScopeNames.Means.{Environment, means, is_blank}
-use Rattle.go_tree.specs.GoTypes.Answers.{is_among}
+use Rattle.go_rules.specs.ScopeNames.Means.{Environment, means, is_blank}
+use Rattle.go_rules.specs.GoTypes.Answers.{is_among}
 use Rattle.go_kernel.specs.Kernel.{Name, temporary, named_result, result_name, Term, code}
 use Rattle.go_kernel.specs.Scope.{has, slot_name}
 use Rattle.go_translation.specs.Mentions.{Mention, any_mention, is_addressed, is_stored, is_held, is_held_param, beyond_names}

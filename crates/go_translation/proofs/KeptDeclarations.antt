@@ -4,15 +4,15 @@ use Rattle.std.proofs.Common.{arith, inl, inr}
 use mathlib.Core.Path.{ap, ap₂, sym, ◌∙◌, subst}
 use Rattle.std.proofs.lemmas.List.Folds.{list_any-append}
 use Rattle.go_tree.specs.Tree.{NameAt, Stmt, const_decl, var_decl, define, label, StmtOption, no_stmt, some_stmt, ValueSpecs, no_specs, spec}
-use Rattle.go_tree.specs.ScopeNames.Means.{Environment, means, is_blank}
-use Rattle.go_tree.specs.ScopeNames.FreeNames.{names_of, specs_names}
-use Rattle.go_tree.specs.GoTypes.Answers.{is_among, given}
-use Rattle.go_tree.specs.GoTypes.Entities.{Entity, variable, refused, Env, Binds, extend, is_declared_here}
-use Rattle.go_tree.specs.GoTypes.Operands.{Typed}
-use Rattle.go_tree.specs.GoTypes.TypeNames.{written_type}
-use Rattle.go_tree.specs.GoTypes.Statements.{bind_each, bound_names, Declared, no_values}
-use Rattle.go_tree.specs.GoTypes.Typing.{binds_of, declares_variables, new_variables, new_by_define, right_values, places, all_parts, used_variables, unused_after, and_then}
-use Rattle.go_tree.proofs.GoTypes.Agreeing.{from_given}
+use Rattle.go_rules.specs.ScopeNames.Means.{Environment, means, is_blank}
+use Rattle.go_rules.specs.ScopeNames.FreeNames.{names_of, specs_names}
+use Rattle.go_rules.specs.GoTypes.Answers.{is_among, given}
+use Rattle.go_rules.specs.GoTypes.Entities.{Entity, variable, refused, Env, Binds, extend, is_declared_here}
+use Rattle.go_rules.specs.GoTypes.Operands.{Typed}
+use Rattle.go_rules.specs.GoTypes.TypeNames.{written_type}
+use Rattle.go_rules.specs.GoTypes.Statements.{bind_each, bound_names, Declared, no_values}
+use Rattle.go_rules.specs.GoTypes.Typing.{binds_of, declares_variables, new_variables, new_by_define, right_values, places, all_parts, used_variables, unused_after, and_then}
+use Rattle.go_rules.proofs.GoTypes.Agreeing.{from_given}
 use Rattle.go_kernel.specs.Kernel.{Name, Slot, temporary, named_result, Term, Local, Let}
 use Rattle.go_kernel.specs.Scope.{has}
 use Rattle.go_translation.specs.Values as v

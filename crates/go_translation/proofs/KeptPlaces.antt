@@ -4,10 +4,10 @@ use Rattle.std.specs.Prelude.{◌≡◌, ◌⊎◌, refl, ℕ, suc, Bool, true, 
 use Rattle.std.proofs.Common.{arith, inl, inr}
 use mathlib.Core.Path.{ap, sym, ◌∙◌, subst}
 use Rattle.std.proofs.lemmas.Slice.Eq.{bytes_eq-Decides}
-use Rattle.go_tree.specs.ScopeNames.Means.{Environment, means, is_blank}
-use Rattle.go_tree.specs.GoTypes.Answers.{is_among}
-use Rattle.go_tree.specs.GoTypes.Entities.{Entity, variable, stand_in, function, Env, Binds, is_declared_here}
-use Rattle.go_tree.specs.GoTypes.Statements.{bound_names}
+use Rattle.go_rules.specs.ScopeNames.Means.{Environment, means, is_blank}
+use Rattle.go_rules.specs.GoTypes.Answers.{is_among}
+use Rattle.go_rules.specs.GoTypes.Entities.{Entity, variable, stand_in, function, Env, Binds, is_declared_here}
+use Rattle.go_rules.specs.GoTypes.Statements.{bound_names}
 use Rattle.go_kernel.specs.Kernel.{Name, Slot, InFrame, InCell, temporary, named_result}
 use Rattle.go_kernel.specs.Scope.{has, slot_name}
 use Rattle.go_translation.specs.Mentions.{Mention, is_addressed, is_stored, any_mention, is_held, in_deferred, beyond, beyond_names}

@@ -6,12 +6,12 @@ use Rattle.go_tree.specs.declared.operators.UnOp.{UnOp}
 use Rattle.go_tree.specs.declared.operators.UnOp.TheVariants as un
 use Rattle.go_tree.specs.declared.operators.BinOp.{BinOp}
 use Rattle.go_tree.specs.declared.operators.BinOp.TheVariants as bin
-use Rattle.go_tree.specs.declared.const_eval.kinds.Kind.TheVariants as kind
-use Rattle.go_tree.specs.GoTypes.Types.{GoType, basic, slice_of, map_of, struct_of, untyped}
-use Rattle.go_tree.specs.GoTypes.Defined.{Defined}
-use Rattle.go_tree.specs.GoTypes.Entities.{Builtin, Append, Cap, Copy, Delete, Len, Make, New, Panic, Print, Println, Recover, exact}
-use Rattle.go_tree.specs.GoTypes.Operands.{Operand, value, Typed}
-use Rattle.go_tree.specs.GoTypes.Relations.{is_whole_number}
+use Rattle.go_rules.specs.declared.const_eval.kinds.Kind.TheVariants as kind
+use Rattle.go_rules.specs.GoTypes.Types.{GoType, basic, slice_of, map_of, struct_of, untyped}
+use Rattle.go_rules.specs.GoTypes.Defined.{Defined}
+use Rattle.go_rules.specs.GoTypes.Entities.{Builtin, Append, Cap, Copy, Delete, Len, Make, New, Panic, Print, Println, Recover, exact}
+use Rattle.go_rules.specs.GoTypes.Operands.{Operand, value, Typed}
+use Rattle.go_rules.specs.GoTypes.Relations.{is_whole_number}
 use Rattle.go_kernel.specs.Kernel.{Name, ImportPath, Slot, InFrame, InCell, temporary, code, in_cells, Term, Vals, Local, Both, Prim, Let}
 use Rattle.go_kernel.specs.Kernel as k
 use Rattle.go_kernel.specs.Forms.{give_slots, return_to, return_to_slots}

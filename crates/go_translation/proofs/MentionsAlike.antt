@@ -1,23 +1,23 @@
 -- Which variables are held is alike wherever the names mean the same: what a part mentions.
 use Rattle.std.specs.Prelude.{◌≡◌, refl, ℕ, List, [], ◌++◌, length, Option, Some, if◌then◌else◌}
 use Rattle.go_tree.specs.Tree.{Expr, ident, int_lit, rune_lit, str_lit, composite, selector, index, slice, call, func_lit, type_operand, unary, binary, star, Exprs, no_exprs, expr_and, ExprOption, no_expr, some_expr, Elems, no_elems, elem, Value, plain, braced, ValueOption, no_value, some_value, Stmt, const_decl, var_decl, empty, eval, step, assign, define, return_, break_, continue_, inner, if_, for_, range_, switch, defer, label, Stmts, no_stmts, stmt_and, StmtOption, no_stmt, some_stmt, BlockOption, no_block, some_block, RangeLeft, nothing, assigns, defines, Arms, no_arms, arm, Cases, no_cases, case, ValueSpecs, no_specs, spec}
-use Rattle.go_tree.specs.ScopeNames.FreeNames.{names_of, sig_names, declared, declared_option, defined}
-use Rattle.go_tree.specs.GoTypes.Answers.{given, meets}
-use Rattle.go_tree.specs.GoTypes.Types.{GoType}
-use Rattle.go_tree.specs.GoTypes.Defined.{under}
-use Rattle.go_tree.specs.GoTypes.Entities.{Entity, Env, defined_in, Binds, extend, in_block}
-use Rattle.go_tree.specs.GoTypes.TypeNames.{written_type, func_type}
-use Rattle.go_tree.specs.GoTypes.Operands.{Operand, Typed}
-use Rattle.go_tree.specs.GoTypes.Literals.{is_struct, key_type, inner_type, literal_type}
-use Rattle.go_tree.specs.GoTypes.Statements.{bound_names, no_values, body_binds}
-use Rattle.go_tree.specs.GoTypes.Typing.{binds_or, parts, all_parts, places, declares, declares_first, range_declares, binds_of, new_variables, right_values}
+use Rattle.go_rules.specs.ScopeNames.FreeNames.{names_of, sig_names, declared, declared_option, defined}
+use Rattle.go_rules.specs.GoTypes.Answers.{given, meets}
+use Rattle.go_rules.specs.GoTypes.Types.{GoType}
+use Rattle.go_rules.specs.GoTypes.Defined.{under}
+use Rattle.go_rules.specs.GoTypes.Entities.{Entity, Env, defined_in, Binds, extend, in_block}
+use Rattle.go_rules.specs.GoTypes.TypeNames.{written_type, func_type}
+use Rattle.go_rules.specs.GoTypes.Operands.{Operand, Typed}
+use Rattle.go_rules.specs.GoTypes.Literals.{is_struct, key_type, inner_type, literal_type}
+use Rattle.go_rules.specs.GoTypes.Statements.{bound_names, no_values, body_binds}
+use Rattle.go_rules.specs.GoTypes.Typing.{binds_or, parts, all_parts, places, declares, declares_first, range_declares, binds_of, new_variables, right_values}
 use Rattle.go_translation.specs.Values.{typed_of}
 use mathlib.Core.Path.{ap, sym, ◌∙◌, subst}
-use Rattle.go_tree.specs.ScopeNames.Means.{Environment}
-use Rattle.go_tree.specs.ScopeNames.FreeNames.{free_type, free_type_option, free_params, free_expr, free_exprs, free_expr_option, free_elems, free_value, free_value_option, free_stmt, free_stmts, free_stmt_option, free_block_option, free_left, free_arms, free_cases, free_specs, arms_declared}
-use Rattle.go_tree.specs.GoTypes.Agreement.{with_names, On, Agrees}
-use Rattle.go_tree.proofs.GoTypes.Agreeing.{on_first, on_second, name_alike, agrees_in_block, agrees_after, declares_cover, first_cover, range_cover, of_covers, literal_cover, new_variables_cover}
-use Rattle.go_tree.proofs.GoTypes.TypingAlike.{parts-alike, all_parts-alike, places-alike, declares-alike, declares_first-alike, range_declares-alike}
+use Rattle.go_rules.specs.ScopeNames.Means.{Environment}
+use Rattle.go_rules.specs.ScopeNames.FreeNames.{free_type, free_type_option, free_params, free_expr, free_exprs, free_expr_option, free_elems, free_value, free_value_option, free_stmt, free_stmts, free_stmt_option, free_block_option, free_left, free_arms, free_cases, free_specs, arms_declared}
+use Rattle.go_rules.specs.GoTypes.Agreement.{with_names, On, Agrees}
+use Rattle.go_rules.proofs.GoTypes.Agreeing.{on_first, on_second, name_alike, agrees_in_block, agrees_after, declares_cover, first_cover, range_cover, of_covers, literal_cover, new_variables_cover}
+use Rattle.go_rules.proofs.GoTypes.TypingAlike.{parts-alike, all_parts-alike, places-alike, declares-alike, declares_first-alike, range_declares-alike}
 use Rattle.go_translation.proofs.SmallAlike.{or_covers, kept, append_in_turn, type_meant-alike, written_type-alike, func_type-alike}
 use Rattle.go_translation.specs.Mentions.{Way, Read, Stored, Deferred, Mention, variable_mention, callee_way, literal_mentions, operand_way, unary_way, beyond_names, beyond, within_names, group_mentions, own_mentions, stored_again, mentions, mentions_all, mentions_option, mentions_left, mentions_elems, mentions_key, mentions_value, mentions_stmt, mentions_stmts, mentions_first, mentions_block, mentions_range, mentions_arms, mentions_cases, mentions_specs}
 

@@ -1,17 +1,17 @@
 -- What a part mentions doesn't depend on spans.
 use Rattle.std.specs.Prelude.{◌≡◌, List, [], ◌++◌, Option, Some, if◌then◌else◌}
 use Rattle.go_tree.specs.Tree.{Expr, ident, int_lit, rune_lit, str_lit, composite, selector, index, slice, call, func_lit, type_operand, unary, binary, star, Exprs, no_exprs, expr_and, ExprOption, no_expr, some_expr, Elems, no_elems, elem, Value, plain, braced, ValueOption, no_value, some_value, Stmt, const_decl, var_decl, empty, eval, step, assign, define, return_, break_, continue_, inner, if_, for_, range_, switch, defer, label, Stmts, no_stmts, stmt_and, StmtOption, no_stmt, some_stmt, BlockOption, no_block, some_block, RangeLeft, nothing, assigns, defines, Arms, no_arms, arm, Cases, no_cases, case, ValueSpecs, no_specs, spec}
-use Rattle.go_tree.specs.GoTypes.Answers.{given, meets}
-use Rattle.go_tree.specs.GoTypes.Types.{GoType}
-use Rattle.go_tree.specs.GoTypes.Defined.{under}
-use Rattle.go_tree.specs.GoTypes.Entities.{Env, meaning, defined_in, Binds, extend, in_block}
-use Rattle.go_tree.specs.GoTypes.Literals.{is_struct, key_type, inner_type, literal_type}
-use Rattle.go_tree.specs.GoTypes.Statements.{bound_names}
-use Rattle.go_tree.specs.GoTypes.Typing.{binds_of, new_variables, right_values}
+use Rattle.go_rules.specs.GoTypes.Answers.{given, meets}
+use Rattle.go_rules.specs.GoTypes.Types.{GoType}
+use Rattle.go_rules.specs.GoTypes.Defined.{under}
+use Rattle.go_rules.specs.GoTypes.Entities.{Env, meaning, defined_in, Binds, extend, in_block}
+use Rattle.go_rules.specs.GoTypes.Literals.{is_struct, key_type, inner_type, literal_type}
+use Rattle.go_rules.specs.GoTypes.Statements.{bound_names}
+use Rattle.go_rules.specs.GoTypes.Typing.{binds_of, new_variables, right_values}
 use Rattle.go_translation.specs.Values.{typed_of}
 use Rattle.go_tree.specs.Bare.{bare_expr, bare_exprs, bare_expr_option, bare_elems, bare_value, bare_value_option, bare_stmt, bare_stmts, bare_stmt_option, bare_block_option, bare_range_left, bare_arms, bare_cases, bare_value_specs}
-use Rattle.go_tree.proofs.ScopeNames.FreeNamesBare.{names_of-bare, sig_names-bare, declared-bare, declared_option-bare, defined-bare}
-use Rattle.go_tree.proofs.GoTypes.TypingBare.{type_meant-bare, written_type-bare, parts-bare, all_parts-bare, places-bare, declares-bare, declares_first-bare, range_declares-bare}
+use Rattle.go_rules.proofs.ScopeNames.FreeNamesBare.{names_of-bare, sig_names-bare, declared-bare, declared_option-bare, defined-bare}
+use Rattle.go_rules.proofs.GoTypes.TypingBare.{type_meant-bare, written_type-bare, parts-bare, all_parts-bare, places-bare, declares-bare, declares_first-bare, range_declares-bare}
 use Rattle.go_translation.proofs.SmallBare.{length-bare, no_values-bare, literal_env-bare}
 use Rattle.go_translation.specs.Mentions.{Way, Read, Stored, Deferred, Mention, variable_mention, callee_way, literal_mentions, operand_way, unary_way, beyond_names, beyond, within_names, group_mentions, own_mentions, stored_again, mentions, mentions_all, mentions_option, mentions_left, mentions_elems, mentions_key, mentions_value, mentions_stmt, mentions_stmts, mentions_first, mentions_block, mentions_range, mentions_arms, mentions_cases, mentions_specs}
 

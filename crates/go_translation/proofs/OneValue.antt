@@ -6,18 +6,18 @@ use Rattle.go_tree.specs.declared.operators.UnOp.{UnOp}
 use Rattle.go_tree.specs.declared.operators.UnOp.TheVariants as un
 use Rattle.go_tree.specs.declared.operators.BinOp.{BinOp}
 use Rattle.go_tree.specs.declared.operators.BinOp.TheVariants as bin
-use Rattle.go_tree.specs.declared.const_eval.kinds.Kind.{Kind}
-use Rattle.go_tree.specs.ConstEval.Operators.{unary_value, binary_value, is_comparison}
-use Rattle.go_tree.specs.declared.const_eval.kinds.Kind.TheVariants.{UntypedBool}
-use Rattle.go_tree.specs.GoTypes.Answers.{given, only_if}
-use Rattle.go_tree.specs.GoTypes.Types.{GoType, untyped, pointer_to, base_of, element_of, map_parts, pointer_to, untyped_nil}
-use Rattle.go_tree.specs.GoTypes.Defined.{Defined, under}
-use Rattle.go_tree.specs.GoTypes.Entities.{Content, run, exact, Place}
-use Rattle.go_tree.specs.GoTypes.Operands.{leaves, with_value, Operand, value, a_type, a_function, recovered, Typed, typed, plain_value, fits, kind_of}
-use Rattle.go_tree.specs.GoTypes.Operators.{has_address, not_constant, calculated_operand, truth_operand, common_type, compared_at, arithmetic, logic, comparison, shifted_operand, shifting, other_binary, binary_value_operand, a_comparison, binary_of, changed_operand, unary_value_operand, address_of, unary_of, star_of}
-use Rattle.go_tree.specs.GoTypes.Primary.{is_addressable, find_method, field_type, method_of, method_value, selected, string_element, is_index, index_of, sliced_type, sliced}
-use Rattle.go_tree.specs.GoTypes.Defined.{methods}
-use Rattle.go_tree.proofs.GoTypes.Agreeing.{from_given}
+use Rattle.go_rules.specs.declared.const_eval.kinds.Kind.{Kind}
+use Rattle.go_rules.specs.ConstEval.Operators.{unary_value, binary_value, is_comparison}
+use Rattle.go_rules.specs.declared.const_eval.kinds.Kind.TheVariants.{UntypedBool}
+use Rattle.go_rules.specs.GoTypes.Answers.{given, only_if}
+use Rattle.go_rules.specs.GoTypes.Types.{GoType, untyped, pointer_to, base_of, element_of, map_parts, pointer_to, untyped_nil}
+use Rattle.go_rules.specs.GoTypes.Defined.{Defined, under}
+use Rattle.go_rules.specs.GoTypes.Entities.{Content, run, exact, Place}
+use Rattle.go_rules.specs.GoTypes.Operands.{leaves, with_value, Operand, value, a_type, a_function, recovered, Typed, typed, plain_value, fits, kind_of}
+use Rattle.go_rules.specs.GoTypes.Operators.{has_address, not_constant, calculated_operand, truth_operand, common_type, compared_at, arithmetic, logic, comparison, shifted_operand, shifting, other_binary, binary_value_operand, a_comparison, binary_of, changed_operand, unary_value_operand, address_of, unary_of, star_of}
+use Rattle.go_rules.specs.GoTypes.Primary.{is_addressable, find_method, field_type, method_of, method_value, selected, string_element, is_index, index_of, sliced_type, sliced}
+use Rattle.go_rules.specs.GoTypes.Defined.{methods}
+use Rattle.go_rules.proofs.GoTypes.Agreeing.{from_given}
 use Rattle.go_translation.proofs.ScopesOf.{some_same, from_both, from_only}
 use Rattle.go_translation.specs.Operators.{is_recovered}
 use Rattle.go_translation.proofs.Widths.{typed_one, IsOne, IsSelected, plain_one, constant_one}

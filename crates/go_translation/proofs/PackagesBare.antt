@@ -7,16 +7,16 @@ use Rattle.go_tree.specs.Tree.{NameAt, TypeExpr, Exprs}
 use Rattle.go_tree.specs.File.{Receiver, Func as Function}
 use Rattle.go_tree.specs.Bare.{bare_name, bare_type, bare_sig, bare_exprs}
 use Rattle.go_tree.specs.FileBare.{bare_receiver, bare_func}
-use Rattle.go_tree.specs.ScopeNames.Means.{binding}
-use Rattle.go_tree.proofs.ScopeNames.FreeNamesBare.{names_of-bare}
-use Rattle.go_tree.specs.GoTypes.Answers.{given}
-use Rattle.go_tree.specs.GoTypes.Types.{GoType, FuncType, named_type, pointer_to}
-use Rattle.go_tree.specs.GoTypes.Entities.{World, variable, Binds, extend, in_block, defined_in}
-use Rattle.go_tree.specs.GoTypes.Statements.{body_binds}
-use Rattle.go_tree.specs.GoTypes.Programs.{Header, constants, variables, a_type_spec, a_func, Headed, headed, headed_package}
-use Rattle.go_tree.specs.GoTypes.Collect.{env_of, receiver_type, receiver_binds, aliased_world, typed_world, collected}
-use Rattle.go_tree.specs.GoTypes.WellTyped.{receiver_of}
-use Rattle.go_tree.proofs.GoTypes.TypingBare.{written_type-bare, func_type-bare}
+use Rattle.go_rules.specs.ScopeNames.Means.{binding}
+use Rattle.go_rules.proofs.ScopeNames.FreeNamesBare.{names_of-bare}
+use Rattle.go_rules.specs.GoTypes.Answers.{given}
+use Rattle.go_rules.specs.GoTypes.Types.{GoType, FuncType, named_type, pointer_to}
+use Rattle.go_rules.specs.GoTypes.Entities.{World, variable, Binds, extend, in_block, defined_in}
+use Rattle.go_rules.specs.GoTypes.Statements.{body_binds}
+use Rattle.go_rules.specs.GoTypes.Programs.{Header, constants, variables, a_type_spec, a_func, Headed, headed, headed_package}
+use Rattle.go_rules.specs.GoTypes.Collect.{env_of, receiver_type, receiver_binds, aliased_world, typed_world, collected}
+use Rattle.go_rules.specs.GoTypes.WellTyped.{receiver_of}
+use Rattle.go_rules.proofs.GoTypes.TypingBare.{written_type-bare, func_type-bare}
 use Rattle.typed_in_place.specs.ProgramsAlike.{OneByOne, no_more, and_more}
 use Rattle.typed_in_place.specs.ImportRule.{SamePackage}
 use Rattle.typed_in_place.proofs.SpansAside.{types_spans_aside, aliases_spans_aside, values_spans_aside, bodies_spans_aside}

@@ -13,7 +13,7 @@ use Rattle.go_translation.proofs.PackagesBare.{shown-bare}
 use Rattle.go_translation.proofs.ProgramKept.{frames_kept}
 use Rattle.go_translation.proofs.Ranks.{program_ranked}
 use Rattle.go_translation.proofs.Shown.{main_package}
-use Rattle.go_tree.proofs.GoTypes.Trees.{ty, par, sig, v, int, app, ret, ev, dfr, func_at}
+use Rattle.go_rules.proofs.GoTypes.Trees.{ty, par, sig, v, int, app, ret, ev, dfr, func_at}
 
 -- func g(x int) int { return x }; func f(x int) int { return g(x) }; func main() { defer f(2); println(f(1)) }, each at
 -- the place that is given

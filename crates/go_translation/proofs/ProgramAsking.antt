@@ -7,20 +7,20 @@ use Rattle.std.proofs.Common.{arith}
 use Rattle.std.proofs.lemmas.Slice.Eq.{bytes_eq-Decides}
 use Rattle.go_tree.specs.Tree.{NameAt, TypeExpr, Exprs, Param}
 use Rattle.go_tree.specs.File.{Receiver, Func as Function}
-use Rattle.go_tree.specs.ScopeNames.Means.{Environment, means, is_blank, binding}
-use Rattle.go_tree.specs.ScopeNames.FreeNames.{names_of}
-use Rattle.go_tree.specs.GoTypes.Answers.{given, only_if, and_also}
-use Rattle.go_tree.specs.GoTypes.Types.{GoType, basic, named_type, pointer_to, slice_of, map_of, struct_of, tuple_of, untyped, untyped_nil, FuncType}
-use Rattle.go_tree.specs.GoTypes.Defined.{Method, Defined, methods, declared_methods, find_defined}
-use Rattle.go_tree.specs.GoTypes.Entities.{Entity, variable, constant, type_name, package_name, builtin, nil_name, iota_name, refused, universe, World, Binds, block_of, exported, is_exported, defined_in, extend, in_block}
-use Rattle.go_tree.specs.GoTypes.TypeNames.{func_type, written_type}
-use Rattle.go_tree.specs.GoTypes.Bodies.{param_binds, body_binds, no_values}
-use Rattle.go_tree.specs.GoTypes.Primary.{find_method}
-use Rattle.go_tree.specs.GoTypes.Programs.{SourceFile, Program, Import, import_entity, import_sound, file_block, constants, variables, a_type_spec, a_func, Header, Headed, headed_file, headed_files, headed_package, headed, header_names, all_headers, names_in, block_names, is_main}
-use Rattle.go_tree.specs.GoTypes.Collect.{env_of, collected, valued_world, types_declared, declared_by, binds_or_refused, block_by, blocks_by}
-use Rattle.go_tree.specs.GoTypes.MethodDeclarations.{MethodName, DeclaredMethod, is_new_method, methods_on, with_methods, receiver_type, receiver_binds, method_header, declared_on, methods_from}
-use Rattle.go_tree.specs.GoTypes.WellTyped.{receiver_of}
-use Rattle.go_tree.proofs.GoTypes.Agreeing.{from_given}
+use Rattle.go_rules.specs.ScopeNames.Means.{Environment, means, is_blank, binding}
+use Rattle.go_rules.specs.ScopeNames.FreeNames.{names_of}
+use Rattle.go_rules.specs.GoTypes.Answers.{given, only_if, and_also}
+use Rattle.go_rules.specs.GoTypes.Types.{GoType, basic, named_type, pointer_to, slice_of, map_of, struct_of, tuple_of, untyped, untyped_nil, FuncType}
+use Rattle.go_rules.specs.GoTypes.Defined.{Method, Defined, methods, declared_methods, find_defined}
+use Rattle.go_rules.specs.GoTypes.Entities.{Entity, variable, constant, type_name, package_name, builtin, nil_name, iota_name, refused, universe, World, Binds, block_of, exported, is_exported, defined_in, extend, in_block}
+use Rattle.go_rules.specs.GoTypes.TypeNames.{func_type, written_type}
+use Rattle.go_rules.specs.GoTypes.Bodies.{param_binds, body_binds, no_values}
+use Rattle.go_rules.specs.GoTypes.Primary.{find_method}
+use Rattle.go_rules.specs.GoTypes.Programs.{SourceFile, Program, Import, import_entity, import_sound, file_block, constants, variables, a_type_spec, a_func, Header, Headed, headed_file, headed_files, headed_package, headed, header_names, all_headers, names_in, block_names, is_main}
+use Rattle.go_rules.specs.GoTypes.Collect.{env_of, collected, valued_world, types_declared, declared_by, binds_or_refused, block_by, blocks_by}
+use Rattle.go_rules.specs.GoTypes.MethodDeclarations.{MethodName, DeclaredMethod, is_new_method, methods_on, with_methods, receiver_type, receiver_binds, method_header, declared_on, methods_from}
+use Rattle.go_rules.specs.GoTypes.WellTyped.{receiver_of}
+use Rattle.go_rules.proofs.GoTypes.Agreeing.{from_given}
 use Rattle.typed_in_place.proofs.Collected.{valued_settled}
 use Rattle.go_kernel.specs.Kernel.{Name, ImportPath, FuncName, Func, Vals, code, named_result}
 use Rattle.go_kernel.specs.Scope.{has}

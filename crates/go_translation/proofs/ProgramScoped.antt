@@ -3,15 +3,15 @@ use Rattle.std.specs.Prelude.{◌≡◌, refl, ℕ, Bool, true, false, List, [],
 use mathlib.Core.Path.{ap, subst}
 use Rattle.go_tree.specs.Tree.{NameAt, TypeExpr, Exprs}
 use Rattle.go_tree.specs.File.{Func as Function}
-use Rattle.go_tree.specs.ScopeNames.Means.{is_blank}
-use Rattle.go_tree.specs.ScopeNames.FreeNames.{names_of}
-use Rattle.go_tree.specs.GoTypes.Answers.{given}
-use Rattle.go_tree.specs.GoTypes.Types.{GoType, FuncType}
-use Rattle.go_tree.specs.GoTypes.Entities.{World, Binds, extend, in_block, defined_in}
-use Rattle.go_tree.specs.GoTypes.TypeNames.{func_type, written_type}
-use Rattle.go_tree.specs.GoTypes.Statements.{no_values}
-use Rattle.go_tree.specs.GoTypes.Programs.{Header, constants, variables, a_type_spec, a_func, Headed, headed_package}
-use Rattle.go_tree.specs.GoTypes.Collect.{env_of, collected}
+use Rattle.go_rules.specs.ScopeNames.Means.{is_blank}
+use Rattle.go_rules.specs.ScopeNames.FreeNames.{names_of}
+use Rattle.go_rules.specs.GoTypes.Answers.{given}
+use Rattle.go_rules.specs.GoTypes.Types.{GoType, FuncType}
+use Rattle.go_rules.specs.GoTypes.Entities.{World, Binds, extend, in_block, defined_in}
+use Rattle.go_rules.specs.GoTypes.TypeNames.{func_type, written_type}
+use Rattle.go_rules.specs.GoTypes.Statements.{no_values}
+use Rattle.go_rules.specs.GoTypes.Programs.{Header, constants, variables, a_type_spec, a_func, Headed, headed_package}
+use Rattle.go_rules.specs.GoTypes.Collect.{env_of, collected}
 use Rattle.go_kernel.specs.Kernel.{Name, ImportPath, FuncName, same_func, Func, Term, Vals, code, declared}
 use Rattle.go_kernel.specs.Scope.{Scoped}
 use Rattle.go_kernel.specs.Laws.{AllScoped}

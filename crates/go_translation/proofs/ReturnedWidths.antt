@@ -3,14 +3,14 @@ use Rattle.std.specs.Prelude.{◌≡◌, refl, ℕ, suc, ◌+◌, Bool, true, fa
 use mathlib.Core.Path.{ap, ap₂, sym, ◌∙◌, subst}
 use Rattle.std.proofs.Common.{arith}
 use Rattle.go_tree.specs.Tree.{Expr, ident, int_lit, rune_lit, str_lit, composite, selector, index, slice, call, func_lit, type_operand, unary, binary, star, Exprs, no_exprs, expr_and}
-use Rattle.go_tree.specs.GoTypes.Answers.{given}
-use Rattle.go_tree.specs.GoTypes.Types.{GoType}
-use Rattle.go_tree.specs.GoTypes.Defined.{Defined, under}
-use Rattle.go_tree.specs.GoTypes.Entities.{Place as StandsAt, addressable, map_element, literal, elsewhere, run, Entity, variable, constant, stand_in, type_name, function, package_name, builtin, nil_name, iota_name, refused, Env, meaning, exported, defined_in}
-use Rattle.go_tree.specs.GoTypes.Operands.{Operand, value, several, a_type, a_function, a_builtin, recovered, Typed, typed, with_value, named_operand, named_place, place_by, spread, takes, takes_all}
-use Rattle.go_tree.specs.GoTypes.Primary.{selected, selected_place, field_place, field_type, is_addressable, index_of}
-use Rattle.go_tree.specs.GoTypes.Bodies.{no_values}
-use Rattle.go_tree.specs.GoTypes.Typing.{parts, all_parts, place, package_before}
+use Rattle.go_rules.specs.GoTypes.Answers.{given}
+use Rattle.go_rules.specs.GoTypes.Types.{GoType}
+use Rattle.go_rules.specs.GoTypes.Defined.{Defined, under}
+use Rattle.go_rules.specs.GoTypes.Entities.{Place as StandsAt, addressable, map_element, literal, elsewhere, run, Entity, variable, constant, stand_in, type_name, function, package_name, builtin, nil_name, iota_name, refused, Env, meaning, exported, defined_in}
+use Rattle.go_rules.specs.GoTypes.Operands.{Operand, value, several, a_type, a_function, a_builtin, recovered, Typed, typed, with_value, named_operand, named_place, place_by, spread, takes, takes_all}
+use Rattle.go_rules.specs.GoTypes.Primary.{selected, selected_place, field_place, field_type, is_addressable, index_of}
+use Rattle.go_rules.specs.GoTypes.Bodies.{no_values}
+use Rattle.go_rules.specs.GoTypes.Typing.{parts, all_parts, place, package_before}
 use Rattle.go_kernel.specs.Kernel.{Program, Term}
 use Rattle.go_kernel.specs.Conditions.{width, plus}
 use Rattle.go_translation.specs.Mentions.{Read, mentions, mentions_all}
@@ -70,7 +70,7 @@ field_is ds home n p v = go (field_type ds home n v.0)
     by false false = refl
 
     go : (t : Option GoType) → is_map_element (elim t [ Some t ↦ field_place ds v.0 p | None ↦ elsewhere ]) ≡ false
-    go (Some t) = by (is_some (Rattle.go_tree.specs.GoTypes.Types.base_of (under ds v.0))) (is_addressable p)
+    go (Some t) = by (is_some (Rattle.go_rules.specs.GoTypes.Types.base_of (under ds v.0))) (is_addressable p)
     go None = refl
 
 placed_by : (o : Option Operand) (f : Typed → StandsAt) → ((v : Typed) → is_map_element (f v) ≡ false) → is_map_element (place_by o f) ≡ false

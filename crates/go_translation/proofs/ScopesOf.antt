@@ -3,18 +3,18 @@ use Rattle.std.specs.Prelude.{◌≡◌, refl, ℕ, suc, ◌+◌, Bool, true, fa
 use mathlib.Core.Path.{ap, ◌∙◌, subst}
 use Rattle.std.proofs.Common.{arith}
 use Rattle.go_tree.specs.Tree.{NameAt, Stmt, const_decl, var_decl, empty, eval, step, assign, define, return_, break_, continue_, inner, if_, for_, range_, switch, defer, label, StmtOption, no_stmt, some_stmt, RangeLeft, nothing, assigns, defines, ValueSpecs, no_specs, spec}
-use Rattle.go_tree.specs.ScopeNames.Means.{Environment, means, is_blank, binding}
-use Rattle.go_tree.specs.ScopeNames.FreeNames.{names_of, declared, defined}
-use Rattle.go_tree.specs.GoTypes.Answers.{given, both, only_if}
-use Rattle.go_tree.specs.GoTypes.Types.{GoType}
-use Rattle.go_tree.specs.GoTypes.Defined.{Defined}
-use Rattle.go_tree.specs.GoTypes.Entities.{Entity, variable, constant, stand_in, type_name, function, package_name, builtin, nil_name, iota_name, refused, exact, run, shift, Env, Binds, defined_in, extend, meaning, is_declared_here}
-use Rattle.go_tree.specs.GoTypes.TypeNames.{written_type}
-use Rattle.go_tree.specs.GoTypes.Operands.{Operand, Typed, settled, typed, all_typed}
-use Rattle.go_tree.specs.GoTypes.Jumps.{is_breakable}
-use Rattle.go_tree.specs.GoTypes.Statements.{names_once, may_declare, Declared, constants_declared, variables_declared, some_declared, bind_all, bind_each, defined_by, assigns_to, variable_entity, constant_entity, range_binds, range_types, no_values}
-use Rattle.go_tree.specs.GoTypes.Typing.{and_then, unused_after, binds_of, new_constants, new_variables, new_by_define, new_by_range, right_values, places, all_parts, used_variables, declares, declares_constants, declares_variables, range_declares, Repeated, nothing_to_repeat}
-use Rattle.go_tree.proofs.GoTypes.Agreeing.{from_given}
+use Rattle.go_rules.specs.ScopeNames.Means.{Environment, means, is_blank, binding}
+use Rattle.go_rules.specs.ScopeNames.FreeNames.{names_of, declared, defined}
+use Rattle.go_rules.specs.GoTypes.Answers.{given, both, only_if}
+use Rattle.go_rules.specs.GoTypes.Types.{GoType}
+use Rattle.go_rules.specs.GoTypes.Defined.{Defined}
+use Rattle.go_rules.specs.GoTypes.Entities.{Entity, variable, constant, stand_in, type_name, function, package_name, builtin, nil_name, iota_name, refused, exact, run, shift, Env, Binds, defined_in, extend, meaning, is_declared_here}
+use Rattle.go_rules.specs.GoTypes.TypeNames.{written_type}
+use Rattle.go_rules.specs.GoTypes.Operands.{Operand, Typed, settled, typed, all_typed}
+use Rattle.go_rules.specs.GoTypes.Jumps.{is_breakable}
+use Rattle.go_rules.specs.GoTypes.Statements.{names_once, may_declare, Declared, constants_declared, variables_declared, some_declared, bind_all, bind_each, defined_by, assigns_to, variable_entity, constant_entity, range_binds, range_types, no_values}
+use Rattle.go_rules.specs.GoTypes.Typing.{and_then, unused_after, binds_of, new_constants, new_variables, new_by_define, new_by_range, right_values, places, all_parts, used_variables, declares, declares_constants, declares_variables, range_declares, Repeated, nothing_to_repeat}
+use Rattle.go_rules.proofs.GoTypes.Agreeing.{from_given}
 use Rattle.go_kernel.specs.Kernel.{Name, temporary}
 use Rattle.go_kernel.specs.Scope.{has, has_all, has_slots}
 use Rattle.go_translation.specs.Mentions.{Mention, is_held}

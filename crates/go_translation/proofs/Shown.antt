@@ -5,7 +5,7 @@ use Rattle.go_kernel.specs.Kernel.{Event, Print, Println, Value, Shown, PanicTyp
 use Rattle.go_translation.specs.Packages.{Package, codes_of, are_well_typed, shown_by}
 use Rattle.go_translation.specs.Asked.{asks_nothing_missing}
 use Rattle.go_translation.specs.Frames.{frames_are_kept}
-use Rattle.go_tree.proofs.GoTypes.Trees.{file, pack}
+use Rattle.go_rules.proofs.GoTypes.Trees.{file, pack}
 
 abbrev pub main_package : List (ℕ × (List ℕ × ℕ)) → List (Decl ℕ) → Package ℕ
 main_package imports ds = record { path = codes "m"; source = pack 0 (codes "main") (file imports ds ∷ []) }

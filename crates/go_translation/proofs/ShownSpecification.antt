@@ -5,7 +5,7 @@ use Rattle.go_tree.specs.declared.operators.BinOp.TheVariants.{Mul, Div, Rem, Sh
 use Rattle.go_tree.specs.declared.operators.UnOp.TheVariants.{Minus, Flip, Address}
 use Rattle.go_tree.specs.Tree.{no_expr, some_expr, plain, no_value, some_value, no_stmt, some_stmt, assigns, defines}
 use Rattle.go_kernel.specs.Kernel.{Ended, Int, Int32, Int8, Number, Panicked, Str, StringType, Truth, Uint32, Uint8, runtime_error, prim}
-use Rattle.go_tree.proofs.GoTypes.Trees.{ns, ty, ptr, slc, mp, st, par, sig, v, int, str, sel, idx, sl, es, app, top, un, bin, der, comp, lit, vr, ev, stp, asg, def, ret, brk, cnt, cond, loop, rng, sw, dfr, lab, type_at, func_at, method_at}
+use Rattle.go_rules.proofs.GoTypes.Trees.{ns, ty, ptr, slc, mp, st, par, sig, v, int, str, sel, idx, sl, es, app, top, un, bin, der, comp, lit, vr, ev, stp, asg, def, ret, brk, cnt, cond, loop, rng, sw, dfr, lab, type_at, func_at, method_at}
 use Rattle.go_translation.proofs.Shown.{run, line, text, panicked}
 
 -- ---- Order of evaluation

@@ -3,19 +3,19 @@ use Rattle.std.specs.Prelude.{◌≡◌, refl, ℕ, suc, Bool, true, false, not,
 use mathlib.Core.Path.{ap, ◌∙◌}
 use Rattle.std.proofs.Common.{arith}
 use Rattle.go_tree.specs.Tree.{NameAt, Param, Sig, TypeExpr, Expr, ident, Exprs, no_exprs, expr_and, ExprOption, no_expr, some_expr, Elems, no_elems, elem, plain, braced, ValueOption, no_value, some_value, Stmt, StmtOption, RangeLeft, nothing, assigns, defines}
-use Rattle.go_tree.specs.ScopeNames.Means.{Environment, means, is_blank, binding}
-use Rattle.go_tree.specs.ScopeNames.FreeNames.{names_of, declared, declared_option, free_type, free_type_option, free_params, free_expr, free_exprs, free_expr_option, free_elems, free_value, free_value_option, free_stmt, free_stmt_option, free_left}
-use Rattle.go_tree.specs.GoTypes.Answers.{given, both, meets, only_if}
-use Rattle.go_tree.specs.GoTypes.Types.{GoType, is_untyped, GoFields, fields_of}
-use Rattle.go_tree.specs.GoTypes.Defined.{has_keys}
-use Rattle.go_tree.specs.GoTypes.Entities.{Entity, Env, Binds, defined_in, extend, package_of, meaning, is_declared_here}
-use Rattle.go_tree.specs.GoTypes.TypeNames.{type_meant, params_meant, func_type, written_type}
-use Rattle.go_tree.specs.GoTypes.Operands.{Typed}
-use Rattle.go_tree.specs.GoTypes.Statements.{is_blank_name, no_values, names_once, some_declared, defined_by, assigns_to, variable_entity}
-use Rattle.go_tree.specs.GoTypes.Typing.{binds_or, binds_of, new_variables, new_by_define, right_values, package_before}
-use Rattle.go_tree.specs.GoTypes.Agreement.{with_names, On, Agrees}
-use Rattle.go_tree.proofs.GoTypes.Agreeing.{on_first, on_second, name_alike, under_same, Covers, of_covers}
-use Rattle.go_tree.proofs.GoTypes.TypingAlike.{resolved-alike, parts-alike, all_parts-alike, places-alike, declares-alike, declares_first-alike}
+use Rattle.go_rules.specs.ScopeNames.Means.{Environment, means, is_blank, binding}
+use Rattle.go_rules.specs.ScopeNames.FreeNames.{names_of, declared, declared_option, free_type, free_type_option, free_params, free_expr, free_exprs, free_expr_option, free_elems, free_value, free_value_option, free_stmt, free_stmt_option, free_left}
+use Rattle.go_rules.specs.GoTypes.Answers.{given, both, meets, only_if}
+use Rattle.go_rules.specs.GoTypes.Types.{GoType, is_untyped, GoFields, fields_of}
+use Rattle.go_rules.specs.GoTypes.Defined.{has_keys}
+use Rattle.go_rules.specs.GoTypes.Entities.{Entity, Env, Binds, defined_in, extend, package_of, meaning, is_declared_here}
+use Rattle.go_rules.specs.GoTypes.TypeNames.{type_meant, params_meant, func_type, written_type}
+use Rattle.go_rules.specs.GoTypes.Operands.{Typed}
+use Rattle.go_rules.specs.GoTypes.Statements.{is_blank_name, no_values, names_once, some_declared, defined_by, assigns_to, variable_entity}
+use Rattle.go_rules.specs.GoTypes.Typing.{binds_or, binds_of, new_variables, new_by_define, right_values, package_before}
+use Rattle.go_rules.specs.GoTypes.Agreement.{with_names, On, Agrees}
+use Rattle.go_rules.proofs.GoTypes.Agreeing.{on_first, on_second, name_alike, under_same, Covers, of_covers}
+use Rattle.go_rules.proofs.GoTypes.TypingAlike.{resolved-alike, parts-alike, all_parts-alike, places-alike, declares-alike, declares_first-alike}
 use Rattle.go_kernel.specs.Kernel.{Term, Local, Let, temporary}
 use Rattle.go_translation.specs.Values.{typed_of, path_of}
 use Rattle.go_translation.specs.Values as v

@@ -4,15 +4,15 @@ use mathlib.Core.Path.{ap, ap₂}
 use Rattle.std.specs.Option.{option_map}
 use Rattle.go_tree.specs.Tree.{NameAt, Param, Sig, Expr, ident, Exprs, no_exprs, expr_and, Value, plain, Stmt, for_, range_, switch}
 use Rattle.go_tree.specs.Bare.{bare_name, bare_param, bare_sig, bare_expr, bare_exprs, bare_value, bare_stmt}
-use Rattle.go_tree.proofs.ScopeNames.FreeNamesBare.{sig_names-bare}
-use Rattle.go_tree.specs.GoTypes.Answers.{given, only_if, distinct_by}
-use Rattle.go_tree.specs.GoTypes.Types.{GoType, FuncType}
-use Rattle.go_tree.specs.GoTypes.Entities.{Env, Binds, extend, in_block}
-use Rattle.go_tree.specs.GoTypes.Literals.{field_key}
-use Rattle.go_tree.specs.GoTypes.Jumps.{is_loop, is_breakable}
-use Rattle.go_tree.specs.GoTypes.Statements.{bound_names, param_binding, param_binds, body_binds, no_values, is_blank_name}
-use Rattle.go_tree.specs.GoTypes.Typing.{binds_or, literal_env, package_before}
-use Rattle.go_tree.proofs.GoTypes.TypingBare.{func_type-bare}
+use Rattle.go_rules.proofs.ScopeNames.FreeNamesBare.{sig_names-bare}
+use Rattle.go_rules.specs.GoTypes.Answers.{given, only_if, distinct_by}
+use Rattle.go_rules.specs.GoTypes.Types.{GoType, FuncType}
+use Rattle.go_rules.specs.GoTypes.Entities.{Env, Binds, extend, in_block}
+use Rattle.go_rules.specs.GoTypes.Literals.{field_key}
+use Rattle.go_rules.specs.GoTypes.Jumps.{is_loop, is_breakable}
+use Rattle.go_rules.specs.GoTypes.Statements.{bound_names, param_binding, param_binds, body_binds, no_values, is_blank_name}
+use Rattle.go_rules.specs.GoTypes.Typing.{binds_or, literal_env, package_before}
+use Rattle.go_rules.proofs.GoTypes.TypingBare.{func_type-bare}
 use Rattle.go_translation.specs.Here.{name_option, name_options}
 use Rattle.go_translation.specs.Calls.{each_as}
 

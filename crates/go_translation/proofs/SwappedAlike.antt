@@ -1,19 +1,19 @@
 -- Bodies that are alike but for names of constants have the same terms.
 use Rattle.std.specs.Prelude.{◌≡◌, refl, ℕ, suc, ◌+◌, Bool, true, false, not, ◌||◌, List, [], ◌∷◌, ◌++◌, length, Option, Some, None, if◌then◌else◌, is_some, pos}
 use Rattle.go_tree.specs.Tree.{NameAt, TypeExpr, Expr, Exprs, ExprOption, Elems, Value, braced, ValueOption, some_value, Stmt, Stmts, StmtOption, BlockOption, RangeLeft, Arms, Cases, ValueSpecs, no_specs, spec}
-use Rattle.go_tree.specs.declared.const_eval.kinds.Kind.TheVariants as kind
-use Rattle.go_tree.specs.declared.const_eval.consts.Const.TheVariants.{Whole}
-use Rattle.go_tree.specs.ScopeNames.FreeNames.{names_of, defined}
-use Rattle.go_tree.specs.GoTypes.Answers.{given, meets}
-use Rattle.go_tree.specs.GoTypes.Types.{GoType, basic, untyped, is_untyped, GoFields, fields_of}
-use Rattle.go_tree.specs.GoTypes.Defined.{Defined, under}
-use Rattle.go_tree.specs.GoTypes.Entities.{exact, run, Env, meaning, exported, extend, in_block}
-use Rattle.go_tree.specs.GoTypes.TypeNames.{func_type, written_type}
-use Rattle.go_tree.specs.GoTypes.Operands.{Operand, value, Typed, typed, named_operand, spread}
-use Rattle.go_tree.specs.GoTypes.Literals.{inner_type, key_type, literal_type}
-use Rattle.go_tree.specs.GoTypes.Jumps.{is_breakable}
-use Rattle.go_tree.specs.GoTypes.Statements.{bound_names, body_binds, no_values, is_blank_name}
-use Rattle.go_tree.specs.GoTypes.Typing.{parts, all_parts, place, places, range_declares, binds_of, new_variables, new_by_define, right_values, package_before, step_op}
+use Rattle.go_rules.specs.declared.const_eval.kinds.Kind.TheVariants as kind
+use Rattle.go_rules.specs.declared.const_eval.consts.Const.TheVariants.{Whole}
+use Rattle.go_rules.specs.ScopeNames.FreeNames.{names_of, defined}
+use Rattle.go_rules.specs.GoTypes.Answers.{given, meets}
+use Rattle.go_rules.specs.GoTypes.Types.{GoType, basic, untyped, is_untyped, GoFields, fields_of}
+use Rattle.go_rules.specs.GoTypes.Defined.{Defined, under}
+use Rattle.go_rules.specs.GoTypes.Entities.{exact, run, Env, meaning, exported, extend, in_block}
+use Rattle.go_rules.specs.GoTypes.TypeNames.{func_type, written_type}
+use Rattle.go_rules.specs.GoTypes.Operands.{Operand, value, Typed, typed, named_operand, spread}
+use Rattle.go_rules.specs.GoTypes.Literals.{inner_type, key_type, literal_type}
+use Rattle.go_rules.specs.GoTypes.Jumps.{is_breakable}
+use Rattle.go_rules.specs.GoTypes.Statements.{bound_names, body_binds, no_values, is_blank_name}
+use Rattle.go_rules.specs.GoTypes.Typing.{parts, all_parts, place, places, range_declares, binds_of, new_variables, new_by_define, right_values, package_before, step_op}
 use Rattle.go_kernel.specs.Kernel as k
 use Rattle.go_kernel.specs.Kernel.{Name, Truth, Checked, Load, Alloc, Slicing, MapGet, MapTry, Compare, Equal, in_cells, temporary, return_label, break_label, Term, Vals, Local, Both, Prim, If, Let, Leave, Catch}
 use Rattle.go_translation.specs.Values.{one_value, path_of, as_value, constant_term, zero_of, typed_of}
@@ -25,17 +25,17 @@ use Rattle.go_translation.specs.Operators.{no_type, answer_or, type_or, own_type
 use Rattle.go_translation.specs.Calls.{selected_field, is_pointer_value, struct_value, constant_place, literal_term, keyed_term, inner_literal, Callee, to_literal, to_nothing, named_callee, type_callee, method_callee, callee_wants, call_term, defer_term}
 use mathlib.Core.Path.{ap, sym, ◌∙◌}
 use Rattle.std.proofs.Common.{arith}
-use Rattle.go_tree.specs.declared.const_eval.consts.Const.{Const}
-use Rattle.go_tree.specs.ScopeNames.FreeNames.{sig_names, specs_names}
-use Rattle.go_tree.specs.GoTypes.Answers.{both}
-use Rattle.go_tree.specs.GoTypes.Types as t
-use Rattle.go_tree.specs.GoTypes.Entities.{package_of, defined_in, addressable, literal, elsewhere}
-use Rattle.go_tree.specs.GoTypes.Operands.{with_value, named_place}
-use Rattle.go_tree.specs.GoTypes.Operators.{unary_of, binary_of, star_of}
-use Rattle.go_tree.specs.GoTypes.Primary.{selected, selected_place, index_of, index_place, sliced, call_of}
-use Rattle.go_tree.specs.GoTypes.Literals.{keyed, is_struct, built, built_inside}
-use Rattle.go_tree.specs.GoTypes.Statements.{Declared}
-use Rattle.go_tree.specs.GoTypes.Typing.{Repeated, nothing_to_repeat, new_constants, declares_constants, and_then, unused_after, used_variables, declares_variables, binds_or, bound, elements, element, with_key, place_by}
+use Rattle.go_rules.specs.declared.const_eval.consts.Const.{Const}
+use Rattle.go_rules.specs.ScopeNames.FreeNames.{sig_names, specs_names}
+use Rattle.go_rules.specs.GoTypes.Answers.{both}
+use Rattle.go_rules.specs.GoTypes.Types as t
+use Rattle.go_rules.specs.GoTypes.Entities.{package_of, defined_in, addressable, literal, elsewhere}
+use Rattle.go_rules.specs.GoTypes.Operands.{with_value, named_place}
+use Rattle.go_rules.specs.GoTypes.Operators.{unary_of, binary_of, star_of}
+use Rattle.go_rules.specs.GoTypes.Primary.{selected, selected_place, index_of, index_place, sliced, call_of}
+use Rattle.go_rules.specs.GoTypes.Literals.{keyed, is_struct, built, built_inside}
+use Rattle.go_rules.specs.GoTypes.Statements.{Declared}
+use Rattle.go_rules.specs.GoTypes.Typing.{Repeated, nothing_to_repeat, new_constants, declares_constants, and_then, unused_after, used_variables, declares_variables, binds_or, bound, elements, element, with_key, place_by}
 use Rattle.go_translation.specs.Swapped.{ConstantName, SwappedArms, SwappedBlock, SwappedCases, SwappedConsts, SwappedElems, SwappedExpr, SwappedExprs, SwappedFirst, SwappedKey, SwappedLeft, SwappedOption, SwappedSpecs, SwappedStmt, SwappedStmts, SwappedValue, arm_here, arm_mentions, arm_uses, at_iota, begins_anew, bound_alike, bound_by, by_name, by_package, const_binds, constants, in_arm, in_assign, in_assigned, in_binary, in_block_stmt, in_braces, in_call, in_case, in_composite, in_const, in_consts, in_defer, in_define, in_elems, in_eval, in_exprs, in_first, in_for, in_if, in_index, in_key, in_label, in_last, in_literal, in_option, in_plain, in_range, in_return, in_selector, in_slice, in_spec, in_star, in_step, in_stmts, in_switch, in_unary, in_var, loop_here, loop_mentions, loop_uses, no_arm, range_bound, range_here, range_uses, same_block, same_cases, same_consts, same_elems, same_expr, same_exprs, same_first, same_key, same_left, same_option, same_specs, same_stmt, same_stmts, same_value, spec_uses, switch_here, switch_mentions, switch_uses}
 use Rattle.go_translation.specs.Mentions.{Way, Stored, Deferred, variable_mention, callee_way, operand_way, unary_way, literal_mentions, beyond_names, beyond, within_names, group_mentions, own_mentions, stored_again, mentions, mentions_all, mentions_option, mentions_left, mentions_elems, mentions_key, mentions_value, mentions_stmt, mentions_stmts, mentions_first, mentions_block, mentions_range, mentions_arms, mentions_cases, mentions_specs}
 use Rattle.go_translation.specs.Statements.{RangeForm, return_term, loop_term, renewed, range_form, turn_values, range_term, new_names, variable_names, old_stored, defined_types, spec_types, tag_type, first_place, truth_type, int_type, update_type, element_type}

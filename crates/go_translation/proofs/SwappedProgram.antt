@@ -3,12 +3,12 @@ use Rattle.std.specs.Prelude.{◌≡◌, refl, ℕ, List, [], ◌∷◌, ◌++�
 use mathlib.Core.Path.{ap, ap₂, ◌∙◌}
 use Rattle.go_tree.specs.Tree.{NameAt, TypeExpr, Exprs, Stmts}
 use Rattle.go_tree.specs.File.{Func as Function}
-use Rattle.go_tree.specs.ScopeNames.FreeNames.{names_of}
-use Rattle.go_tree.specs.GoTypes.Types.{GoType, FuncType}
-use Rattle.go_tree.specs.GoTypes.Entities.{World, extend, in_block, defined_in}
-use Rattle.go_tree.specs.GoTypes.TypeNames.{written_type}
-use Rattle.go_tree.specs.GoTypes.Programs.{Headed}
-use Rattle.go_tree.specs.GoTypes.Collect.{collected}
+use Rattle.go_rules.specs.ScopeNames.FreeNames.{names_of}
+use Rattle.go_rules.specs.GoTypes.Types.{GoType, FuncType}
+use Rattle.go_rules.specs.GoTypes.Entities.{World, extend, in_block, defined_in}
+use Rattle.go_rules.specs.GoTypes.TypeNames.{written_type}
+use Rattle.go_rules.specs.GoTypes.Programs.{Headed}
+use Rattle.go_rules.specs.GoTypes.Collect.{collected}
 use Rattle.go_kernel.specs.Kernel.{ImportPath, Vals, Let}
 use Rattle.go_translation.specs.Values.{path_of, zeros_of}
 use Rattle.go_translation.specs.Mentions.{Mention, mentions_stmts}

@@ -7,10 +7,10 @@ use Rattle.std.proofs.Common.{refl}
 use Rattle.go_tree.specs.declared.operators.BinOp.TheVariants.{Add, Lt, Shl}
 use Rattle.go_tree.specs.Tree.{Expr, Stmt, some_expr, some_stmt}
 use Rattle.go_tree.specs.File.{Func as Function}
-use Rattle.go_tree.specs.declared.const_eval.kinds.Kind.TheVariants as kind
-use Rattle.go_tree.specs.declared.const_eval.consts.Const.TheVariants.{Whole}
-use Rattle.go_tree.specs.GoTypes.Types.{FuncType, untyped}
-use Rattle.go_tree.specs.GoTypes.Programs.{Headed, a_func}
+use Rattle.go_rules.specs.declared.const_eval.kinds.Kind.TheVariants as kind
+use Rattle.go_rules.specs.declared.const_eval.consts.Const.TheVariants.{Whole}
+use Rattle.go_rules.specs.GoTypes.Types.{FuncType, untyped}
+use Rattle.go_rules.specs.GoTypes.Programs.{Headed, a_func}
 use Rattle.go_kernel.specs.Kernel.{Ended, Int, Number, prim}
 use Rattle.go_translation.specs.Here.{Here}
 use Rattle.go_translation.specs.Packages.{Package, codes_of, shown_by}
@@ -18,7 +18,7 @@ use Rattle.go_translation.specs.Swapped.{SwappedExpr, same_expr, constants, in_c
 use Rattle.go_translation.specs.SwappedPackages.{SwappedPackages, of_function, same_header, and_header, no_headers, and_package, no_packages}
 use Rattle.go_translation.proofs.SwappedProgram.{codes-swap}
 use Rattle.go_translation.proofs.Shown.{main_package, line}
-use Rattle.go_tree.proofs.GoTypes.Trees.{sig, v, int, app, bin, lit, ss, ev, stp, cst, def, loop, dfr, n, consts_at, func_at}
+use Rattle.go_rules.proofs.GoTypes.Trees.{sig, v, int, app, bin, lit, ss, ev, stp, cst, def, loop, dfr, n, consts_at, func_at}
 
 abbrev print : List (Expr ℕ) → Stmt ℕ
 print xs = ev (app (v (codes "println")) xs)

@@ -4,16 +4,16 @@ use Rattle.std.proofs.Common.{refl}
 use Rattle.go_tree.specs.declared.operators.BinOp.TheVariants.{Mul, Div, Rem, Shl, Shr, Add, Eq, Lt, Gt, LogAnd, LogOr}
 use Rattle.go_tree.specs.declared.operators.UnOp.TheVariants.{Minus, Not, Address}
 use Rattle.go_tree.specs.Tree.{no_expr, some_expr, plain, no_value, some_value}
-use Rattle.go_tree.specs.declared.const_eval.kinds.Kind.TheVariants as kind
-use Rattle.go_tree.specs.ScopeNames.Means.{Environment}
-use Rattle.go_tree.specs.GoTypes.Types.{GoType, basic, named_type, pointer_to, slice_of, map_of, struct_of, no_go_fields, go_field}
-use Rattle.go_tree.specs.GoTypes.Defined.{Defined}
-use Rattle.go_tree.specs.GoTypes.Entities.{Entity, variable, type_name, function, package_name, universe}
+use Rattle.go_rules.specs.declared.const_eval.kinds.Kind.TheVariants as kind
+use Rattle.go_rules.specs.ScopeNames.Means.{Environment}
+use Rattle.go_rules.specs.GoTypes.Types.{GoType, basic, named_type, pointer_to, slice_of, map_of, struct_of, no_go_fields, go_field}
+use Rattle.go_rules.specs.GoTypes.Defined.{Defined}
+use Rattle.go_rules.specs.GoTypes.Entities.{Entity, variable, type_name, function, package_name, universe}
 use Rattle.go_kernel.specs.Classes.{Steady, Looks, Acts, class_of}
 use Rattle.go_translation.specs.Here.{Location, in_frame, in_cell, Here}
 use Rattle.go_translation.specs.Statements.{int_type}
 use Rattle.go_translation.specs.Translation.{expr_term}
-use Rattle.go_tree.proofs.GoTypes.Trees.{ty, slc, mp, par, sig, v, int, str, sel, idx, sl, app, top, un, bin, der, comp, lit, ret}
+use Rattle.go_rules.proofs.GoTypes.Trees.{ty, slc, mp, par, sig, v, int, str, sel, idx, sl, app, top, un, bin, der, comp, lit, ret}
 
 abbrev type_T : GoType
 type_T = named_type 0 (codes "T")

@@ -13,7 +13,7 @@ use Rattle.go_kernel.specs.FormLaws.{called_with}
 use Rattle.go_translation.specs.Packages.{codes_of, program_of}
 use Rattle.go_translation.specs.Calls.{function_named}
 use Rattle.go_translation.proofs.Shown.{main_package}
-use Rattle.go_tree.proofs.GoTypes.Trees.{ty, par, sig, v, int, app, un, bin, lit, ev, asg, def, ret, dfr, func_at}
+use Rattle.go_rules.proofs.GoTypes.Trees.{ty, par, sig, v, int, app, un, bin, lit, ev, asg, def, ret, dfr, func_at}
 
 abbrev int_par : List ℕ → Param ℕ
 int_par x = par (Some x) (ty (codes "int"))

@@ -1,23 +1,23 @@
 -- Translation in place: what is translated at one place is translated alike at another at which its free names mean the same and their variables are at the same locations.
 use Rattle.std.specs.Prelude.{◌≡◌, refl, ℕ, suc, true, false, ◌||◌, List, [], ◌∷◌, ◌++◌, length, Option, Some, None, if◌then◌else◌, pos}
 use Rattle.go_tree.specs.Tree.{Expr, ident, int_lit, rune_lit, str_lit, composite, selector, index, slice, call, func_lit, type_operand, unary, binary, star, Exprs, no_exprs, expr_and, ExprOption, no_expr, some_expr, Elems, no_elems, elem, Value, plain, braced, ValueOption, no_value, some_value, Stmt, const_decl, var_decl, empty, eval, step, assign, define, return_, break_, continue_, inner, if_, for_, range_, switch, defer, label, Stmts, no_stmts, stmt_and, StmtOption, no_stmt, some_stmt, BlockOption, no_block, some_block, RangeLeft, nothing, assigns, defines, Arms, no_arms, arm, Cases, no_cases, case, ValueSpecs, no_specs, spec}
-use Rattle.go_tree.specs.declared.const_eval.kinds.Kind.TheVariants as kind
-use Rattle.go_tree.specs.declared.const_eval.consts.Const.TheVariants.{Whole}
-use Rattle.go_tree.specs.ConstEval.Exact.{number, text}
-use Rattle.go_tree.specs.ConstEval.Literals.{integer_value, literal_value}
+use Rattle.go_rules.specs.declared.const_eval.kinds.Kind.TheVariants as kind
+use Rattle.go_rules.specs.declared.const_eval.consts.Const.TheVariants.{Whole}
+use Rattle.go_rules.specs.ConstEval.Exact.{number, text}
+use Rattle.go_rules.specs.ConstEval.Literals.{integer_value, literal_value}
 use Rattle.go_tree.specs.GoWords.Texts.{text_value}
-use Rattle.go_tree.specs.ScopeNames.Means.{is_blank}
-use Rattle.go_tree.specs.ScopeNames.FreeNames.{names_of, declared, declared_option, defined}
-use Rattle.go_tree.specs.GoTypes.Answers.{given}
-use Rattle.go_tree.specs.GoTypes.Types.{GoType, basic}
-use Rattle.go_tree.specs.GoTypes.Defined.{under}
-use Rattle.go_tree.specs.GoTypes.Entities.{run, Entity, Env, exported, Binds, extend, in_block}
-use Rattle.go_tree.specs.GoTypes.TypeNames.{written_type}
-use Rattle.go_tree.specs.GoTypes.Operands.{Operand, a_type, named_operand, literal_operand, spread}
-use Rattle.go_tree.specs.GoTypes.Literals.{key_type, literal_type}
-use Rattle.go_tree.specs.GoTypes.Jumps.{is_breakable}
-use Rattle.go_tree.specs.GoTypes.Statements.{body_binds, no_values}
-use Rattle.go_tree.specs.GoTypes.Typing.{parts, all_parts, places, declares, declares_first, range_declares, binds_of, new_variables, right_values, step_op}
+use Rattle.go_rules.specs.ScopeNames.Means.{is_blank}
+use Rattle.go_rules.specs.ScopeNames.FreeNames.{names_of, declared, declared_option, defined}
+use Rattle.go_rules.specs.GoTypes.Answers.{given}
+use Rattle.go_rules.specs.GoTypes.Types.{GoType, basic}
+use Rattle.go_rules.specs.GoTypes.Defined.{under}
+use Rattle.go_rules.specs.GoTypes.Entities.{run, Entity, Env, exported, Binds, extend, in_block}
+use Rattle.go_rules.specs.GoTypes.TypeNames.{written_type}
+use Rattle.go_rules.specs.GoTypes.Operands.{Operand, a_type, named_operand, literal_operand, spread}
+use Rattle.go_rules.specs.GoTypes.Literals.{key_type, literal_type}
+use Rattle.go_rules.specs.GoTypes.Jumps.{is_breakable}
+use Rattle.go_rules.specs.GoTypes.Statements.{body_binds, no_values}
+use Rattle.go_rules.specs.GoTypes.Typing.{parts, all_parts, places, declares, declares_first, range_declares, binds_of, new_variables, right_values, step_op}
 use Rattle.go_kernel.specs.Kernel as k
 use Rattle.go_kernel.specs.Kernel.{Name, Truth, Checked, Load, Alloc, Slicing, MapGet, MapTry, Compare, Equal, in_cells, temporary, return_label, break_label, continue_label, Term, Vals, Local, Both, Prim, If, Let, Leave, Catch}
 use Rattle.go_translation.specs.Values.{one_value, path_of, as_value, zero_of, typed_of}
@@ -28,12 +28,12 @@ use Rattle.go_translation.specs.Places.{nowhere, pointed, at_index, at_key, from
 use Rattle.go_translation.specs.Operators.{no_type, answer_or, type_or, own_type, first_type, other_types, operand_list, constant_or, is_folded, is_folded_unary, folded, operator_term, left_type, right_type, is_recovered, recovered_term, unary_term}
 use Rattle.go_translation.specs.Calls.{selected_field, is_pointer_value, struct_value, literal_term, keyed_term, inner_literal, Callee, to_literal, to_nothing, named_callee, type_callee, method_callee, callee_wants, call_term, defer_term, each_as}
 use mathlib.Core.Path.{ap, sym, ◌∙◌, subst}
-use Rattle.go_tree.specs.ScopeNames.Means.{Environment}
-use Rattle.go_tree.specs.ScopeNames.FreeNames.{free_type, free_type_option, free_params, free_expr, free_exprs, free_expr_option, free_elems, free_value, free_value_option, free_stmt, free_stmts, free_stmt_option, free_block_option, free_left, free_arms, free_cases, free_specs, arms_declared}
-use Rattle.go_tree.specs.GoTypes.Agreement.{with_names, On, Agrees}
-use Rattle.go_tree.proofs.GoTypes.Agreeing.{name_alike, agrees_in_block, declares_cover, first_cover, range_cover, of_covers, literal_cover, new_variables_cover}
-use Rattle.go_tree.proofs.GoTypes.TypingAlike.{parts-alike, all_parts-alike, place-alike, range_declares-alike}
-use Rattle.go_tree.specs.ScopeNames.FreeNames.{sig_names}
+use Rattle.go_rules.specs.ScopeNames.Means.{Environment}
+use Rattle.go_rules.specs.ScopeNames.FreeNames.{free_type, free_type_option, free_params, free_expr, free_exprs, free_expr_option, free_elems, free_value, free_value_option, free_stmt, free_stmts, free_stmt_option, free_block_option, free_left, free_arms, free_cases, free_specs, arms_declared}
+use Rattle.go_rules.specs.GoTypes.Agreement.{with_names, On, Agrees}
+use Rattle.go_rules.proofs.GoTypes.Agreeing.{name_alike, agrees_in_block, declares_cover, first_cover, range_cover, of_covers, literal_cover, new_variables_cover}
+use Rattle.go_rules.proofs.GoTypes.TypingAlike.{parts-alike, all_parts-alike, place-alike, range_declares-alike}
+use Rattle.go_rules.specs.ScopeNames.FreeNames.{sig_names}
 use Rattle.go_translation.specs.Agreement.{at_names, OnHere, AgreesHere}
 use Rattle.go_translation.specs.Here.{located}
 use Rattle.go_translation.proofs.SmallAlike.{append_in_turn, or_each, type_meant-alike, written_type-alike, func_type-alike, package_before-alike, typed_at-alike, typed_option-alike, first_typed-alike, value_types-alike, target_types-alike, range_type-alike, element_place-alike, element_places-alike, binds_after-alike, binds_first-alike, spec_binds-alike, define_binds-alike, defined_types-alike, old_stored-alike}

@@ -1,23 +1,23 @@
 -- A translated part asks for functions and package variables that its place knows alone.
 use Rattle.std.specs.Prelude.{◌≡◌, refl, ℕ, suc, Bool, true, false, not, ◌&&◌, ◌||◌, List, [], ◌∷◌, ◌++◌, length, Option, Some, None, if◌then◌else◌, is_some, pos}
 use Rattle.go_tree.specs.Tree.{Expr, ident, int_lit, rune_lit, str_lit, composite, selector, index, slice, call, func_lit, type_operand, unary, binary, star, Exprs, no_exprs, expr_and, ExprOption, no_expr, some_expr, Elems, no_elems, elem, Value, plain, braced, ValueOption, no_value, some_value, Stmt, const_decl, var_decl, empty, eval, step, assign, define, return_, break_, continue_, inner, if_, for_, range_, switch, defer, label, Stmts, no_stmts, stmt_and, StmtOption, no_stmt, some_stmt, BlockOption, no_block, some_block, RangeLeft, nothing, assigns, defines, Arms, no_arms, arm, Cases, no_cases, case, ValueSpecs, no_specs, spec}
-use Rattle.go_tree.specs.declared.const_eval.kinds.Kind.TheVariants as kind
-use Rattle.go_tree.specs.declared.const_eval.consts.Const.TheVariants.{Whole}
-use Rattle.go_tree.specs.ConstEval.Exact.{number, text}
-use Rattle.go_tree.specs.ConstEval.Literals.{integer_value, literal_value}
+use Rattle.go_rules.specs.declared.const_eval.kinds.Kind.TheVariants as kind
+use Rattle.go_rules.specs.declared.const_eval.consts.Const.TheVariants.{Whole}
+use Rattle.go_rules.specs.ConstEval.Exact.{number, text}
+use Rattle.go_rules.specs.ConstEval.Literals.{integer_value, literal_value}
 use Rattle.go_tree.specs.GoWords.Texts.{text_value}
-use Rattle.go_tree.specs.ScopeNames.Means.{is_blank}
-use Rattle.go_tree.specs.ScopeNames.FreeNames.{names_of, defined}
-use Rattle.go_tree.specs.GoTypes.Answers.{given, meets}
-use Rattle.go_tree.specs.GoTypes.Types.{GoType, basic, untyped}
-use Rattle.go_tree.specs.GoTypes.Defined.{Defined, under}
-use Rattle.go_tree.specs.GoTypes.Entities.{run, exact, Entity, variable, constant, stand_in, type_name, function, package_name, builtin, nil_name, iota_name, refused, Env, meaning, exported, Binds, extend, in_block, is_declared_here}
-use Rattle.go_tree.specs.GoTypes.TypeNames.{type_meant, func_type, written_type}
-use Rattle.go_tree.specs.GoTypes.Operands.{Operand, value, a_type, Typed, named_operand, literal_operand, spread}
-use Rattle.go_tree.specs.GoTypes.Literals.{key_type, literal_type}
-use Rattle.go_tree.specs.GoTypes.Jumps.{is_breakable}
-use Rattle.go_tree.specs.GoTypes.Statements.{body_binds, no_values}
-use Rattle.go_tree.specs.GoTypes.Typing.{parts, all_parts, place, range_declares, binds_of, package_before, step_op}
+use Rattle.go_rules.specs.ScopeNames.Means.{is_blank}
+use Rattle.go_rules.specs.ScopeNames.FreeNames.{names_of, defined}
+use Rattle.go_rules.specs.GoTypes.Answers.{given, meets}
+use Rattle.go_rules.specs.GoTypes.Types.{GoType, basic, untyped}
+use Rattle.go_rules.specs.GoTypes.Defined.{Defined, under}
+use Rattle.go_rules.specs.GoTypes.Entities.{run, exact, Entity, variable, constant, stand_in, type_name, function, package_name, builtin, nil_name, iota_name, refused, Env, meaning, exported, Binds, extend, in_block, is_declared_here}
+use Rattle.go_rules.specs.GoTypes.TypeNames.{type_meant, func_type, written_type}
+use Rattle.go_rules.specs.GoTypes.Operands.{Operand, value, a_type, Typed, named_operand, literal_operand, spread}
+use Rattle.go_rules.specs.GoTypes.Literals.{key_type, literal_type}
+use Rattle.go_rules.specs.GoTypes.Jumps.{is_breakable}
+use Rattle.go_rules.specs.GoTypes.Statements.{body_binds, no_values}
+use Rattle.go_rules.specs.GoTypes.Typing.{parts, all_parts, place, range_declares, binds_of, package_before, step_op}
 use Rattle.go_kernel.specs.Kernel as k
 use Rattle.go_kernel.specs.Kernel.{Name, ImportPath, Int, Alloc, MapGet, MapTry, RangeNext, in_cells, temporary, return_label, break_label, Term, Vals, Local, Set, Both, Prim, If, Let, Leave, Catch}
 use Rattle.go_translation.specs.Values.{one_value, path_of, as_value, constant_term, zero_of, typed_of}
@@ -29,10 +29,10 @@ use Rattle.go_translation.specs.Operators.{no_type, answer_or, type_or, own_type
 use Rattle.go_translation.specs.Calls.{selected_field, is_pointer_value, struct_value, literal_term, inner_literal, Callee, to_literal, to_nothing, named_callee, type_callee, method_callee, callee_wants, each_as, is_slice}
 use mathlib.Core.Path.{sym, ◌∙◌}
 use Rattle.std.proofs.Common.{arith}
-use Rattle.go_tree.specs.GoTypes.Defined.{Method, methods}
-use Rattle.go_tree.specs.GoTypes.Primary.{find_method}
-use Rattle.go_tree.specs.GoTypes.Types.{base_of, named_type}
-use Rattle.go_tree.specs.GoTypes.Operands as operand
+use Rattle.go_rules.specs.GoTypes.Defined.{Method, methods}
+use Rattle.go_rules.specs.GoTypes.Primary.{find_method}
+use Rattle.go_rules.specs.GoTypes.Types.{base_of, named_type}
+use Rattle.go_rules.specs.GoTypes.Operands as operand
 use Rattle.go_kernel.specs.Kernel.{code}
 use Rattle.go_translation.specs.Here.{in_frame, in_cell, param_locals, result_locals, cells_in}
 use Rattle.go_translation.specs.Calls.{receiver_term, method_on, receiver_type}

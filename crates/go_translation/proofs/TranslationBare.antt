@@ -1,18 +1,18 @@
 -- What a part does doesn't depend on spans: a copy, and each other tree that is equal but for spans, has the same term.
 use Rattle.std.specs.Prelude.{◌≡◌, refl, map, ℕ, suc, true, false, ◌||◌, List, [], ◌∷◌, ◌++◌, Option, Some, None, if◌then◌else◌, pos}
 use Rattle.go_tree.specs.Tree.{NameAt, Sig, TypeExpr, Expr, ident, int_lit, rune_lit, str_lit, composite, selector, index, slice, call, func_lit, type_operand, unary, binary, star, Exprs, no_exprs, expr_and, ExprOption, no_expr, some_expr, Elems, no_elems, elem, Value, plain, braced, ValueOption, no_value, some_value, Stmt, const_decl, var_decl, empty, eval, step, assign, define, return_, break_, continue_, inner, if_, for_, range_, switch, defer, label, Stmts, no_stmts, stmt_and, StmtOption, no_stmt, some_stmt, BlockOption, no_block, some_block, RangeLeft, nothing, assigns, defines, Arms, no_arms, arm, Cases, no_cases, case, ValueSpecs, no_specs, spec}
-use Rattle.go_tree.specs.declared.const_eval.kinds.Kind.TheVariants as kind
-use Rattle.go_tree.specs.declared.const_eval.consts.Const.TheVariants.{Whole}
-use Rattle.go_tree.specs.ConstEval.Exact.{number, text}
-use Rattle.go_tree.specs.ConstEval.Literals.{integer_value, literal_value}
+use Rattle.go_rules.specs.declared.const_eval.kinds.Kind.TheVariants as kind
+use Rattle.go_rules.specs.declared.const_eval.consts.Const.TheVariants.{Whole}
+use Rattle.go_rules.specs.ConstEval.Exact.{number, text}
+use Rattle.go_rules.specs.ConstEval.Literals.{integer_value, literal_value}
 use Rattle.go_tree.specs.GoWords.Texts.{text_value}
-use Rattle.go_tree.specs.GoTypes.Answers.{given, meets}
-use Rattle.go_tree.specs.GoTypes.Types.{GoType, basic, is_untyped, GoFields, FuncType, fields_of}
-use Rattle.go_tree.specs.GoTypes.Defined.{under}
-use Rattle.go_tree.specs.GoTypes.Entities.{run, Env, meaning, exported, Binds, extend, in_block}
-use Rattle.go_tree.specs.GoTypes.Operands.{Operand, a_type, Typed, named_operand, literal_operand, spread}
-use Rattle.go_tree.specs.GoTypes.Literals.{key_type, literal_type}
-use Rattle.go_tree.specs.GoTypes.Typing.{binds_of, new_variables, new_by_define, right_values, step_op}
+use Rattle.go_rules.specs.GoTypes.Answers.{given, meets}
+use Rattle.go_rules.specs.GoTypes.Types.{GoType, basic, is_untyped, GoFields, FuncType, fields_of}
+use Rattle.go_rules.specs.GoTypes.Defined.{under}
+use Rattle.go_rules.specs.GoTypes.Entities.{run, Env, meaning, exported, Binds, extend, in_block}
+use Rattle.go_rules.specs.GoTypes.Operands.{Operand, a_type, Typed, named_operand, literal_operand, spread}
+use Rattle.go_rules.specs.GoTypes.Literals.{key_type, literal_type}
+use Rattle.go_rules.specs.GoTypes.Typing.{binds_of, new_variables, new_by_define, right_values, step_op}
 use Rattle.go_kernel.specs.Kernel as k
 use Rattle.go_kernel.specs.Kernel.{Name, Truth, Checked, Load, Alloc, Slicing, MapGet, MapTry, Compare, Equal, in_cells, temporary, return_label, break_label, continue_label, Term, Vals, Local, Both, Prim, If, Let, Leave, Catch}
 use Rattle.go_translation.specs.Values.{one_value, path_of, as_value, zero_of, typed_of}
@@ -25,8 +25,8 @@ use Rattle.go_translation.specs.Calls.{field_number, selected_field, is_pointer_
 use mathlib.Core.Path.{ap}
 use Rattle.std.specs.Option.{option_map}
 use Rattle.go_tree.specs.Bare.{bare_name, bare_type, bare_sig, bare_expr, bare_exprs, bare_expr_option, bare_elems, bare_value, bare_value_option, bare_stmt, bare_stmts, bare_stmt_option, bare_block_option, bare_range_left, bare_arms, bare_cases, bare_value_specs}
-use Rattle.go_tree.proofs.ScopeNames.FreeNamesBare.{names_of-bare, declared-bare, declared_option-bare, defined-bare}
-use Rattle.go_tree.proofs.GoTypes.TypingBare.{type_meant-bare, written_type-bare, func_type-bare, parts-bare, all_parts-bare, place-bare, places-bare, declares-bare, declares_first-bare, range_declares-bare}
+use Rattle.go_rules.proofs.ScopeNames.FreeNamesBare.{names_of-bare, declared-bare, declared_option-bare, defined-bare}
+use Rattle.go_rules.proofs.GoTypes.TypingBare.{type_meant-bare, written_type-bare, func_type-bare, parts-bare, all_parts-bare, place-bare, places-bare, declares-bare, declares_first-bare, range_declares-bare}
 use Rattle.go_translation.proofs.SmallBare.{length-bare, no_values-bare, body_binds-bare, package_before-bare, is_blank_name-bare, field_key-bare, each_as-bare, is_breakable-bare, name_options-bare}
 use Rattle.go_translation.proofs.MentionsBare.{own_mentions-bare, mentions-bare, mentions_option-bare, mentions_stmts-bare, mentions_first-bare, mentions_block-bare, mentions_arms-bare, mentions_cases-bare, mentions_specs-bare}
 use Rattle.go_translation.specs.Statements.{RangeForm, return_term, loop_term, renewed, range_form, turn_values, range_term, new_names, variable_names, old_stored, defined_types, spec_types, tag_type, first_place, truth_type, int_type, update_type, element_type, key_name}

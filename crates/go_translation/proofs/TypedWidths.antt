@@ -3,24 +3,24 @@ use Rattle.std.specs.Prelude.{◌≡◌, ◌⊎◌, refl, ℕ, suc, Bool, true, 
 use mathlib.Core.Path.{ap, ap₂, sym, ◌∙◌, subst}
 use Rattle.std.proofs.Common.{inl, inr, arith}
 use Rattle.go_tree.specs.Tree.{Expr, ident, int_lit, rune_lit, str_lit, composite, selector, index, slice, call, func_lit, type_operand, unary, binary, star, Exprs, no_exprs, expr_and, ExprOption, no_expr, some_expr, Elems, no_elems, elem, Value, plain, braced, ValueOption, no_value, some_value, Param, Sig, NameAt}
-use Rattle.go_tree.specs.declared.const_eval.kinds.Kind.TheVariants as kind
-use Rattle.go_tree.specs.ConstEval.Exact.{number, text}
-use Rattle.go_tree.specs.declared.const_eval.consts.Const.TheVariants.{Whole}
-use Rattle.go_tree.specs.ConstEval.Literals.{integer_value, literal_value}
+use Rattle.go_rules.specs.declared.const_eval.kinds.Kind.TheVariants as kind
+use Rattle.go_rules.specs.ConstEval.Exact.{number, text}
+use Rattle.go_rules.specs.declared.const_eval.consts.Const.TheVariants.{Whole}
+use Rattle.go_rules.specs.ConstEval.Literals.{integer_value, literal_value}
 use Rattle.go_tree.specs.GoWords.Texts.{text_value}
-use Rattle.go_tree.specs.ScopeNames.Means.{is_blank}
-use Rattle.go_tree.specs.GoTypes.Answers.{given, only_if, answers_of, meets}
-use Rattle.go_tree.specs.GoTypes.Types.{GoType, basic, untyped, untyped_nil, named_type, pointer_to, slice_of, map_of, struct_of, tuple_of, base_of, FuncType, element_of, map_parts}
-use Rattle.go_tree.specs.GoTypes.Defined.{Defined, under, Method, methods}
-use Rattle.go_tree.specs.GoTypes.Entities.{Binds, Place as StandsAt, addressable, map_element, elsewhere, run, exact, Entity, variable, constant, stand_in, type_name, function, package_name, builtin, nil_name, iota_name, refused, Env, meaning, exported, is_exported, extend, in_block}
-use Rattle.go_tree.specs.GoTypes.TypeNames.{type_meant, func_type, params_meant}
-use Rattle.go_tree.specs.GoTypes.Operands.{with_value, place_by, Operand, value, several, a_type, a_function, a_builtin, recovered, Typed, typed, plain_value, named_operand, spread, named_place}
-use Rattle.go_tree.specs.GoTypes.Operators.{unary_of, binary_of, star_of, has_address}
-use Rattle.go_tree.specs.GoTypes.Primary.{sees, home_of, find_method, is_addressable, selected, selected_place, field_place, field_type, method_of, method_value, sliced, index_of, index_place, call_of}
-use Rattle.go_tree.specs.GoTypes.Literals.{Element, keyed, of_field, is_struct, field_key, key_type, inner_type, literal_type, built}
-use Rattle.go_tree.specs.GoTypes.Bodies.{body_binds}
-use Rattle.go_tree.specs.GoTypes.Typing.{parts, all_parts, bound, elements, element, with_key, place, package_before}
-use Rattle.go_tree.proofs.GoTypes.Agreeing.{from_given}
+use Rattle.go_rules.specs.ScopeNames.Means.{is_blank}
+use Rattle.go_rules.specs.GoTypes.Answers.{given, only_if, answers_of, meets}
+use Rattle.go_rules.specs.GoTypes.Types.{GoType, basic, untyped, untyped_nil, named_type, pointer_to, slice_of, map_of, struct_of, tuple_of, base_of, FuncType, element_of, map_parts}
+use Rattle.go_rules.specs.GoTypes.Defined.{Defined, under, Method, methods}
+use Rattle.go_rules.specs.GoTypes.Entities.{Binds, Place as StandsAt, addressable, map_element, elsewhere, run, exact, Entity, variable, constant, stand_in, type_name, function, package_name, builtin, nil_name, iota_name, refused, Env, meaning, exported, is_exported, extend, in_block}
+use Rattle.go_rules.specs.GoTypes.TypeNames.{type_meant, func_type, params_meant}
+use Rattle.go_rules.specs.GoTypes.Operands.{with_value, place_by, Operand, value, several, a_type, a_function, a_builtin, recovered, Typed, typed, plain_value, named_operand, spread, named_place}
+use Rattle.go_rules.specs.GoTypes.Operators.{unary_of, binary_of, star_of, has_address}
+use Rattle.go_rules.specs.GoTypes.Primary.{sees, home_of, find_method, is_addressable, selected, selected_place, field_place, field_type, method_of, method_value, sliced, index_of, index_place, call_of}
+use Rattle.go_rules.specs.GoTypes.Literals.{Element, keyed, of_field, is_struct, field_key, key_type, inner_type, literal_type, built}
+use Rattle.go_rules.specs.GoTypes.Bodies.{body_binds}
+use Rattle.go_rules.specs.GoTypes.Typing.{parts, all_parts, bound, elements, element, with_key, place, package_before}
+use Rattle.go_rules.proofs.GoTypes.Agreeing.{from_given}
 use Rattle.go_kernel.specs.Kernel as k
 use Rattle.go_kernel.specs.Kernel.{ImportPath, Program, Alloc, Term, Local, Both, Prim}
 use Rattle.go_kernel.specs.Conditions.{width}

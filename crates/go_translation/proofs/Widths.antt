@@ -6,20 +6,20 @@ use Rattle.go_tree.specs.declared.operators.UnOp.{UnOp}
 use Rattle.go_tree.specs.declared.operators.UnOp.TheVariants as un
 use Rattle.go_tree.specs.declared.operators.BinOp.{BinOp}
 use Rattle.go_tree.specs.declared.operators.BinOp.TheVariants as bin
-use Rattle.go_tree.specs.declared.const_eval.kinds.Kind.{Kind}
-use Rattle.go_tree.specs.declared.const_eval.kinds.Kind.TheVariants.{Int, Str}
-use Rattle.go_tree.specs.declared.const_eval.consts.Const.{Const}
-use Rattle.go_tree.specs.declared.const_eval.consts.Const.TheVariants.{Bytes}
-use Rattle.go_tree.specs.ConstEval.Exact.{Exact, number, represents}
-use Rattle.go_tree.specs.GoTypes.Answers.{given, only_if}
-use Rattle.go_tree.specs.GoTypes.Types.{GoType, basic, named_type, pointer_to, slice_of, map_of, struct_of, tuple_of, untyped, untyped_nil, element_of, map_parts, basic_kind}
-use Rattle.go_tree.specs.GoTypes.Defined.{Defined, under}
-use Rattle.go_tree.specs.GoTypes.Relations.{is_whole_number}
-use Rattle.go_tree.specs.GoTypes.Entities.{Builtin, Append, Cap, Copy, Delete, Len, Make, New, Panic, Print, Println, Recover, Content, run, exact, shift}
-use Rattle.go_tree.specs.GoTypes.Operands.{Operand, value, several, a_type, a_function, a_builtin, recovered, Typed, typed, all_typed, plain_value, constant_at, constant_value, literal_operand, spread, results_operand, settled}
-use Rattle.go_tree.specs.GoTypes.Primary.{converted, append_call, cap_call, len_call, length_of, copy_call, delete_call, panic_call, print_call, recover_call, make_call, new_call, on_values, builtin_call, call_of}
-use Rattle.go_tree.specs.GoTypes.Literals.{literal_takes, built}
-use Rattle.go_tree.proofs.GoTypes.Agreeing.{from_given}
+use Rattle.go_rules.specs.declared.const_eval.kinds.Kind.{Kind}
+use Rattle.go_rules.specs.declared.const_eval.kinds.Kind.TheVariants.{Int, Str}
+use Rattle.go_rules.specs.declared.const_eval.consts.Const.{Const}
+use Rattle.go_rules.specs.declared.const_eval.consts.Const.TheVariants.{Bytes}
+use Rattle.go_rules.specs.ConstEval.Exact.{Exact, number, represents}
+use Rattle.go_rules.specs.GoTypes.Answers.{given, only_if}
+use Rattle.go_rules.specs.GoTypes.Types.{GoType, basic, named_type, pointer_to, slice_of, map_of, struct_of, tuple_of, untyped, untyped_nil, element_of, map_parts, basic_kind}
+use Rattle.go_rules.specs.GoTypes.Defined.{Defined, under}
+use Rattle.go_rules.specs.GoTypes.Relations.{is_whole_number}
+use Rattle.go_rules.specs.GoTypes.Entities.{Builtin, Append, Cap, Copy, Delete, Len, Make, New, Panic, Print, Println, Recover, Content, run, exact, shift}
+use Rattle.go_rules.specs.GoTypes.Operands.{Operand, value, several, a_type, a_function, a_builtin, recovered, Typed, typed, all_typed, plain_value, constant_at, constant_value, literal_operand, spread, results_operand, settled}
+use Rattle.go_rules.specs.GoTypes.Primary.{converted, append_call, cap_call, len_call, length_of, copy_call, delete_call, panic_call, print_call, recover_call, make_call, new_call, on_values, builtin_call, call_of}
+use Rattle.go_rules.specs.GoTypes.Literals.{literal_takes, built}
+use Rattle.go_rules.proofs.GoTypes.Agreeing.{from_given}
 use Rattle.go_kernel.specs.Kernel as k
 use Rattle.go_kernel.specs.Kernel.{Program, Op, gives, Term, Both, Prim}
 use Rattle.go_kernel.specs.Conditions.{width, plus, then', equal'}

@@ -5,12 +5,12 @@ use Rattle.std.proofs.Common.{arith}
 use Rattle.std.proofs.lemmas.Slice.Eq.{bytes_eq-Decides}
 use Rattle.go_tree.specs.Tree.{Expr, ident, unary}
 use Rattle.go_tree.specs.declared.operators.UnOp.TheVariants.{Minus, Address}
-use Rattle.go_tree.specs.declared.const_eval.kinds.Kind.TheVariants as kind
-use Rattle.go_tree.specs.GoTypes.Types.{GoType, basic, named_type, pointer_to, slice_of, map_of, struct_of, tuple_of, untyped, untyped_nil}
-use Rattle.go_tree.specs.GoTypes.Entities.{run, variable, is_exported}
-use Rattle.go_tree.specs.GoTypes.Defined.{methods}
-use Rattle.go_tree.specs.GoTypes.Operands.{value}
-use Rattle.go_tree.specs.GoTypes.Primary.{find_method}
+use Rattle.go_rules.specs.declared.const_eval.kinds.Kind.TheVariants as kind
+use Rattle.go_rules.specs.GoTypes.Types.{GoType, basic, named_type, pointer_to, slice_of, map_of, struct_of, tuple_of, untyped, untyped_nil}
+use Rattle.go_rules.specs.GoTypes.Entities.{run, variable, is_exported}
+use Rattle.go_rules.specs.GoTypes.Defined.{methods}
+use Rattle.go_rules.specs.GoTypes.Operands.{value}
+use Rattle.go_rules.specs.GoTypes.Primary.{find_method}
 use Rattle.go_kernel.specs.Kernel.{Program, no_func, Int, Number, Emit, Println, Load, Save, Unchecked, Vals, Local, Set, Both, Prim, Let, DeferLit, in_cells}
 use Rattle.go_translation.specs.Frames.{all_keep}
 use Rattle.go_kernel.specs.Conditions.{width}

@@ -1,10 +1,10 @@
 -- When two places agree on names: the condition under which a part does the same at both (Go specification,
 -- "Declarations and scope").
 use Rattle.std.specs.Prelude.{◌≡◌, ℕ, true, List}
-use Rattle.go_tree.specs.ScopeNames.Means.{Environment, means, is_blank}
-use Rattle.go_tree.specs.GoTypes.Answers.{is_among}
-use Rattle.go_tree.specs.GoTypes.Entities.{Entity}
-use Rattle.go_tree.specs.GoTypes.Agreement.{In, with_names, On, Agrees}
+use Rattle.go_rules.specs.ScopeNames.Means.{Environment, means, is_blank}
+use Rattle.go_rules.specs.GoTypes.Answers.{is_among}
+use Rattle.go_rules.specs.GoTypes.Entities.{Entity}
+use Rattle.go_rules.specs.GoTypes.Agreement.{In, with_names, On, Agrees}
 use Rattle.go_translation.specs.Here.{Location, Here}
 
 -- the same place with other names around it, and variables elsewhere

@@ -3,17 +3,17 @@
 -- "Calls", "Defer statements").
 use Rattle.std.specs.Prelude.{ℕ, zero, suc, Bool, true, false, not, ◌&&◌, ◌||◌, List, [], ◌∷◌, length}
 use Rattle.std.specs.Prelude.{Option, Some, None, if◌then◌else◌, bytes_eq, is_some, pos}
-use Rattle.go_tree.specs.declared.const_eval.kinds.Kind.TheVariants as kind
-use Rattle.go_tree.specs.declared.const_eval.consts.Const.TheVariants.{Whole}
-use Rattle.go_tree.specs.GoTypes.Answers.{given, meets}
-use Rattle.go_tree.specs.GoTypes.Types.{GoType, basic, named_type, slice_of, map_of, struct_of, untyped, untyped_nil}
-use Rattle.go_tree.specs.GoTypes.Types.{GoFields, no_go_fields, go_field, base_of, element_of, map_parts}
-use Rattle.go_tree.specs.GoTypes.Defined.{Defined, under, methods, Method}
-use Rattle.go_tree.specs.GoTypes.Relations.{is_whole_number}
-use Rattle.go_tree.specs.GoTypes.Entities.{Builtin, Append, Cap, Copy, Delete, Len, Make, New, Panic, Print, Println}
-use Rattle.go_tree.specs.GoTypes.Entities.{Recover, exact}
-use Rattle.go_tree.specs.GoTypes.Operands.{Operand, a_type, a_function, a_builtin, Typed, typed, settled}
-use Rattle.go_tree.specs.GoTypes.Primary.{sees, find_method, fields_in}
+use Rattle.go_rules.specs.declared.const_eval.kinds.Kind.TheVariants as kind
+use Rattle.go_rules.specs.declared.const_eval.consts.Const.TheVariants.{Whole}
+use Rattle.go_rules.specs.GoTypes.Answers.{given, meets}
+use Rattle.go_rules.specs.GoTypes.Types.{GoType, basic, named_type, slice_of, map_of, struct_of, untyped, untyped_nil}
+use Rattle.go_rules.specs.GoTypes.Types.{GoFields, no_go_fields, go_field, base_of, element_of, map_parts}
+use Rattle.go_rules.specs.GoTypes.Defined.{Defined, under, methods, Method}
+use Rattle.go_rules.specs.GoTypes.Relations.{is_whole_number}
+use Rattle.go_rules.specs.GoTypes.Entities.{Builtin, Append, Cap, Copy, Delete, Len, Make, New, Panic, Print, Println}
+use Rattle.go_rules.specs.GoTypes.Entities.{Recover, exact}
+use Rattle.go_rules.specs.GoTypes.Operands.{Operand, a_type, a_function, a_builtin, Typed, typed, settled}
+use Rattle.go_rules.specs.GoTypes.Primary.{sees, find_method, fields_in}
 use Rattle.go_kernel.specs.Kernel as k
 use Rattle.go_kernel.specs.Kernel.{Name, ImportPath, FuncName, Value, Checked, Op, Convert, BytesOfString}
 use Rattle.go_kernel.specs.Kernel.{StringOfBytes, StructLit, SliceLit, MakeSlice, MapLit, MakeMap, MapLen, MapDelete}

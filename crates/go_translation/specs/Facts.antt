@@ -5,16 +5,16 @@ use Rattle.std.specs.Prelude.{if◌then◌else◌}
 use Rattle.go_tree.specs.Tree.{NameAt, Sig, TypeExpr, Expr, Exprs, no_exprs, expr_and, ExprOption, no_expr, some_expr}
 use Rattle.go_tree.specs.Tree.{Elems, no_elems, elem, plain, braced, ValueOption, no_value, some_value, Stmt, Stmts}
 use Rattle.go_tree.specs.Tree.{StmtOption, RangeLeft, assigns}
-use Rattle.go_tree.specs.ScopeNames.FreeNames.{names_of, declared, declared_option}
-use Rattle.go_tree.specs.GoTypes.Answers.{meets}
-use Rattle.go_tree.specs.GoTypes.Types.{GoType, is_untyped, GoFields, FuncType, fields_of}
-use Rattle.go_tree.specs.GoTypes.Entities.{Env, Binds, extend}
-use Rattle.go_tree.specs.GoTypes.TypeNames.{written_type}
-use Rattle.go_tree.specs.GoTypes.Operands.{Typed}
-use Rattle.go_tree.specs.GoTypes.Literals.{field_key}
-use Rattle.go_tree.specs.GoTypes.Statements.{no_values, is_blank_name}
-use Rattle.go_tree.specs.GoTypes.Typing.{parts, all_parts, places, declares, declares_first, binds_of, new_variables}
-use Rattle.go_tree.specs.GoTypes.Typing.{new_by_define, right_values}
+use Rattle.go_rules.specs.ScopeNames.FreeNames.{names_of, declared, declared_option}
+use Rattle.go_rules.specs.GoTypes.Answers.{meets}
+use Rattle.go_rules.specs.GoTypes.Types.{GoType, is_untyped, GoFields, FuncType, fields_of}
+use Rattle.go_rules.specs.GoTypes.Entities.{Env, Binds, extend}
+use Rattle.go_rules.specs.GoTypes.TypeNames.{written_type}
+use Rattle.go_rules.specs.GoTypes.Operands.{Typed}
+use Rattle.go_rules.specs.GoTypes.Literals.{field_key}
+use Rattle.go_rules.specs.GoTypes.Statements.{no_values, is_blank_name}
+use Rattle.go_rules.specs.GoTypes.Typing.{parts, all_parts, places, declares, declares_first, binds_of, new_variables}
+use Rattle.go_rules.specs.GoTypes.Typing.{new_by_define, right_values}
 use Rattle.go_translation.specs.Values.{typed_of}
 use Rattle.go_translation.specs.Mentions.{Mention, mentions_stmts, own_mentions}
 use Rattle.go_translation.specs.Here.{Here, declaring, BodyNames, name_options}

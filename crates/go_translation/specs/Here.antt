@@ -4,10 +4,10 @@
 use Rattle.std.specs.Prelude.{ℕ, suc, Bool, false, not, ◌&&◌, List, [], ◌∷◌, ◌++◌, map, Option, Some}
 use Rattle.std.specs.Prelude.{None, if◌then◌else◌}
 use Rattle.go_tree.specs.Tree.{NameAt, Param}
-use Rattle.go_tree.specs.ScopeNames.Means.{Environment, means, is_blank}
-use Rattle.go_tree.specs.GoTypes.Types.{GoType}
-use Rattle.go_tree.specs.GoTypes.Defined.{Defined}
-use Rattle.go_tree.specs.GoTypes.Entities.{Entity, variable, Env, defined_in, Binds, extend, in_block}
+use Rattle.go_rules.specs.ScopeNames.Means.{Environment, means, is_blank}
+use Rattle.go_rules.specs.GoTypes.Types.{GoType}
+use Rattle.go_rules.specs.GoTypes.Defined.{Defined}
+use Rattle.go_rules.specs.GoTypes.Entities.{Entity, variable, Env, defined_in, Binds, extend, in_block}
 use Rattle.go_kernel.specs.Kernel.{Name, ImportPath, Slot, InFrame, InCell, Term, Func, in_cells, temporary}
 use Rattle.go_kernel.specs.Kernel.{named_result, result_name}
 use Rattle.go_translation.specs.Values.{zeros_of}

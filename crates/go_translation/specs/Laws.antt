@@ -4,15 +4,15 @@ use Rattle.std.specs.Prelude.{◌++◌, length}
 use Rattle.go_tree.specs.declared.spans.Span.{Span}
 use Rattle.go_tree.specs.Tree.{Expr, Exprs, Stmts}
 use Rattle.go_tree.specs.Bare.{bare_expr, bare_stmts}
-use Rattle.go_tree.specs.ScopeNames.Means.{Environment}
-use Rattle.go_tree.specs.ScopeNames.FreeNames.{free_expr, free_stmts}
-use Rattle.go_tree.specs.GoTypes.Types.{GoType}
-use Rattle.go_tree.specs.GoTypes.Entities.{Entity, Env}
-use Rattle.go_tree.specs.GoTypes.Agreement.{with_names, On, Agrees}
-use Rattle.go_tree.specs.GoTypes.Operands.{Operand, spread, takes_all}
-use Rattle.go_tree.specs.GoTypes.Bodies.{no_values}
-use Rattle.go_tree.specs.GoTypes.Operators.{has_address}
-use Rattle.go_tree.specs.GoTypes.Typing.{parts, all_parts, place}
+use Rattle.go_rules.specs.ScopeNames.Means.{Environment}
+use Rattle.go_rules.specs.ScopeNames.FreeNames.{free_expr, free_stmts}
+use Rattle.go_rules.specs.GoTypes.Types.{GoType}
+use Rattle.go_rules.specs.GoTypes.Entities.{Entity, Env}
+use Rattle.go_rules.specs.GoTypes.Agreement.{with_names, On, Agrees}
+use Rattle.go_rules.specs.GoTypes.Operands.{Operand, spread, takes_all}
+use Rattle.go_rules.specs.GoTypes.Bodies.{no_values}
+use Rattle.go_rules.specs.GoTypes.Operators.{has_address}
+use Rattle.go_rules.specs.GoTypes.Typing.{parts, all_parts, place}
 use Rattle.go_kernel.specs.Kernel.{ImportPath, FuncName, Covers, Program}
 use Rattle.go_kernel.specs.Conditions.{width}
 use Rattle.go_translation.specs.Mentions.{Read, Addressed, Mention, mentions, mentions_all, mentions_stmts, any_mention}

@@ -14,19 +14,19 @@ use Rattle.go_tree.specs.Tree.{break_, continue_, inner, if_, for_, range_, swit
 use Rattle.go_tree.specs.Tree.{stmt_and, StmtOption, no_stmt, some_stmt, BlockOption, no_block, some_block, RangeLeft}
 use Rattle.go_tree.specs.Tree.{nothing, assigns, defines, Arms, no_arms, arm, Cases, no_cases, case, ValueSpecs}
 use Rattle.go_tree.specs.Tree.{no_specs, spec}
-use Rattle.go_tree.specs.ScopeNames.FreeNames.{names_of, sig_names, declared, declared_option, defined}
-use Rattle.go_tree.specs.GoTypes.Answers.{given, meets, is_among}
-use Rattle.go_tree.specs.GoTypes.Types.{GoType, base_of}
-use Rattle.go_tree.specs.GoTypes.Defined.{Defined, under, methods}
-use Rattle.go_tree.specs.GoTypes.Entities.{Entity, variable, stand_in, Env, meaning, defined_in, Binds, extend}
-use Rattle.go_tree.specs.GoTypes.Entities.{in_block, is_declared_here}
-use Rattle.go_tree.specs.GoTypes.TypeNames.{type_meant, written_type}
-use Rattle.go_tree.specs.GoTypes.Operands.{Typed}
-use Rattle.go_tree.specs.GoTypes.Primary.{field_type, find_method}
-use Rattle.go_tree.specs.GoTypes.Literals.{is_struct, key_type, inner_type, literal_type}
-use Rattle.go_tree.specs.GoTypes.Statements.{bound_names, no_values}
-use Rattle.go_tree.specs.GoTypes.Typing.{parts, all_parts, places, declares, declares_first, range_declares, binds_of}
-use Rattle.go_tree.specs.GoTypes.Typing.{literal_env, new_variables, right_values}
+use Rattle.go_rules.specs.ScopeNames.FreeNames.{names_of, sig_names, declared, declared_option, defined}
+use Rattle.go_rules.specs.GoTypes.Answers.{given, meets, is_among}
+use Rattle.go_rules.specs.GoTypes.Types.{GoType, base_of}
+use Rattle.go_rules.specs.GoTypes.Defined.{Defined, under, methods}
+use Rattle.go_rules.specs.GoTypes.Entities.{Entity, variable, stand_in, Env, meaning, defined_in, Binds, extend}
+use Rattle.go_rules.specs.GoTypes.Entities.{in_block, is_declared_here}
+use Rattle.go_rules.specs.GoTypes.TypeNames.{type_meant, written_type}
+use Rattle.go_rules.specs.GoTypes.Operands.{Typed}
+use Rattle.go_rules.specs.GoTypes.Primary.{field_type, find_method}
+use Rattle.go_rules.specs.GoTypes.Literals.{is_struct, key_type, inner_type, literal_type}
+use Rattle.go_rules.specs.GoTypes.Statements.{bound_names, no_values}
+use Rattle.go_rules.specs.GoTypes.Typing.{parts, all_parts, places, declares, declares_first, range_declares, binds_of}
+use Rattle.go_rules.specs.GoTypes.Typing.{literal_env, new_variables, right_values}
 use Rattle.go_translation.specs.Values.{typed_of}
 
 -- how an expression stands around a name: it is read, stored to, its address is taken, or it is what a `defer` calls

@@ -1,14 +1,14 @@
 -- What names stand for, as places and as terms (Go specification, "Variables", "Constants", "Qualified identifiers",
 -- "Iota", "Assignment statements").
 use Rattle.std.specs.Prelude.{ℕ, Bool, false, List, [], ◌∷◌, Option, Some, None, if◌then◌else◌, pos}
-use Rattle.go_tree.specs.declared.const_eval.consts.Const.TheVariants.{Whole}
-use Rattle.go_tree.specs.ScopeNames.Means.{is_blank}
-use Rattle.go_tree.specs.GoTypes.Answers.{given, meets}
-use Rattle.go_tree.specs.GoTypes.Types.{GoType, map_parts}
-use Rattle.go_tree.specs.GoTypes.Defined.{Defined, under}
-use Rattle.go_tree.specs.GoTypes.Entities.{Place as StandsAt, map_element, Entity, variable, constant, stand_in}
-use Rattle.go_tree.specs.GoTypes.Entities.{nil_name, iota_name, meaning}
-use Rattle.go_tree.specs.GoTypes.Operands.{Typed}
+use Rattle.go_rules.specs.declared.const_eval.consts.Const.TheVariants.{Whole}
+use Rattle.go_rules.specs.ScopeNames.Means.{is_blank}
+use Rattle.go_rules.specs.GoTypes.Answers.{given, meets}
+use Rattle.go_rules.specs.GoTypes.Types.{GoType, map_parts}
+use Rattle.go_rules.specs.GoTypes.Defined.{Defined, under}
+use Rattle.go_rules.specs.GoTypes.Entities.{Place as StandsAt, map_element, Entity, variable, constant, stand_in}
+use Rattle.go_rules.specs.GoTypes.Entities.{nil_name, iota_name, meaning}
+use Rattle.go_rules.specs.GoTypes.Operands.{Typed}
 use Rattle.go_kernel.specs.Kernel as k
 use Rattle.go_kernel.specs.Kernel.{ImportPath, Nil, Unchecked, ReadGlobal, Load, Element, ByteAt, Term, Local, Both}
 use Rattle.go_kernel.specs.Kernel.{Prim}

@@ -6,15 +6,15 @@ use Rattle.go_tree.specs.declared.operators.UnOp.{UnOp}
 use Rattle.go_tree.specs.declared.operators.UnOp.TheVariants as un
 use Rattle.go_tree.specs.declared.operators.BinOp.{BinOp}
 use Rattle.go_tree.specs.declared.operators.BinOp.TheVariants as bin
-use Rattle.go_tree.specs.declared.const_eval.kinds.Kind as c
-use Rattle.go_tree.specs.declared.const_eval.kinds.Kind.TheVariants as kind
-use Rattle.go_tree.specs.ConstEval.Exact.{is_truth_kind, is_text_kind}
-use Rattle.go_tree.specs.GoTypes.Answers.{given, meets}
-use Rattle.go_tree.specs.GoTypes.Types.{GoType, basic, untyped, untyped_nil, basic_kind, is_untyped}
-use Rattle.go_tree.specs.GoTypes.Defined.{Defined, under}
-use Rattle.go_tree.specs.GoTypes.Entities.{run, exact}
-use Rattle.go_tree.specs.GoTypes.Operands.{Operand, value, recovered, Typed, settled, default_type, kind_of}
-use Rattle.go_tree.specs.GoTypes.Operators.{common_type, compared_at}
+use Rattle.go_rules.specs.declared.const_eval.kinds.Kind as c
+use Rattle.go_rules.specs.declared.const_eval.kinds.Kind.TheVariants as kind
+use Rattle.go_rules.specs.ConstEval.Exact.{is_truth_kind, is_text_kind}
+use Rattle.go_rules.specs.GoTypes.Answers.{given, meets}
+use Rattle.go_rules.specs.GoTypes.Types.{GoType, basic, untyped, untyped_nil, basic_kind, is_untyped}
+use Rattle.go_rules.specs.GoTypes.Defined.{Defined, under}
+use Rattle.go_rules.specs.GoTypes.Entities.{run, exact}
+use Rattle.go_rules.specs.GoTypes.Operands.{Operand, value, recovered, Typed, settled, default_type, kind_of}
+use Rattle.go_rules.specs.GoTypes.Operators.{common_type, compared_at}
 use Rattle.go_kernel.specs.Kernel as k
 use Rattle.go_kernel.specs.Kernel.{Kind, Truth, Check, Checked, Unchecked, Op, Arith, Divide, Quotient, Remainder}
 use Rattle.go_kernel.specs.Kernel.{Shift, Negate, Complement, Compare, Concat, Term, Both, Prim, If}

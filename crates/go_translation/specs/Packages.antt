@@ -6,17 +6,17 @@ use Rattle.std.specs.Prelude.{length, Option, Some, None, if◌then◌else◌, n
 use Rattle.std.specs.List.{list_any, list_all}
 use Rattle.go_tree.specs.Tree.{NameAt, TypeExpr, Exprs}
 use Rattle.go_tree.specs.File.{Receiver, Func as Function}
-use Rattle.go_tree.specs.ScopeNames.Means.{is_blank}
-use Rattle.go_tree.specs.ScopeNames.FreeNames.{names_of}
-use Rattle.go_tree.specs.GoTypes.Answers.{given}
-use Rattle.go_tree.specs.GoTypes.Types.{GoType, FuncType}
-use Rattle.go_tree.specs.GoTypes.Entities.{World, Binds, extend, in_block, defined_in}
-use Rattle.go_tree.specs.GoTypes.TypeNames.{func_type, written_type}
-use Rattle.go_tree.specs.GoTypes.Statements.{body_binds, no_values}
-use Rattle.go_tree.specs.GoTypes.Programs.{SourceFile, SourcePackage, constants, variables, a_type_spec, a_func, Headed}
-use Rattle.go_tree.specs.GoTypes.Programs.{headed_package}
-use Rattle.go_tree.specs.GoTypes.Collect.{env_of, collected, receiver_type}
-use Rattle.go_tree.specs.GoTypes.WellTyped.{well_typed, receiver_of}
+use Rattle.go_rules.specs.ScopeNames.Means.{is_blank}
+use Rattle.go_rules.specs.ScopeNames.FreeNames.{names_of}
+use Rattle.go_rules.specs.GoTypes.Answers.{given}
+use Rattle.go_rules.specs.GoTypes.Types.{GoType, FuncType}
+use Rattle.go_rules.specs.GoTypes.Entities.{World, Binds, extend, in_block, defined_in}
+use Rattle.go_rules.specs.GoTypes.TypeNames.{func_type, written_type}
+use Rattle.go_rules.specs.GoTypes.Statements.{body_binds, no_values}
+use Rattle.go_rules.specs.GoTypes.Programs.{SourceFile, SourcePackage, constants, variables, a_type_spec, a_func, Headed}
+use Rattle.go_rules.specs.GoTypes.Programs.{headed_package}
+use Rattle.go_rules.specs.GoTypes.Collect.{env_of, collected, receiver_type}
+use Rattle.go_rules.specs.GoTypes.WellTyped.{well_typed, receiver_of}
 use Rattle.go_kernel.specs.Kernel.{free_shows, Text, ImportPath, FuncName, same_text, Func, Term, Vals, Let, Program}
 use Rattle.go_kernel.specs.Kernel.{declared, Shown, shows}
 use Rattle.go_translation.specs.Values.{nothing, path_of, zeros_of}

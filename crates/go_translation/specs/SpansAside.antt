@@ -3,7 +3,7 @@ use Rattle.std.specs.Prelude.{◌≡◌, List, map}
 use Rattle.std.specs.Option.{option_map}
 use Rattle.go_tree.specs.Bare.{bare_name, bare_type, bare_exprs}
 use Rattle.go_tree.specs.FileBare.{bare_type_spec, bare_func}
-use Rattle.go_tree.specs.GoTypes.Programs.{Header, constants, variables, a_type_spec, a_func, Headed, headed_package}
+use Rattle.go_rules.specs.GoTypes.Programs.{Header, constants, variables, a_type_spec, a_func, Headed, headed_package}
 use Rattle.typed_in_place.specs.ProgramsAlike.{OneByOne}
 use Rattle.typed_in_place.specs.ImportRule.{SamePackage}
 use Rattle.go_translation.specs.Packages.{Package}

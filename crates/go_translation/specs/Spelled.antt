@@ -11,8 +11,8 @@ use Rattle.go_tree.specs.Tree.{stmt_and, StmtOption, no_stmt, some_stmt, BlockOp
 use Rattle.go_tree.specs.Tree.{nothing, assigns, defines, Arms, no_arms, arm, Cases, no_cases, case, ValueSpecs}
 use Rattle.go_tree.specs.Tree.{no_specs, spec}
 use Rattle.go_tree.specs.File.{Receiver}
-use Rattle.go_tree.specs.ScopeNames.FreeNames.{names_of, sig_names}
-use Rattle.go_tree.specs.GoTypes.Programs.{constants, variables, a_type_spec, a_func, Header, Headed, headed}
+use Rattle.go_rules.specs.ScopeNames.FreeNames.{names_of, sig_names}
+use Rattle.go_rules.specs.GoTypes.Programs.{constants, variables, a_type_spec, a_func, Header, Headed, headed}
 use Rattle.go_translation.specs.Packages.{Package, sources}
 
 -- no identifier begins with '.' or '#', as the names of temporaries and of result slots do

@@ -3,14 +3,14 @@
 use Rattle.std.specs.Prelude.{ℕ, suc, Bool, true, false, not, ◌&&◌, ◌||◌, List, [], ◌∷◌, length, Option}
 use Rattle.std.specs.Prelude.{Some, None, if◌then◌else◌, is_some, pos}
 use Rattle.go_tree.specs.declared.operators.BinOp.{BinOp}
-use Rattle.go_tree.specs.declared.const_eval.kinds.Kind.TheVariants as kind
-use Rattle.go_tree.specs.ScopeNames.Means.{is_blank}
-use Rattle.go_tree.specs.GoTypes.Answers.{meets}
-use Rattle.go_tree.specs.GoTypes.Types.{GoType, basic, fields_of}
-use Rattle.go_tree.specs.GoTypes.Defined.{Defined}
-use Rattle.go_tree.specs.GoTypes.Entities.{run, Entity, variable, Env, meaning, is_declared_here}
-use Rattle.go_tree.specs.GoTypes.Operands.{Typed, settled}
-use Rattle.go_tree.specs.GoTypes.Literals.{inner_type}
+use Rattle.go_rules.specs.declared.const_eval.kinds.Kind.TheVariants as kind
+use Rattle.go_rules.specs.ScopeNames.Means.{is_blank}
+use Rattle.go_rules.specs.GoTypes.Answers.{meets}
+use Rattle.go_rules.specs.GoTypes.Types.{GoType, basic, fields_of}
+use Rattle.go_rules.specs.GoTypes.Defined.{Defined}
+use Rattle.go_rules.specs.GoTypes.Entities.{run, Entity, variable, Env, meaning, is_declared_here}
+use Rattle.go_rules.specs.GoTypes.Operands.{Typed, settled}
+use Rattle.go_rules.specs.GoTypes.Literals.{inner_type}
 use Rattle.go_kernel.specs.Kernel as k
 use Rattle.go_kernel.specs.Kernel.{Name, Kind, Number, Int, Nil, Slot, InFrame, InCell, Unchecked, Load, Alloc, Element}
 use Rattle.go_kernel.specs.Kernel.{Compare, Less, Arith, RangeMap, RangeNext, temporary, break_label, continue_label}

@@ -11,18 +11,18 @@ use Rattle.go_tree.specs.Tree.{braced, ValueOption, some_value, Stmt, const_decl
 use Rattle.go_tree.specs.Tree.{return_, inner, if_, for_, range_, switch, defer, label, Stmts, stmt_and, StmtOption}
 use Rattle.go_tree.specs.Tree.{some_stmt, BlockOption, some_block, RangeLeft, assigns, Arms, no_arms, arm, Cases, case}
 use Rattle.go_tree.specs.Tree.{ValueSpecs, no_specs, spec}
-use Rattle.go_tree.specs.declared.const_eval.consts.Const.{Const}
-use Rattle.go_tree.specs.ScopeNames.Means.{means, is_blank}
-use Rattle.go_tree.specs.ScopeNames.FreeNames.{names_of, specs_names, defined}
-use Rattle.go_tree.specs.GoTypes.Answers.{given}
-use Rattle.go_tree.specs.GoTypes.Types.{GoType, FuncType}
-use Rattle.go_tree.specs.GoTypes.Defined.{under}
-use Rattle.go_tree.specs.GoTypes.Entities.{constant, package_name, Env, exported, Binds, extend, in_block}
-use Rattle.go_tree.specs.GoTypes.TypeNames.{type_meant, func_type, written_type}
-use Rattle.go_tree.specs.GoTypes.Literals.{is_struct, key_type, inner_type, literal_type}
-use Rattle.go_tree.specs.GoTypes.Statements.{body_binds, no_values, Declared}
-use Rattle.go_tree.specs.GoTypes.Typing.{parts, all_parts, range_declares, binds_of, new_constants, Repeated}
-use Rattle.go_tree.specs.GoTypes.Typing.{declares_constants}
+use Rattle.go_rules.specs.declared.const_eval.consts.Const.{Const}
+use Rattle.go_rules.specs.ScopeNames.Means.{means, is_blank}
+use Rattle.go_rules.specs.ScopeNames.FreeNames.{names_of, specs_names, defined}
+use Rattle.go_rules.specs.GoTypes.Answers.{given}
+use Rattle.go_rules.specs.GoTypes.Types.{GoType, FuncType}
+use Rattle.go_rules.specs.GoTypes.Defined.{under}
+use Rattle.go_rules.specs.GoTypes.Entities.{constant, package_name, Env, exported, Binds, extend, in_block}
+use Rattle.go_rules.specs.GoTypes.TypeNames.{type_meant, func_type, written_type}
+use Rattle.go_rules.specs.GoTypes.Literals.{is_struct, key_type, inner_type, literal_type}
+use Rattle.go_rules.specs.GoTypes.Statements.{body_binds, no_values, Declared}
+use Rattle.go_rules.specs.GoTypes.Typing.{parts, all_parts, range_declares, binds_of, new_constants, Repeated}
+use Rattle.go_rules.specs.GoTypes.Typing.{declares_constants}
 use Rattle.go_translation.specs.Mentions.{Mention, Read, mentions, mentions_option, mentions_first, mentions_stmts}
 use Rattle.go_translation.specs.Mentions.{mentions_block, mentions_arms, mentions_cases, mentions_specs}
 use Rattle.go_translation.specs.Here.{Here, defined_here, in_inner, declaring, at_body}

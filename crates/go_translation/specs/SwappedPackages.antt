@@ -4,11 +4,11 @@
 use Rattle.std.specs.Prelude.{◌≡◌, ℕ, List, [], ◌∷◌, Option, Some, None}
 use Rattle.go_tree.specs.Tree.{NameAt, TypeExpr, Exprs, Stmts}
 use Rattle.go_tree.specs.File.{Func as Function}
-use Rattle.go_tree.specs.GoTypes.Types.{FuncType}
-use Rattle.go_tree.specs.GoTypes.Entities.{World, extend, in_block}
-use Rattle.go_tree.specs.GoTypes.TypeNames.{func_type}
-use Rattle.go_tree.specs.GoTypes.Programs.{constants, variables, a_func, Headed, headed_package}
-use Rattle.go_tree.specs.GoTypes.Collect.{env_of, collected}
+use Rattle.go_rules.specs.GoTypes.Types.{FuncType}
+use Rattle.go_rules.specs.GoTypes.Entities.{World, extend, in_block}
+use Rattle.go_rules.specs.GoTypes.TypeNames.{func_type}
+use Rattle.go_rules.specs.GoTypes.Programs.{constants, variables, a_func, Headed, headed_package}
+use Rattle.go_rules.specs.GoTypes.Collect.{env_of, collected}
 use Rattle.go_kernel.specs.Kernel.{ImportPath}
 use Rattle.go_translation.specs.Mentions.{mentions_stmts}
 use Rattle.go_translation.specs.Here.{Here, at_body}

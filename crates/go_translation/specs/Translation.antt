@@ -10,22 +10,22 @@ use Rattle.go_tree.specs.Tree.{break_, continue_, inner, if_, for_, range_, swit
 use Rattle.go_tree.specs.Tree.{stmt_and, StmtOption, no_stmt, some_stmt, BlockOption, no_block, some_block, RangeLeft}
 use Rattle.go_tree.specs.Tree.{nothing, assigns, defines, Arms, no_arms, arm, Cases, no_cases, case, ValueSpecs}
 use Rattle.go_tree.specs.Tree.{no_specs, spec}
-use Rattle.go_tree.specs.declared.const_eval.kinds.Kind.TheVariants as kind
-use Rattle.go_tree.specs.declared.const_eval.consts.Const.TheVariants.{Whole}
-use Rattle.go_tree.specs.ConstEval.Exact.{number, text}
-use Rattle.go_tree.specs.ConstEval.Literals.{integer_value, literal_value}
+use Rattle.go_rules.specs.declared.const_eval.kinds.Kind.TheVariants as kind
+use Rattle.go_rules.specs.declared.const_eval.consts.Const.TheVariants.{Whole}
+use Rattle.go_rules.specs.ConstEval.Exact.{number, text}
+use Rattle.go_rules.specs.ConstEval.Literals.{integer_value, literal_value}
 use Rattle.go_tree.specs.GoWords.Texts.{text_value}
-use Rattle.go_tree.specs.ScopeNames.FreeNames.{names_of, defined}
-use Rattle.go_tree.specs.GoTypes.Answers.{given}
-use Rattle.go_tree.specs.GoTypes.Types.{GoType, basic}
-use Rattle.go_tree.specs.GoTypes.Defined.{under}
-use Rattle.go_tree.specs.GoTypes.Entities.{run, Env, meaning, exported, Binds, extend, in_block}
-use Rattle.go_tree.specs.GoTypes.TypeNames.{type_meant, func_type, written_type}
-use Rattle.go_tree.specs.GoTypes.Operands.{Operand, a_type, named_operand, literal_operand, spread}
-use Rattle.go_tree.specs.GoTypes.Literals.{key_type, literal_type}
-use Rattle.go_tree.specs.GoTypes.Jumps.{is_breakable}
-use Rattle.go_tree.specs.GoTypes.Statements.{body_binds, no_values}
-use Rattle.go_tree.specs.GoTypes.Typing.{parts, all_parts, place, range_declares, binds_of, package_before, step_op}
+use Rattle.go_rules.specs.ScopeNames.FreeNames.{names_of, defined}
+use Rattle.go_rules.specs.GoTypes.Answers.{given}
+use Rattle.go_rules.specs.GoTypes.Types.{GoType, basic}
+use Rattle.go_rules.specs.GoTypes.Defined.{under}
+use Rattle.go_rules.specs.GoTypes.Entities.{run, Env, meaning, exported, Binds, extend, in_block}
+use Rattle.go_rules.specs.GoTypes.TypeNames.{type_meant, func_type, written_type}
+use Rattle.go_rules.specs.GoTypes.Operands.{Operand, a_type, named_operand, literal_operand, spread}
+use Rattle.go_rules.specs.GoTypes.Literals.{key_type, literal_type}
+use Rattle.go_rules.specs.GoTypes.Jumps.{is_breakable}
+use Rattle.go_rules.specs.GoTypes.Statements.{body_binds, no_values}
+use Rattle.go_rules.specs.GoTypes.Typing.{parts, all_parts, place, range_declares, binds_of, package_before, step_op}
 use Rattle.go_kernel.specs.Kernel as k
 use Rattle.go_kernel.specs.Kernel.{Name, Truth, Checked, Load, Alloc, Slicing, MapGet, MapTry, Compare, Equal, in_cells}
 use Rattle.go_kernel.specs.Kernel.{temporary, return_label, break_label, continue_label, Term, Vals, Local, Both, Prim}

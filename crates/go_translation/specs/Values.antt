@@ -2,14 +2,14 @@
 -- are reported (Go specification, "Constants", "The zero value", "Numeric types", "Handling panics").
 use Rattle.std.specs.Prelude.{ℕ, zero, suc, false, List, [], ◌∷◌, length, Option, Some, None, nat_eq}
 use Rattle.std.specs.Prelude.{if◌then◌else◌, pos}
-use Rattle.go_tree.specs.declared.const_eval.kinds.Kind as c
-use Rattle.go_tree.specs.declared.const_eval.kinds.Kind.TheVariants as kind
-use Rattle.go_tree.specs.declared.const_eval.consts.Const.{Const}
-use Rattle.go_tree.specs.declared.const_eval.consts.Const.TheVariants as const
-use Rattle.go_tree.specs.GoTypes.Types.{GoType, basic, named_type, pointer_to, slice_of, map_of, struct_of, tuple_of}
-use Rattle.go_tree.specs.GoTypes.Types.{untyped, untyped_nil, GoFields, no_go_fields, go_field, basic_kind}
-use Rattle.go_tree.specs.GoTypes.Defined.{Defined, under}
-use Rattle.go_tree.specs.GoTypes.Operands.{Operand, Typed, typed}
+use Rattle.go_rules.specs.declared.const_eval.kinds.Kind as c
+use Rattle.go_rules.specs.declared.const_eval.kinds.Kind.TheVariants as kind
+use Rattle.go_rules.specs.declared.const_eval.consts.Const.{Const}
+use Rattle.go_rules.specs.declared.const_eval.consts.Const.TheVariants as const
+use Rattle.go_rules.specs.GoTypes.Types.{GoType, basic, named_type, pointer_to, slice_of, map_of, struct_of, tuple_of}
+use Rattle.go_rules.specs.GoTypes.Types.{untyped, untyped_nil, GoFields, no_go_fields, go_field, basic_kind}
+use Rattle.go_rules.specs.GoTypes.Defined.{Defined, under}
+use Rattle.go_rules.specs.GoTypes.Operands.{Operand, Typed, typed}
 use Rattle.go_kernel.specs.Kernel.{ImportPath, Kind, Int, Int8, Int16, Int32, Int64, Uint, Uint8, Uint16, Uint32}
 use Rattle.go_kernel.specs.Kernel.{Uint64, Value, Number, Truth, Str, Nil, Empty, With, PanicType, BoolType, StringType}
 use Rattle.go_kernel.specs.Kernel.{NumberType, DefinedType, PointerType, SliceType, MapType, StructType, FieldTypes}

@@ -2,12 +2,12 @@
 -- "Order of evaluation", "Address operators").
 use Rattle.std.specs.Prelude.{◌≡◌, ℕ, Bool, true, false, List, [], ◌∷◌, length, Option, Some, None}
 use Rattle.std.specs.Prelude.{is_some}
-use Rattle.go_tree.specs.ScopeNames.Means.{is_blank}
-use Rattle.go_tree.specs.GoTypes.Types.{GoType, named_type}
-use Rattle.go_tree.specs.GoTypes.Defined.{Method, methods}
-use Rattle.go_tree.specs.GoTypes.Entities.{Entity, variable, stand_in, function, meaning, exported}
-use Rattle.go_tree.specs.GoTypes.Operands.{Operand, value, several}
-use Rattle.go_tree.specs.GoTypes.Primary.{find_method}
+use Rattle.go_rules.specs.ScopeNames.Means.{is_blank}
+use Rattle.go_rules.specs.GoTypes.Types.{GoType, named_type}
+use Rattle.go_rules.specs.GoTypes.Defined.{Method, methods}
+use Rattle.go_rules.specs.GoTypes.Entities.{Entity, variable, stand_in, function, meaning, exported}
+use Rattle.go_rules.specs.GoTypes.Operands.{Operand, value, several}
+use Rattle.go_rules.specs.GoTypes.Primary.{find_method}
 use Rattle.go_kernel.specs.Kernel.{ImportPath, Program}
 use Rattle.go_translation.specs.Values.{path_of}
 use Rattle.go_translation.specs.Mentions.{Mention, is_addressed}

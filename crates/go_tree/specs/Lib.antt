@@ -8,7 +8,4 @@ pub mod Bare
 pub mod FileBare
 pub mod Spellings
 pub mod GoWords
-pub mod ScopeNames
-pub mod ConstEval
 pub mod GoLiterals
-pub mod GoTypes

@@ -3,15 +3,12 @@
 
 pub mod build_exprs;
 pub mod build_stmts;
-pub mod const_eval;
 pub mod exprs;
 pub mod files;
 pub mod go_literals;
-pub mod go_types;
 pub mod go_words;
 pub mod limits;
 pub mod operators;
-pub mod scope_names;
 pub mod spans;
 pub mod spellings;
 pub mod stmts;

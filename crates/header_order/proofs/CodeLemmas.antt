@@ -10,8 +10,8 @@ use Rattle.go_tree.specs.Tree.{TypeExpr, Exprs, no_exprs}
 use Rattle.go_tree.specs.File.{values}
 use Rattle.go_tree.specs.Lists.{specs_from}
 use Rattle.go_tree.specs.View.{const_decl_of, const_spec_of, const_specs_of, var_decl_of, var_spec_of, var_specs_of}
-use Rattle.go_tree.specs.GoTypes.Bodies.{no_values}
-use Rattle.go_tree.specs.GoTypes.Programs.{at_member, constant_headers, constants, headers, variable_headers}
+use Rattle.go_rules.specs.GoTypes.Bodies.{no_values}
+use Rattle.go_rules.specs.GoTypes.Programs.{at_member, constant_headers, constants, headers, variable_headers}
 use Rattle.package_blocks.proofs.DeclLemmas.{const_headers, var_headers}
 use Rattle.header_order.specs.Files.{AddsFirsts, FilesPassed, first_mark, first_marks, total}
 use Rattle.header_order.proofs.FileLemmas.{length_both, total_both}

@@ -4,13 +4,13 @@ use Rattle.std.specs.Prelude.{slice_get, if◌then◌else◌}
 use Rattle.std.specs.List.{list_any}
 use Rattle.std.proofs.lemmas.Bool.Decides.{nat_tests}
 use Rattle.go_tree.specs.declared.spans.Span.{Span}
-use Rattle.go_tree.specs.ScopeNames.Means.{Environment}
-use Rattle.go_tree.specs.GoTypes.Answers.{and_also, given, one_of}
-use Rattle.go_tree.specs.GoTypes.Entities.{Entity, World}
-use Rattle.go_tree.specs.GoTypes.Programs.{Header, SourceFile, SourcePackage, Headed, Program, all_headers, block_names, file_block, header_names, headed, headed_file, headed_files, headed_package, is_main, names_in}
-use Rattle.go_tree.specs.GoTypes.MethodDeclarations.{MethodName, declared_on}
-use Rattle.go_tree.specs.GoTypes.Collect.{DeclaredTypes}
-use Rattle.go_tree.specs.GoTypes.WellTyped.{NotTyped, first_header, first_in_files, first_import, header_ok, refused_unless}
+use Rattle.go_rules.specs.ScopeNames.Means.{Environment}
+use Rattle.go_rules.specs.GoTypes.Answers.{and_also, given, one_of}
+use Rattle.go_rules.specs.GoTypes.Entities.{Entity, World}
+use Rattle.go_rules.specs.GoTypes.Programs.{Header, SourceFile, SourcePackage, Headed, Program, all_headers, block_names, file_block, header_names, headed, headed_file, headed_files, headed_package, is_main, names_in}
+use Rattle.go_rules.specs.GoTypes.MethodDeclarations.{MethodName, declared_on}
+use Rattle.go_rules.specs.GoTypes.Collect.{DeclaredTypes}
+use Rattle.go_rules.specs.GoTypes.WellTyped.{NotTyped, first_header, first_in_files, first_import, header_ok, refused_unless}
 use Rattle.package_blocks.proofs.FirstLemmas.{AllHome, home_files}
 use Rattle.method_types.specs.Steps.{names_after}
 use Rattle.header_order.specs.Kinds.{wrongs}

@@ -3,14 +3,14 @@ use Rattle.std.specs.Prelude.{◌≡◌, refl, ℕ, suc, Bool, true, false, not,
 use mathlib.Core.Path.{ap, ap₂, sym, ◌∙◌}
 use Rattle.go_tree.specs.declared.spans.Span.{Span}
 use Rattle.go_tree.specs.File.{Receiver}
-use Rattle.go_tree.specs.ScopeNames.Means.{binding}
-use Rattle.go_tree.specs.GoTypes.Answers.{and_also, given, meets, only_if}
-use Rattle.go_tree.specs.GoTypes.Types.{named_type}
-use Rattle.go_tree.specs.GoTypes.Entities.{Binds, World}
-use Rattle.go_tree.specs.GoTypes.Programs.{Header, constants, variables, a_type_spec, a_func, spec_of, Headed, Program, headed, env_of}
-use Rattle.go_tree.specs.GoTypes.MethodDeclarations.{MethodName, declared_on}
-use Rattle.go_tree.specs.GoTypes.Collect.{DeclaredTypes, collected, declared_by, is_finite, type_entity, types_declared, typed_world, valued_world}
-use Rattle.go_tree.specs.GoTypes.WellTyped.{is_method, method_ok, header_ok}
+use Rattle.go_rules.specs.ScopeNames.Means.{binding}
+use Rattle.go_rules.specs.GoTypes.Answers.{and_also, given, meets, only_if}
+use Rattle.go_rules.specs.GoTypes.Types.{named_type}
+use Rattle.go_rules.specs.GoTypes.Entities.{Binds, World}
+use Rattle.go_rules.specs.GoTypes.Programs.{Header, constants, variables, a_type_spec, a_func, spec_of, Headed, Program, headed, env_of}
+use Rattle.go_rules.specs.GoTypes.MethodDeclarations.{MethodName, declared_on}
+use Rattle.go_rules.specs.GoTypes.Collect.{DeclaredTypes, collected, declared_by, is_finite, type_entity, types_declared, typed_world, valued_world}
+use Rattle.go_rules.specs.GoTypes.WellTyped.{is_method, method_ok, header_ok}
 use Rattle.typed_in_place.proofs.Headers.{declared_in, good_in}
 use Rattle.refused_headers.specs.Refused.{refuses_type}
 use Rattle.package_blocks.specs.FuncHeaders.NameRoles.{SameTypes}

@@ -6,7 +6,7 @@ use Rattle.std.proofs.lemmas.Bool.{true≢false}
 use Rattle.std.proofs.lemmas.Bool.Decides.{nat_tests}
 use Rattle.std.proofs.lemmas.List.Folds.{list_any-append}
 use Rattle.go_tree.specs.declared.spans.Span.{Span}
-use Rattle.go_tree.specs.GoTypes.Programs.{Program}
+use Rattle.go_rules.specs.GoTypes.Programs.{Program}
 use Rattle.pkg_graph.specs.GraphLaws.{OrdersAreUnique}
 use Rattle.pkg_graph.specs.Package as pure
 use Rattle.pkg_graph.specs.declared.packages.SourceTree.{SourceTree}

@@ -4,11 +4,11 @@ use Rattle.std.specs.Prelude.{drop, length, map, Option, Some, None, nat_eq, sli
 use Rattle.std.specs.List.{list_any}
 use Rattle.go_tree.specs.declared.spans.Span.{Span}
 use Rattle.go_tree.specs.FileView.{decl_of}
-use Rattle.go_tree.specs.GoTypes.Answers.{given, one_of}
-use Rattle.go_tree.specs.GoTypes.Entities.{World}
-use Rattle.go_tree.specs.GoTypes.Programs.{SourceFile, Headed, Program, all_headers}
-use Rattle.go_tree.specs.GoTypes.Collect.{DeclaredTypes}
-use Rattle.go_tree.specs.GoTypes.WellTyped.{NotTyped, first_header, first_import}
+use Rattle.go_rules.specs.GoTypes.Answers.{given, one_of}
+use Rattle.go_rules.specs.GoTypes.Entities.{World}
+use Rattle.go_rules.specs.GoTypes.Programs.{SourceFile, Headed, Program, all_headers}
+use Rattle.go_rules.specs.GoTypes.Collect.{DeclaredTypes}
+use Rattle.go_rules.specs.GoTypes.WellTyped.{NotTyped, first_header, first_import}
 use Rattle.pkg_graph.specs.declared.packages.SourceTree.{SourceTree}
 use Rattle.pkg_graph.specs.declared.packages.Package.{Package}
 

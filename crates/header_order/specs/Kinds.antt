@@ -2,12 +2,12 @@
 -- Uniqueness of identifiers).
 use Rattle.std.specs.Prelude.{◌≡◌, ℕ, zero, suc, Bool, true, false, not, List, [], ◌∷◌, replicate}
 use Rattle.go_tree.specs.declared.spans.Span.{Span}
-use Rattle.go_tree.specs.GoTypes.Answers.{and_also}
-use Rattle.go_tree.specs.GoTypes.Entities.{World}
-use Rattle.go_tree.specs.GoTypes.Programs.{Headed, Program, headed}
-use Rattle.go_tree.specs.GoTypes.MethodDeclarations.{MethodName, declared_on}
-use Rattle.go_tree.specs.GoTypes.Collect.{DeclaredTypes, collected, types_declared}
-use Rattle.go_tree.specs.GoTypes.WellTyped.{header_ok}
+use Rattle.go_rules.specs.GoTypes.Answers.{and_also}
+use Rattle.go_rules.specs.GoTypes.Entities.{World}
+use Rattle.go_rules.specs.GoTypes.Programs.{Headed, Program, headed}
+use Rattle.go_rules.specs.GoTypes.MethodDeclarations.{MethodName, declared_on}
+use Rattle.go_rules.specs.GoTypes.Collect.{DeclaredTypes, collected, types_declared}
+use Rattle.go_rules.specs.GoTypes.WellTyped.{header_ok}
 use Rattle.package_blocks.specs.FuncHeaders.Functions.{refused_functions}
 use Rattle.method_types.specs.Methods.{refused_methods}
 use Rattle.value_rounds.specs.Values.{refused_values}

@@ -1,10 +1,10 @@
 -- The laws of refused headers. Each is a clause of a function of this crate.
 use Rattle.std.specs.Prelude.{◌≡◌, ℕ, List, [], length, map}
 use Rattle.go_tree.specs.declared.spans.Span.{Span}
-use Rattle.go_tree.specs.GoTypes.Entities.{World}
-use Rattle.go_tree.specs.GoTypes.Programs.{Headed, Program, SourcePackage, block_names, headed}
-use Rattle.go_tree.specs.GoTypes.Collect.{DeclaredTypes}
-use Rattle.go_tree.specs.GoTypes.WellTyped.{refused_header}
+use Rattle.go_rules.specs.GoTypes.Entities.{World}
+use Rattle.go_rules.specs.GoTypes.Programs.{Headed, Program, SourcePackage, block_names, headed}
+use Rattle.go_rules.specs.GoTypes.Collect.{DeclaredTypes}
+use Rattle.go_rules.specs.GoTypes.WellTyped.{refused_header}
 use Rattle.pkg_graph.specs.declared.packages.Package.{Package}
 use Rattle.package_blocks.specs.Collected.{AreOrdered}
 use Rattle.package_blocks.specs.Imports.{views}

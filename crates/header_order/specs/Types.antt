@@ -1,9 +1,9 @@
 -- The headers of types that are refused, looked at one after the other (Go specification, Type declarations).
 use Rattle.std.specs.Prelude.{◌≡◌, ℕ, ◌++◌, List, map}
 use Rattle.go_tree.specs.declared.spans.Span.{Span}
-use Rattle.go_tree.specs.declared.const_eval.consts.Const.{Const}
-use Rattle.go_tree.specs.GoTypes.Programs.{Headed, Program, headed}
-use Rattle.go_tree.specs.GoTypes.Collect.{types_declared, typed_world}
+use Rattle.go_rules.specs.declared.const_eval.consts.Const.{Const}
+use Rattle.go_rules.specs.GoTypes.Programs.{Headed, Program, headed}
+use Rattle.go_rules.specs.GoTypes.Collect.{types_declared, typed_world}
 use Rattle.type_table.specs.TypeRelations.Environment.{Environment}
 use Rattle.type_table.specs.ValueTypes.ValueTypes.{HasValueTypes}
 use Rattle.typed_names.specs.declared.scopes.Scope.{Scope}

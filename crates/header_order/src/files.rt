@@ -2,7 +2,7 @@
 
 ghost use Rattle.std.specs.Prelude.{◌≡◌, ◌≤◌, ◌+◌, ◌++◌, ℕ, drop, length, map, slice_get, IfOk};
 ghost use Rattle.go_tree.specs.FileView.{decl_of};
-ghost use Rattle.go_tree.specs.GoTypes.Programs as go;
+ghost use Rattle.go_rules.specs.GoTypes.Programs as go;
 ghost use Rattle.header_order.specs.Files.{counts_of, first_mark, first_marks, header_counts, package_counts, total};
 ghost use Rattle.header_order.specs.Files.{AddsFirsts};
 

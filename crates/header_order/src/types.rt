@@ -1,10 +1,10 @@
 //! The headers of types that are refused (Go specification, Type declarations; Uniqueness of identifiers).
 
 ghost use Rattle.std.specs.Prelude.{◌≡◌, List, map, IfOk};
-ghost use Rattle.go_tree.specs.declared.const_eval.consts.Const.{Const};
+ghost use Rattle.go_rules.specs.declared.const_eval.consts.Const.{Const};
 ghost use Rattle.go_tree.specs.declared.spans.Span.{Span};
-ghost use Rattle.go_tree.specs.GoTypes.Programs.{Headed, Program};
-ghost use Rattle.go_tree.specs.GoTypes.Collect.{typed_world, types_declared};
+ghost use Rattle.go_rules.specs.GoTypes.Programs.{Headed, Program};
+ghost use Rattle.go_rules.specs.GoTypes.Collect.{typed_world, types_declared};
 ghost use Rattle.type_table.specs.ValueTypes.ValueTypes.{HasValueTypes};
 ghost use Rattle.typed_names.specs.Meanings.{world_at};
 ghost use Rattle.typed_names.specs.TypeExprs.Grown.{TypesGrown};

@@ -3,11 +3,11 @@ use Rattle.std.proofs.Common.{◌≡◌, ◌∙◌, ◌&&◌, not, ℕ, suc, tru
 use Rattle.go_tree.specs.declared.spans.Span.{Span}
 use Rattle.go_tree.specs.File.{File}
 use Rattle.go_tree.specs.GoWords.Tokens.Pieces.{is_among}
-use Rattle.go_tree.specs.declared.scope_names.names.ImportName.{ImportName}
-use Rattle.go_tree.specs.declared.scope_names.names.FileNames.{FileNames}
-use Rattle.go_tree.specs.ScopeNames.Fresh.{IsFresh}
-use Rattle.go_tree.specs.ScopeNames.Occurrences.{means_import}
-use Rattle.go_tree.specs.ScopeNames.Scopes.{environment_at}
+use Rattle.go_rules.specs.declared.scope_names.names.ImportName.{ImportName}
+use Rattle.go_rules.specs.declared.scope_names.names.FileNames.{FileNames}
+use Rattle.go_rules.specs.ScopeNames.Fresh.{IsFresh}
+use Rattle.go_rules.specs.ScopeNames.Occurrences.{means_import}
+use Rattle.go_rules.specs.ScopeNames.Scopes.{environment_at}
 use Rattle.scope_tables.specs.Table.{Table, IsTableOf}
 use Rattle.run_rules.specs.ImportRules.Needs.{serves, serving_from, serving, avoided, IsNeededAt, there, new}
 use Rattle.import_edit.specs.Serving.{serving_at}

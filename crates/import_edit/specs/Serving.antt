@@ -2,8 +2,8 @@
 use Rattle.std.specs.Prelude.{ℕ, suc, Bool, not, ◌&&◌, bytes_eq, List, [], ◌∷◌, Option, Some, None}
 use Rattle.std.specs.Prelude.{if◌then◌else◌}
 use Rattle.go_tree.specs.GoWords.Tokens.Pieces.{is_among}
-use Rattle.go_tree.specs.declared.scope_names.names.ImportName.{ImportName}
-use Rattle.go_tree.specs.ScopeNames.Occurrences.{means_import}
+use Rattle.go_rules.specs.declared.scope_names.names.ImportName.{ImportName}
+use Rattle.go_rules.specs.ScopeNames.Occurrences.{means_import}
 use Rattle.scope_tables.specs.Table.{Table, meaning_in}
 
 module _ (table : Table) (at : ℕ) (bound : List (List ℕ)) (path : List ℕ) where

@@ -3,12 +3,12 @@
 ghost use Rattle.std.specs.Prelude.{◌≡◌, ◌++◌, IfOk, OnOk, map, option_copied};
 ghost use Rattle.go_tree.specs.FileView.{file_of};
 ghost use Rattle.go_tree.specs.GoWords.Tokens.Pieces.{is_among};
-ghost use Rattle.go_tree.specs.ScopeNames.Occurrences.{means_import};
+ghost use Rattle.go_rules.specs.ScopeNames.Occurrences.{means_import};
 ghost use Rattle.scope_tables.specs.Table.{IsTableOf, table_of};
 ghost use Rattle.run_rules.specs.ImportRules.Needs.{IsNeededAt, avoided};
 ghost use Rattle.import_edit.specs.Serving.{serves_at, serving_at};
 
-use go_tree::scope_names::{Entity, FileNames, ImportName, NameList};
+use go_rules::scope_names::{Entity, FileNames, ImportName, NameList};
 use go_tree::{FileTree, Name, NoMemory, Text};
 use names_within::fresh;
 use run_rules::import_rules::Needed;

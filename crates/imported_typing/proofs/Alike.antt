@@ -3,7 +3,7 @@ use Rattle.std.specs.Prelude.{◌≡◌, refl, ℕ, zero, suc, ◌+◌, Bool, tr
 use Rattle.std.specs.List.{list_all}
 use mathlib.Core.Path.{sym, ◌∙◌, subst}
 use Rattle.std.proofs.Common.{arith}
-use Rattle.go_tree.specs.GoTypes.Answers.{given, both, meets, only_if, answers_of}
+use Rattle.go_rules.specs.GoTypes.Answers.{given, both, meets, only_if, answers_of}
 use Rattle.imported_typing.specs.Reach.{AllOf, IfAny}
 
 -- two answers: both are missing, or they are one answer of which `K` holds

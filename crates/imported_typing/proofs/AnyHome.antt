@@ -1,9 +1,9 @@
 -- What is within reach is so where fields of any package are.
 use Rattle.std.specs.Prelude.{refl, ℕ, List, [], ◌∷◌, Option, Some, None}
-use Rattle.go_tree.specs.ScopeNames.Means.{means}
-use Rattle.go_tree.specs.GoTypes.Types.{GoType, basic, named_type, pointer_to, slice_of, map_of, struct_of, tuple_of, untyped, untyped_nil, GoFields, no_go_fields, go_field, GoTypes, no_go_types, go_type}
-use Rattle.go_tree.specs.GoTypes.Defined.{Method, Defined, find_defined}
-use Rattle.go_tree.specs.GoTypes.Entities.{Entity, variable, constant, stand_in, type_name, function, package_name, builtin, nil_name, iota_name, refused, World, Env, meaning, block_of}
+use Rattle.go_rules.specs.ScopeNames.Means.{means}
+use Rattle.go_rules.specs.GoTypes.Types.{GoType, basic, named_type, pointer_to, slice_of, map_of, struct_of, tuple_of, untyped, untyped_nil, GoFields, no_go_fields, go_field, GoTypes, no_go_types, go_type}
+use Rattle.go_rules.specs.GoTypes.Defined.{Method, Defined, find_defined}
+use Rattle.go_rules.specs.GoTypes.Entities.{Entity, variable, constant, stand_in, type_name, function, package_name, builtin, nil_name, iota_name, refused, World, Env, meaning, block_of}
 use Rattle.imported_typing.specs.Reach.{Reach, any_home, AllOf, IfAny, HomeWithin, TypeWithin, FieldsWithin, TypesWithin, MethodWithin, DefinedWithin, EntityWithin, PlaceWithin, SameWithin}
 
 module _ (r : Reach) where

@@ -3,23 +3,23 @@ use Rattle.std.specs.Prelude.{◌≡◌, refl, ℕ, zero, suc, Bool, true, false
 use Rattle.std.specs.List.{list_all}
 use mathlib.Core.Path.{ap, sym, ◌∙◌, subst}
 use Rattle.go_tree.specs.File.{TypeSpec}
-use Rattle.go_tree.specs.ScopeNames.Means.{Environment, is_blank, binding}
-use Rattle.go_tree.specs.GoTypes.Answers.{given, meets, only_if, one_of, and_also}
-use Rattle.go_tree.specs.GoTypes.Types.{GoType, named_type}
-use Rattle.go_tree.specs.GoTypes.Defined.{has_keys}
-use Rattle.go_tree.specs.GoTypes.Entities.{Entity, World, Binds}
-use Rattle.go_tree.specs.GoTypes.TypeNames.{resolved}
-use Rattle.go_tree.specs.GoTypes.Programs.{SourceFile, Program, Header, constants, variables, a_type_spec, a_func, spec_of, Headed, file_block, header_names, headed_file, headed_files, headed_package, headed, all_headers, names_in, block_names, is_main, env_of}
-use Rattle.go_tree.specs.GoTypes.TypeDeclarations.{DeclaredType, DeclaredTypes, declared_as, under_within, is_finite_by, is_finite_within, is_finite}
-use Rattle.go_tree.specs.GoTypes.MethodDeclarations.{MethodName, declared_on}
-use Rattle.go_tree.specs.GoTypes.Collect.{type_entity, spec_type, type_declared, declared_types, is_good_type, good_entity, package_constants, package_variables, func_declared, declared_by, blocks_by, rounds, aliased_world, types_declared, typed_world, collected}
-use Rattle.go_tree.specs.GoTypes.WellTyped.{refused_unless, is_method, method_ok, header_ok, first_import, first_header, first_in_files, first_body, lacks_main, refused_in, first_refused, well_typed}
+use Rattle.go_rules.specs.ScopeNames.Means.{Environment, is_blank, binding}
+use Rattle.go_rules.specs.GoTypes.Answers.{given, meets, only_if, one_of, and_also}
+use Rattle.go_rules.specs.GoTypes.Types.{GoType, named_type}
+use Rattle.go_rules.specs.GoTypes.Defined.{has_keys}
+use Rattle.go_rules.specs.GoTypes.Entities.{Entity, World, Binds}
+use Rattle.go_rules.specs.GoTypes.TypeNames.{resolved}
+use Rattle.go_rules.specs.GoTypes.Programs.{SourceFile, Program, Header, constants, variables, a_type_spec, a_func, spec_of, Headed, file_block, header_names, headed_file, headed_files, headed_package, headed, all_headers, names_in, block_names, is_main, env_of}
+use Rattle.go_rules.specs.GoTypes.TypeDeclarations.{DeclaredType, DeclaredTypes, declared_as, under_within, is_finite_by, is_finite_within, is_finite}
+use Rattle.go_rules.specs.GoTypes.MethodDeclarations.{MethodName, declared_on}
+use Rattle.go_rules.specs.GoTypes.Collect.{type_entity, spec_type, type_declared, declared_types, is_good_type, good_entity, package_constants, package_variables, func_declared, declared_by, blocks_by, rounds, aliased_world, types_declared, typed_world, collected}
+use Rattle.go_rules.specs.GoTypes.WellTyped.{refused_unless, is_method, method_ok, header_ok, first_import, first_header, first_in_files, first_body, lacks_main, refused_in, first_refused, well_typed}
 use Rattle.typed_in_place.specs.Known.{BlocksClearer}
 use Rattle.typed_in_place.proofs.Rising.{keeps_some}
 use Rattle.typed_in_place.proofs.Phases.{falls}
 use Rattle.typed_in_place.proofs.Headers.{type_answers, type_phase, types_fall}
 use Rattle.typed_in_place.proofs.Collected.{aliased_settled, typed_is, with_types}
-use Rattle.go_tree.proofs.GoTypes.Agreeing.{some_same}
+use Rattle.go_rules.proofs.GoTypes.Agreeing.{some_same}
 use Rattle.imported_typing.specs.Reach.{AllOf}
 use Rattle.imported_typing.specs.Further.{is_end, chains_end}
 use Rattle.imported_typing.proofs.TypesKept.{WorldKept, values_kept, text_kept}

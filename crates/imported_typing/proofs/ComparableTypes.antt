@@ -1,9 +1,9 @@
 -- Which types are comparable hangs on no more names than there are definitions.
 use Rattle.std.specs.Prelude.{◌≡◌, refl, ℕ, zero, suc, Bool, true, false, ◌&&◌, List, [], ◌∷◌, length, Option, Some, None, if◌then◌else◌, nat_eq, bytes_eq}
 use mathlib.Core.Path.{ap, ap₂, sym, ◌∙◌}
-use Rattle.go_tree.specs.GoTypes.Types.{GoType, basic, named_type, pointer_to, slice_of, map_of, struct_of, tuple_of, untyped, untyped_nil, GoFields, no_go_fields, go_field}
-use Rattle.go_tree.specs.GoTypes.Defined.{Defined, find_defined, under_of, under, comparable_by, comparable_fields, comparable_within, comparable}
-use Rattle.go_tree.proofs.GoTypes.IdenticalLaws.{and_left, and_right}
+use Rattle.go_rules.specs.GoTypes.Types.{GoType, basic, named_type, pointer_to, slice_of, map_of, struct_of, tuple_of, untyped, untyped_nil, GoFields, no_go_fields, go_field}
+use Rattle.go_rules.specs.GoTypes.Defined.{Defined, find_defined, under_of, under, comparable_by, comparable_fields, comparable_within, comparable}
+use Rattle.go_rules.proofs.GoTypes.IdenticalLaws.{and_left, and_right}
 use Rattle.imported_typing.proofs.Alike.{plus, both_hold}
 use Rattle.imported_typing.proofs.Growing.{Stays, stays_at_last}
 

@@ -1,13 +1,13 @@
 -- What declarations bind is the same of values whose types are within reach, and within reach.
 use Rattle.std.specs.Prelude.{◌≡◌, refl, ℕ, Bool, true, false, ◌&&◌, List, [], ◌∷◌, ◌++◌, Option, Some, None, if◌then◌else◌, is_some, bytes_eq}
 use Rattle.go_tree.specs.Tree.{NameAt, Param, Sig}
-use Rattle.go_tree.specs.ScopeNames.Means.{means, is_blank, binding}
-use Rattle.go_tree.specs.GoTypes.Answers.{given}
-use Rattle.go_tree.specs.GoTypes.Types.{GoType, FuncType, basic_kind}
-use Rattle.go_tree.specs.GoTypes.Entities.{run, exact, shift, Entity, variable, refused, Env, meaning, Binds, extend}
-use Rattle.go_tree.specs.GoTypes.Operands.{Operand, Typed}
-use Rattle.go_tree.specs.GoTypes.Declarations.{Declared, constants_declared, variables_declared, some_declared, constant_entity, variable_entity, bind_all, bind_each, assigns_to, defined_by, new_constants, new_variables, new_by_define, Repeated, nothing_to_repeat, binds_or, binds_of}
-use Rattle.go_tree.specs.GoTypes.Bodies.{param_binding, param_binds, body_binds}
+use Rattle.go_rules.specs.ScopeNames.Means.{means, is_blank, binding}
+use Rattle.go_rules.specs.GoTypes.Answers.{given}
+use Rattle.go_rules.specs.GoTypes.Types.{GoType, FuncType, basic_kind}
+use Rattle.go_rules.specs.GoTypes.Entities.{run, exact, shift, Entity, variable, refused, Env, meaning, Binds, extend}
+use Rattle.go_rules.specs.GoTypes.Operands.{Operand, Typed}
+use Rattle.go_rules.specs.GoTypes.Declarations.{Declared, constants_declared, variables_declared, some_declared, constant_entity, variable_entity, bind_all, bind_each, assigns_to, defined_by, new_constants, new_variables, new_by_define, Repeated, nothing_to_repeat, binds_or, binds_of}
+use Rattle.go_rules.specs.GoTypes.Bodies.{param_binding, param_binds, body_binds}
 use Rattle.typed_in_place.specs.SameWorlds.SameWorlds.{at}
 use Rattle.imported_typing.specs.Reach.{Reach, AllOf, IfAny, TypeWithin, FunctionWithin, EntityWithin, PlaceWithin, OperandWithin}
 use Rattle.imported_typing.proofs.Alike.{Alike, neither, alike, only_alike, if_alike, then_alike, both_alike}

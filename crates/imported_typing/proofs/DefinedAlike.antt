@@ -1,10 +1,10 @@
 -- Defined types, their parts and comparable types are the same in worlds in which the same is found of what is reached.
 use Rattle.std.specs.Prelude.{◌≡◌, refl, ℕ, zero, suc, Bool, true, false, ◌&&◌, List, [], length, Option, Some, None, if◌then◌else◌}
 use mathlib.Core.Path.{ap, ap₂, sym, ◌∙◌}
-use Rattle.go_tree.specs.ScopeNames.Means.{means}
-use Rattle.go_tree.specs.GoTypes.Types.{GoType, basic, named_type, pointer_to, slice_of, map_of, struct_of, tuple_of, untyped, untyped_nil, GoFields, no_go_fields, go_field, base_of, element_of, map_parts, fields_of}
-use Rattle.go_tree.specs.GoTypes.Defined.{Defined, find_defined, under_of, under, declared_methods, methods, comparable_by, comparable_fields, comparable_within, comparable, has_keys, fields_have_keys}
-use Rattle.go_tree.specs.GoTypes.Entities.{World, exported, is_exported, block_of}
+use Rattle.go_rules.specs.ScopeNames.Means.{means}
+use Rattle.go_rules.specs.GoTypes.Types.{GoType, basic, named_type, pointer_to, slice_of, map_of, struct_of, tuple_of, untyped, untyped_nil, GoFields, no_go_fields, go_field, base_of, element_of, map_parts, fields_of}
+use Rattle.go_rules.specs.GoTypes.Defined.{Defined, find_defined, under_of, under, declared_methods, methods, comparable_by, comparable_fields, comparable_within, comparable, has_keys, fields_have_keys}
+use Rattle.go_rules.specs.GoTypes.Entities.{World, exported, is_exported, block_of}
 use Rattle.imported_typing.specs.Reach.{Reach, AllOf, IfAny, TypeWithin, FieldsWithin, MethodWithin, DefinedWithin, EntityWithin, SameWithin}
 use Rattle.imported_typing.proofs.Alike.{plus, plus_turned, Alike, alike_by, alike_itself}
 use Rattle.imported_typing.proofs.ComparableTypes.{enough_names}

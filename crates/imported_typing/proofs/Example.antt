@@ -7,14 +7,14 @@
 --   package 2: type C int
 use Rattle.std.specs.Prelude.{◌≡◌, ℕ, true, false, [], ◌∷◌, ◌++◌, Some, None, codes}
 use Rattle.std.proofs.Common.{refl}
-use Rattle.go_tree.specs.declared.const_eval.kinds.Kind.TheVariants as kind
+use Rattle.go_rules.specs.declared.const_eval.kinds.Kind.TheVariants as kind
 use Rattle.go_tree.specs.declared.operators.BinOp.TheVariants.{Eq}
-use Rattle.go_tree.specs.GoTypes.Types.{basic, named_type}
-use Rattle.go_tree.specs.GoTypes.Defined.{under}
-use Rattle.go_tree.specs.GoTypes.Programs.{Program}
-use Rattle.go_tree.specs.GoTypes.Collect.{collected}
-use Rattle.go_tree.specs.GoTypes.WellTyped.{refused_place, well_typed}
-use Rattle.go_tree.proofs.GoTypes.Trees.{ty, qty, st, par, sig, v, int, str, sel, bin, ret, consts_at, vars_at, type_at, func_at, method_at, file, pack}
+use Rattle.go_rules.specs.GoTypes.Types.{basic, named_type}
+use Rattle.go_rules.specs.GoTypes.Defined.{under}
+use Rattle.go_rules.specs.GoTypes.Programs.{Program}
+use Rattle.go_rules.specs.GoTypes.Collect.{collected}
+use Rattle.go_rules.specs.GoTypes.WellTyped.{refused_place, well_typed}
+use Rattle.go_rules.proofs.GoTypes.Trees.{ty, qty, st, par, sig, v, int, str, sel, bin, ret, consts_at, vars_at, type_at, func_at, method_at, file, pack}
 use Rattle.imported_typing.specs.Reach.{SameWithin}
 use Rattle.imported_typing.specs.Further.{in_order, own_reach, refused_among}
 use Rattle.imported_typing.proofs.ProgramsAlike.{collected_same, refused_same}

@@ -1,10 +1,10 @@
 -- Which types are finite hangs on no more names than there are declared types.
 use Rattle.std.specs.Prelude.{◌≡◌, refl, ℕ, zero, suc, Bool, true, false, ◌&&◌, List, [], ◌∷◌, length, Option, Some, None, if◌then◌else◌, nat_eq, bytes_eq}
 use mathlib.Core.Path.{ap₂, sym, ◌∙◌}
-use Rattle.go_tree.specs.GoTypes.Answers.{meets}
-use Rattle.go_tree.specs.GoTypes.Types.{GoType, basic, named_type, pointer_to, slice_of, map_of, struct_of, tuple_of, untyped, untyped_nil, GoFields, no_go_fields, go_field}
-use Rattle.go_tree.specs.GoTypes.TypeDeclarations.{DeclaredType, DeclaredTypes, declared_as, is_finite_by, are_finite_by, is_finite_within, is_finite}
-use Rattle.go_tree.proofs.GoTypes.IdenticalLaws.{and_left, and_right}
+use Rattle.go_rules.specs.GoTypes.Answers.{meets}
+use Rattle.go_rules.specs.GoTypes.Types.{GoType, basic, named_type, pointer_to, slice_of, map_of, struct_of, tuple_of, untyped, untyped_nil, GoFields, no_go_fields, go_field}
+use Rattle.go_rules.specs.GoTypes.TypeDeclarations.{DeclaredType, DeclaredTypes, declared_as, is_finite_by, are_finite_by, is_finite_within, is_finite}
+use Rattle.go_rules.proofs.GoTypes.IdenticalLaws.{and_left, and_right}
 use Rattle.imported_typing.proofs.Alike.{plus, both_hold}
 use Rattle.imported_typing.proofs.Growing.{Stays, stays_at_last}
 

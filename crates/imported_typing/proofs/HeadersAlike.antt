@@ -2,18 +2,18 @@
 use Rattle.std.specs.Prelude.{◌≡◌, refl, ℕ, Bool, true, false, ◌&&◌, ◌||◌, List, [], ◌∷◌, ◌++◌, Option, Some, None, if◌then◌else◌, bytes_eq}
 use Rattle.go_tree.specs.Tree.{NameAt, TypeExpr, Exprs}
 use Rattle.go_tree.specs.File.{TypeSpec, Receiver, Func}
-use Rattle.go_tree.specs.ScopeNames.FreeNames.{names_of}
-use Rattle.go_tree.specs.ScopeNames.Means.{Environment, means, binding}
-use Rattle.go_tree.specs.GoTypes.Answers.{given}
-use Rattle.go_tree.specs.GoTypes.Types.{GoType, named_type}
-use Rattle.go_tree.specs.GoTypes.Defined.{has_keys}
-use Rattle.go_tree.specs.GoTypes.Entities.{Entity, function, universe, World, Env, Binds, block_of}
-use Rattle.go_tree.specs.GoTypes.TypeNames.{resolved, func_type}
-use Rattle.go_tree.specs.GoTypes.Bodies.{body_binds}
-use Rattle.go_tree.specs.GoTypes.Bodiless.{all_bodiless}
-use Rattle.go_tree.specs.GoTypes.Programs.{Header, constants, variables, a_type_spec, a_func, spec_of, Headed, env_of}
-use Rattle.go_tree.specs.GoTypes.TypeDeclarations.{DeclaredType, DeclaredTypes, is_finite}
-use Rattle.go_tree.specs.GoTypes.Collect.{type_entity, spec_type, alias_entity, type_declared, is_good_type, good_entity, package_constants, package_variables, function_declared, func_declared, declared_by}
+use Rattle.go_rules.specs.ScopeNames.FreeNames.{names_of}
+use Rattle.go_rules.specs.ScopeNames.Means.{Environment, means, binding}
+use Rattle.go_rules.specs.GoTypes.Answers.{given}
+use Rattle.go_rules.specs.GoTypes.Types.{GoType, named_type}
+use Rattle.go_rules.specs.GoTypes.Defined.{has_keys}
+use Rattle.go_rules.specs.GoTypes.Entities.{Entity, function, universe, World, Env, Binds, block_of}
+use Rattle.go_rules.specs.GoTypes.TypeNames.{resolved, func_type}
+use Rattle.go_rules.specs.GoTypes.Bodies.{body_binds}
+use Rattle.go_rules.specs.GoTypes.Bodiless.{all_bodiless}
+use Rattle.go_rules.specs.GoTypes.Programs.{Header, constants, variables, a_type_spec, a_func, spec_of, Headed, env_of}
+use Rattle.go_rules.specs.GoTypes.TypeDeclarations.{DeclaredType, DeclaredTypes, is_finite}
+use Rattle.go_rules.specs.GoTypes.Collect.{type_entity, spec_type, alias_entity, type_declared, is_good_type, good_entity, package_constants, package_variables, function_declared, func_declared, declared_by}
 use Rattle.typed_in_place.specs.SameWorlds.SameWorlds.{at}
 use Rattle.imported_typing.specs.Reach.{Reach, IfAny, TypeWithin, FunctionWithin, EntityWithin, PlaceWithin, HeaderWithin, OwnTypeWithin}
 use Rattle.imported_typing.proofs.Alike.{Alike, alike, alike_any, alike_found, only_alike, only_when, if_alike, then_alike, both_alike, meets_alike, along}

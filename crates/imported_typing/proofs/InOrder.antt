@@ -1,7 +1,7 @@
 -- In dependency order the first packages import packages of their own alone, and those behind them have other numbers.
 use Rattle.std.specs.Prelude.{◌≡◌, refl, ℕ, Bool, true, false, not, ◌&&◌, ◌||◌, List, [], ◌∷◌, ◌++◌, nat_eq}
 use Rattle.std.specs.List.{list_all}
-use Rattle.go_tree.specs.GoTypes.Programs.{Import, SourceFile, Program}
+use Rattle.go_rules.specs.GoTypes.Programs.{Import, SourceFile, Program}
 use Rattle.imported_typing.specs.Further.{has_package, imports_itself, are_others, in_order_behind, in_order}
 use Rattle.imported_typing.proofs.Alike.{both_hold}
 use Rattle.imported_typing.proofs.ProgramsAlike.{first_true, second_true, or_true}

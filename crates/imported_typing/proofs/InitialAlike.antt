@@ -1,12 +1,12 @@
 -- Which expressions are initialisers is the same in worlds in which the same is found of what is reached.
 use Rattle.std.specs.Prelude.{◌≡◌, true, false, ◌&&◌, ◌||◌, Option, is_some, if◌then◌else◌}
 use Rattle.go_tree.specs.Tree.{Expr, ident, composite, call, unary, Exprs, no_exprs, expr_and, Elems, no_elems, elem, Value, plain, braced, ValueOption, no_value, some_value}
-use Rattle.go_tree.specs.GoTypes.Answers.{given, meets}
-use Rattle.go_tree.specs.GoTypes.Types.{GoType}
-use Rattle.go_tree.specs.GoTypes.Entities.{Env, meaning}
-use Rattle.go_tree.specs.GoTypes.Operands.{typed, constant_of}
-use Rattle.go_tree.specs.GoTypes.Literals.{is_struct}
-use Rattle.go_tree.specs.GoTypes.Initial.{means_maker, means_nil, is_address, is_constant, all_constant, sizes_constant, is_nil_name, is_maker, is_composite, is_initial, initial_elems, initial_key, initial_value, all_initial}
+use Rattle.go_rules.specs.GoTypes.Answers.{given, meets}
+use Rattle.go_rules.specs.GoTypes.Types.{GoType}
+use Rattle.go_rules.specs.GoTypes.Entities.{Env, meaning}
+use Rattle.go_rules.specs.GoTypes.Operands.{typed, constant_of}
+use Rattle.go_rules.specs.GoTypes.Literals.{is_struct}
+use Rattle.go_rules.specs.GoTypes.Initial.{means_maker, means_nil, is_address, is_constant, all_constant, sizes_constant, is_nil_name, is_maker, is_composite, is_initial, initial_elems, initial_key, initial_value, all_initial}
 use Rattle.typed_in_place.specs.SameWorlds.SameWorlds.{at}
 use Rattle.imported_typing.specs.Reach.{TypeWithin, PlaceWithin}
 use Rattle.imported_typing.proofs.Alike.{Alike, then_alike, same_of}

@@ -2,17 +2,17 @@
 use Rattle.std.specs.Prelude.{◌≡◌, refl, ℕ, ◌+◌, true, false, not, ◌&&◌, List, [], ◌∷◌, Option, Some, None, nat_eq, bytes_eq, pos}
 use Rattle.std.specs.List.{list_all}
 use mathlib.Core.Path.{ap, ◌∙◌}
-use Rattle.go_tree.specs.declared.const_eval.kinds.Kind.TheVariants as kind
-use Rattle.go_tree.specs.declared.const_eval.consts.Const.TheVariants.{Whole}
-use Rattle.go_tree.specs.ConstEval.Exact.{represents}
-use Rattle.go_tree.specs.ScopeNames.Means.{is_blank}
-use Rattle.go_tree.specs.GoTypes.Answers.{given, meets, only_if, distinct_by}
-use Rattle.go_tree.specs.GoTypes.Types.{GoType, GoFields, no_go_fields, go_field, base_of}
-use Rattle.go_tree.specs.GoTypes.Defined.{under}
-use Rattle.go_tree.specs.GoTypes.Entities.{exact}
-use Rattle.go_tree.specs.GoTypes.Operands.{Operand, value, takes}
-use Rattle.go_tree.specs.GoTypes.Primary.{sees}
-use Rattle.go_tree.specs.GoTypes.Literals.{Element, unkeyed, of_field, keyed, distinct_consts, constant_keys, element_value, fills, sets_field, fields_set, struct_takes, constant_index, index_or, indices, slice_takes, has_key, map_takes, literal_takes, built, key_type, inner_type, literal_type, built_inside}
+use Rattle.go_rules.specs.declared.const_eval.kinds.Kind.TheVariants as kind
+use Rattle.go_rules.specs.declared.const_eval.consts.Const.TheVariants.{Whole}
+use Rattle.go_rules.specs.ConstEval.Exact.{represents}
+use Rattle.go_rules.specs.ScopeNames.Means.{is_blank}
+use Rattle.go_rules.specs.GoTypes.Answers.{given, meets, only_if, distinct_by}
+use Rattle.go_rules.specs.GoTypes.Types.{GoType, GoFields, no_go_fields, go_field, base_of}
+use Rattle.go_rules.specs.GoTypes.Defined.{under}
+use Rattle.go_rules.specs.GoTypes.Entities.{exact}
+use Rattle.go_rules.specs.GoTypes.Operands.{Operand, value, takes}
+use Rattle.go_rules.specs.GoTypes.Primary.{sees}
+use Rattle.go_rules.specs.GoTypes.Literals.{Element, unkeyed, of_field, keyed, distinct_consts, constant_keys, element_value, fills, sets_field, fields_set, struct_takes, constant_index, index_or, indices, slice_takes, has_key, map_takes, literal_takes, built, key_type, inner_type, literal_type, built_inside}
 use Rattle.imported_typing.specs.Reach.{AllOf, IfAny, TypeWithin, FieldsWithin, OperandWithin}
 use Rattle.imported_typing.proofs.Alike.{Alike, alike, only_alike, then_alike, elim_alike, elim_same, meets_alike, all_same}
 use Rattle.imported_typing.proofs.DefinedAlike.{Worlds, under_same, under_within_reach, base_alike, own_element, own_map, own_fields, base_within}

@@ -1,13 +1,13 @@
 -- What an operand is, and where it may stand, is the same of operands whose types are within reach.
 use Rattle.std.specs.Prelude.{◌≡◌, refl, ℕ, Bool, true, false, ◌&&◌, List, [], ◌∷◌, map, Option, Some, None, if◌then◌else◌}
 use Rattle.std.specs.List.{list_all}
-use Rattle.go_tree.specs.declared.const_eval.kinds.Kind.{Kind}
-use Rattle.go_tree.specs.declared.const_eval.consts.Const.{Const}
-use Rattle.go_tree.specs.ConstEval.Exact.{Exact, represents}
-use Rattle.go_tree.specs.GoTypes.Answers.{meets}
-use Rattle.go_tree.specs.GoTypes.Types.{GoType, untyped, untyped_nil, basic_kind, is_untyped}
-use Rattle.go_tree.specs.GoTypes.Entities.{run, exact, shift, Place, Entity, variable, constant, stand_in, type_name, function, package_name, builtin, nil_name, iota_name, refused, Env}
-use Rattle.go_tree.specs.GoTypes.Operands.{Operand, value, several, a_type, a_function, a_builtin, recovered, Typed, typed, all_typed, named_operand, place_by, constant_at, constant_value, kind_of, kind_passes, represented, fits, takes, takes_all, default_type, settled, spread, results_operand, values_of}
+use Rattle.go_rules.specs.declared.const_eval.kinds.Kind.{Kind}
+use Rattle.go_rules.specs.declared.const_eval.consts.Const.{Const}
+use Rattle.go_rules.specs.ConstEval.Exact.{Exact, represents}
+use Rattle.go_rules.specs.GoTypes.Answers.{meets}
+use Rattle.go_rules.specs.GoTypes.Types.{GoType, untyped, untyped_nil, basic_kind, is_untyped}
+use Rattle.go_rules.specs.GoTypes.Entities.{run, exact, shift, Place, Entity, variable, constant, stand_in, type_name, function, package_name, builtin, nil_name, iota_name, refused, Env}
+use Rattle.go_rules.specs.GoTypes.Operands.{Operand, value, several, a_type, a_function, a_builtin, recovered, Typed, typed, all_typed, named_operand, place_by, constant_at, constant_value, kind_of, kind_passes, represented, fits, takes, takes_all, default_type, settled, spread, results_operand, values_of}
 use Rattle.typed_in_place.specs.SameWorlds.SameWorlds.{at}
 use Rattle.imported_typing.specs.Reach.{Reach, AllOf, IfAny, TypeWithin, EntityWithin, OperandWithin}
 use Rattle.imported_typing.proofs.Alike.{Any, Alike, neither, alike, alike_any, alike_equal, only_alike, then_alike, meets_alike, answers_alike}

@@ -4,17 +4,17 @@ use Rattle.go_tree.specs.declared.operators.UnOp.{UnOp}
 use Rattle.go_tree.specs.declared.operators.UnOp.TheVariants.{Address}
 use Rattle.go_tree.specs.declared.operators.BinOp.{BinOp}
 use Rattle.go_tree.specs.declared.operators.BinOp.TheVariants.{Shl, Shr, Eq, Ne, LogAnd, LogOr}
-use Rattle.go_tree.specs.declared.const_eval.kinds.Kind.{Kind}
-use Rattle.go_tree.specs.declared.const_eval.kinds.Kind.TheVariants as kind
-use Rattle.go_tree.specs.declared.const_eval.consts.Const.{Const}
-use Rattle.go_tree.specs.declared.const_eval.consts.Const.TheVariants.{Whole, Truth, Bytes}
-use Rattle.go_tree.specs.ConstEval.Conditions.{binary_applies, is_number_kind}
-use Rattle.go_tree.specs.ConstEval.Operators.{unary_value, binary_value}
-use Rattle.go_tree.specs.GoTypes.Types.{GoType, untyped, untyped_nil, is_untyped, is_nil}
-use Rattle.go_tree.specs.GoTypes.Relations.{has_nil}
-use Rattle.go_tree.specs.GoTypes.Entities.{Content, run, exact, shift, Place}
-use Rattle.go_tree.specs.GoTypes.Operands.{Operand, value, a_type, recovered, Typed, leaves}
-use Rattle.go_tree.specs.GoTypes.Operators.{not_constant, divides_by_zero, common_with_untyped, common_type, joins, calculated_operand, arithmetic, truth_operand, logic, compared_at, joins_comparison, equal_applies, comparison_applies, comparison, is_count, shifted_operand, shifting, other_binary, binary_value_operand, is_equality, recover_compared, binary_of, changed_operand, unary_value_operand, unary_of, star_of}
+use Rattle.go_rules.specs.declared.const_eval.kinds.Kind.{Kind}
+use Rattle.go_rules.specs.declared.const_eval.kinds.Kind.TheVariants as kind
+use Rattle.go_rules.specs.declared.const_eval.consts.Const.{Const}
+use Rattle.go_rules.specs.declared.const_eval.consts.Const.TheVariants.{Whole, Truth, Bytes}
+use Rattle.go_rules.specs.ConstEval.Conditions.{binary_applies, is_number_kind}
+use Rattle.go_rules.specs.ConstEval.Operators.{unary_value, binary_value}
+use Rattle.go_rules.specs.GoTypes.Types.{GoType, untyped, untyped_nil, is_untyped, is_nil}
+use Rattle.go_rules.specs.GoTypes.Relations.{has_nil}
+use Rattle.go_rules.specs.GoTypes.Entities.{Content, run, exact, shift, Place}
+use Rattle.go_rules.specs.GoTypes.Operands.{Operand, value, a_type, recovered, Typed, leaves}
+use Rattle.go_rules.specs.GoTypes.Operators.{not_constant, divides_by_zero, common_with_untyped, common_type, joins, calculated_operand, arithmetic, truth_operand, logic, compared_at, joins_comparison, equal_applies, comparison_applies, comparison, is_count, shifted_operand, shifting, other_binary, binary_value_operand, is_equality, recover_compared, binary_of, changed_operand, unary_value_operand, unary_of, star_of}
 use Rattle.imported_typing.specs.Reach.{TypeWithin, OperandWithin}
 use Rattle.imported_typing.proofs.Alike.{Alike, neither, alike, only_alike, if_alike, then_alike, both_alike}
 use Rattle.imported_typing.proofs.DefinedAlike.{Worlds, under_same, base_alike, comparable_same}

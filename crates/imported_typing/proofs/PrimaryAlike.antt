@@ -4,17 +4,17 @@
 use Rattle.std.specs.Prelude.{◌≡◌, refl, ℕ, Bool, true, false, ◌&&◌, ◌||◌, List, [], ◌∷◌, length, Option, Some, None, nat_le, nat_lt, bytes_eq, if◌then◌else◌, is_some, pos, negsuc}
 use Rattle.std.specs.List.{list_all}
 use mathlib.Core.Path.{ap, ◌∙◌, subst}
-use Rattle.go_tree.specs.declared.const_eval.kinds.Kind.TheVariants as kind
-use Rattle.go_tree.specs.declared.const_eval.consts.Const.{Const}
-use Rattle.go_tree.specs.declared.const_eval.consts.Const.TheVariants.{Whole, Truth, Bytes}
-use Rattle.go_tree.specs.ConstEval.Exact.{number, represents, is_text_kind}
-use Rattle.go_tree.specs.GoTypes.Answers.{meets, only_if}
-use Rattle.go_tree.specs.GoTypes.Types.{GoType, basic, slice_of, map_of, GoFields, no_go_fields, go_field, base_of, element_of, map_parts, fields_of, basic_kind}
-use Rattle.go_tree.specs.GoTypes.Identical.{identical}
-use Rattle.go_tree.specs.GoTypes.Defined.{Method, under, methods}
-use Rattle.go_tree.specs.GoTypes.Entities.{Builtin, Append, Cap, Copy, Delete, Len, Make, New, Panic, Print, Println, Recover, Content, run, exact, shift, Place, addressable, map_element, elsewhere}
-use Rattle.go_tree.specs.GoTypes.Operands.{Operand, value, several, a_type, a_function, a_builtin, recovered, Typed, plain_value, spread, fits}
-use Rattle.go_tree.specs.GoTypes.Primary.{find_field, find_method, is_addressable, fields_in, field_type, field_place, method_of, method_value, selected, selected_place, is_index, lies_in, string_element, index_of, index_place, rise, is_bound, sliced_type, sliced, converted_constant, converted, conversion, append_call, cap_call, length_of, has_length, len_call, copies_from, copy_call, delete_call, panic_call, is_printed, print_call, recover_call, make_sizes, make_call, new_call, on_values, builtin_call, call_of}
+use Rattle.go_rules.specs.declared.const_eval.kinds.Kind.TheVariants as kind
+use Rattle.go_rules.specs.declared.const_eval.consts.Const.{Const}
+use Rattle.go_rules.specs.declared.const_eval.consts.Const.TheVariants.{Whole, Truth, Bytes}
+use Rattle.go_rules.specs.ConstEval.Exact.{number, represents, is_text_kind}
+use Rattle.go_rules.specs.GoTypes.Answers.{meets, only_if}
+use Rattle.go_rules.specs.GoTypes.Types.{GoType, basic, slice_of, map_of, GoFields, no_go_fields, go_field, base_of, element_of, map_parts, fields_of, basic_kind}
+use Rattle.go_rules.specs.GoTypes.Identical.{identical}
+use Rattle.go_rules.specs.GoTypes.Defined.{Method, under, methods}
+use Rattle.go_rules.specs.GoTypes.Entities.{Builtin, Append, Cap, Copy, Delete, Len, Make, New, Panic, Print, Println, Recover, Content, run, exact, shift, Place, addressable, map_element, elsewhere}
+use Rattle.go_rules.specs.GoTypes.Operands.{Operand, value, several, a_type, a_function, a_builtin, recovered, Typed, plain_value, spread, fits}
+use Rattle.go_rules.specs.GoTypes.Primary.{find_field, find_method, is_addressable, fields_in, field_type, field_place, method_of, method_value, selected, selected_place, is_index, lies_in, string_element, index_of, index_place, rise, is_bound, sliced_type, sliced, converted_constant, converted, conversion, append_call, cap_call, length_of, has_length, len_call, copies_from, copy_call, delete_call, panic_call, is_printed, print_call, recover_call, make_sizes, make_call, new_call, on_values, builtin_call, call_of}
 use Rattle.imported_typing.specs.Reach.{AllOf, IfAny, TypeWithin, FieldsWithin, MethodWithin, OperandWithin}
 use Rattle.imported_typing.proofs.Alike.{Alike, neither, alike, alike_by, only_alike, if_alike, then_alike, elim_alike, elim_same, meets_alike, all_same, alike_equal}
 use Rattle.imported_typing.proofs.DefinedAlike.{Worlds, under_same, methods_within, methods_same, base_alike, element_alike, map_alike, fields_alike, own_base}

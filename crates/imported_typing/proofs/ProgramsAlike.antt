@@ -4,17 +4,17 @@ use Rattle.std.specs.List.{list_any, list_all}
 use mathlib.Core.Path.{ap, ap₂, sym, ◌∙◌, subst}
 use Rattle.std.proofs.Common.{arith}
 use Rattle.std.proofs.lemmas.Slice.Eq.{bytes_eq-Decides}
-use Rattle.go_tree.specs.ScopeNames.Means.{Environment, means, binding}
-use Rattle.go_tree.specs.GoTypes.Answers.{given, one_of, and_also}
-use Rattle.go_tree.specs.GoTypes.Types.{GoType, basic, named_type, pointer_to, slice_of, map_of, struct_of, tuple_of, untyped, untyped_nil, GoFields, no_go_fields, go_field}
-use Rattle.go_tree.specs.GoTypes.Defined.{Defined, find_defined}
-use Rattle.go_tree.specs.GoTypes.Entities.{Entity, package_name, refused, World, Binds, block_of}
-use Rattle.go_tree.specs.GoTypes.Programs.{Import, SourceFile, SourcePackage, Program, Header, Headed, import_entity, import_sound, header_sound, file_block, header_names, headed_file, headed_files, headed_package, headed, all_headers, names_in, block_names, is_main}
-use Rattle.go_tree.specs.GoTypes.TypeDeclarations.{DeclaredType, DeclaredTypes, declared_as, under_within, underlying, is_finite_by, are_finite_by, is_finite_within, is_finite}
-use Rattle.go_tree.specs.GoTypes.MethodDeclarations.{DeclaredMethod, methods_on, with_methods, methods_from}
-use Rattle.go_tree.specs.GoTypes.Collect.{times, alias_entity, type_declared, declared_types, good_entity, declared_by, binds_or_refused, entity_binds, block_by, blocks_by, alias_round, type_round, value_round, refused_world, rounds, aliased_world, types_declared, typed_world, named_world, valued_world, world_of, collected}
-use Rattle.go_tree.specs.GoTypes.SingleNames.{single_names, with_header, singly, by_names}
-use Rattle.go_tree.specs.GoTypes.WellTyped.{NotTyped, refused_in, first_refused, refused_place, well_typed}
+use Rattle.go_rules.specs.ScopeNames.Means.{Environment, means, binding}
+use Rattle.go_rules.specs.GoTypes.Answers.{given, one_of, and_also}
+use Rattle.go_rules.specs.GoTypes.Types.{GoType, basic, named_type, pointer_to, slice_of, map_of, struct_of, tuple_of, untyped, untyped_nil, GoFields, no_go_fields, go_field}
+use Rattle.go_rules.specs.GoTypes.Defined.{Defined, find_defined}
+use Rattle.go_rules.specs.GoTypes.Entities.{Entity, package_name, refused, World, Binds, block_of}
+use Rattle.go_rules.specs.GoTypes.Programs.{Import, SourceFile, SourcePackage, Program, Header, Headed, import_entity, import_sound, header_sound, file_block, header_names, headed_file, headed_files, headed_package, headed, all_headers, names_in, block_names, is_main}
+use Rattle.go_rules.specs.GoTypes.TypeDeclarations.{DeclaredType, DeclaredTypes, declared_as, under_within, underlying, is_finite_by, are_finite_by, is_finite_within, is_finite}
+use Rattle.go_rules.specs.GoTypes.MethodDeclarations.{DeclaredMethod, methods_on, with_methods, methods_from}
+use Rattle.go_rules.specs.GoTypes.Collect.{times, alias_entity, type_declared, declared_types, good_entity, declared_by, binds_or_refused, entity_binds, block_by, blocks_by, alias_round, type_round, value_round, refused_world, rounds, aliased_world, types_declared, typed_world, named_world, valued_world, world_of, collected}
+use Rattle.go_rules.specs.GoTypes.SingleNames.{single_names, with_header, singly, by_names}
+use Rattle.go_rules.specs.GoTypes.WellTyped.{NotTyped, refused_in, first_refused, refused_place, well_typed}
 use Rattle.typed_in_place.proofs.Rounds.{times_fixed}
 use Rattle.typed_in_place.proofs.Collected.{aliased_settled, typed_settled, named_settled, valued_settled}
 use Rattle.typed_in_place.proofs.NameRounds.Singles.{names_of_both}

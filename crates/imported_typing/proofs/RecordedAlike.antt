@@ -2,17 +2,17 @@
 use Rattle.std.specs.Prelude.{◌≡◌, ℕ, ◌+◌, [], ◌++◌, length, Option, Some, if◌then◌else◌}
 use mathlib.Core.Path.{ap, ◌∙◌}
 use Rattle.go_tree.specs.Tree.{Expr, ident, int_lit, rune_lit, str_lit, composite, selector, index, slice, call, func_lit, type_operand, unary, binary, star, Exprs, no_exprs, expr_and, ExprOption, no_expr, some_expr, Elems, no_elems, elem, Value, plain, braced, ValueOption, no_value, some_value, Stmt, const_decl, var_decl, empty, eval, step, assign, define, return_, break_, continue_, inner, if_, for_, range_, switch, defer, label, Stmts, no_stmts, stmt_and, StmtOption, no_stmt, some_stmt, BlockOption, no_block, some_block, RangeLeft, nothing, assigns, defines, Arms, no_arms, arm, Cases, no_cases, case, ValueSpecs, no_specs, spec}
-use Rattle.go_tree.specs.ScopeNames.FreeNames.{names_of, sig_names, declared, declared_option, defined}
-use Rattle.go_tree.specs.GoTypes.Answers.{given, meets}
-use Rattle.go_tree.specs.GoTypes.Types.{GoType}
-use Rattle.go_tree.specs.GoTypes.Entities.{Env, Binds, extend, in_block}
-use Rattle.go_tree.specs.GoTypes.TypeNames.{func_type, written_type}
-use Rattle.go_tree.specs.GoTypes.Literals.{is_struct}
-use Rattle.go_tree.specs.GoTypes.Declarations.{binds_or, binds_of, new_constants, new_variables, Repeated, nothing_to_repeat}
-use Rattle.go_tree.specs.GoTypes.Bodies.{body_binds, no_values}
-use Rattle.go_tree.specs.GoTypes.Statements.{right_values}
-use Rattle.go_tree.specs.GoTypes.Typing.{parts, all_parts, places, declares, declares_first, range_declares}
-use Rattle.go_tree.specs.GoTypes.Recorded.{Record, entry, recorded, recorded_all, recorded_option, recorded_elems, recorded_key, recorded_value, recorded_stmt, recorded_stmts, recorded_first, recorded_block, recorded_range, recorded_arms, recorded_cases, recorded_constants, recorded_variables}
+use Rattle.go_rules.specs.ScopeNames.FreeNames.{names_of, sig_names, declared, declared_option, defined}
+use Rattle.go_rules.specs.GoTypes.Answers.{given, meets}
+use Rattle.go_rules.specs.GoTypes.Types.{GoType}
+use Rattle.go_rules.specs.GoTypes.Entities.{Env, Binds, extend, in_block}
+use Rattle.go_rules.specs.GoTypes.TypeNames.{func_type, written_type}
+use Rattle.go_rules.specs.GoTypes.Literals.{is_struct}
+use Rattle.go_rules.specs.GoTypes.Declarations.{binds_or, binds_of, new_constants, new_variables, Repeated, nothing_to_repeat}
+use Rattle.go_rules.specs.GoTypes.Bodies.{body_binds, no_values}
+use Rattle.go_rules.specs.GoTypes.Statements.{right_values}
+use Rattle.go_rules.specs.GoTypes.Typing.{parts, all_parts, places, declares, declares_first, range_declares}
+use Rattle.go_rules.specs.GoTypes.Recorded.{Record, entry, recorded, recorded_all, recorded_option, recorded_elems, recorded_key, recorded_value, recorded_stmt, recorded_stmts, recorded_first, recorded_block, recorded_range, recorded_arms, recorded_cases, recorded_constants, recorded_variables}
 use Rattle.typed_in_place.specs.SameWorlds.SameWorlds.{at}
 use Rattle.imported_typing.specs.Reach.{TypeWithin, PlaceWithin}
 use Rattle.imported_typing.proofs.Alike.{Alike, then_alike, same_of, holds_of}

@@ -2,13 +2,13 @@
 --   const ( a = 1; b = a )
 use Rattle.std.specs.Prelude.{◌≡◌, [], ◌∷◌, None, codes, pos}
 use Rattle.std.proofs.Common.{refl}
-use Rattle.go_tree.specs.declared.const_eval.kinds.Kind.TheVariants as kind
-use Rattle.go_tree.specs.declared.const_eval.consts.Const.TheVariants.{Whole}
-use Rattle.go_tree.specs.GoTypes.Types.{untyped}
-use Rattle.go_tree.specs.GoTypes.Entities.{exact, universe, Env}
-use Rattle.go_tree.specs.GoTypes.Operands.{Operand, value}
-use Rattle.go_tree.specs.GoTypes.Recorded.{recorded_stmts}
-use Rattle.go_tree.proofs.GoTypes.Trees.{cst, ss, v, int}
+use Rattle.go_rules.specs.declared.const_eval.kinds.Kind.TheVariants as kind
+use Rattle.go_rules.specs.declared.const_eval.consts.Const.TheVariants.{Whole}
+use Rattle.go_rules.specs.GoTypes.Types.{untyped}
+use Rattle.go_rules.specs.GoTypes.Entities.{exact, universe, Env}
+use Rattle.go_rules.specs.GoTypes.Operands.{Operand, value}
+use Rattle.go_rules.specs.GoTypes.Recorded.{recorded_stmts}
+use Rattle.go_rules.proofs.GoTypes.Trees.{cst, ss, v, int}
 
 abbrev somewhere : Env
 somewhere =

@@ -6,19 +6,19 @@ use Rattle.std.specs.List.{list_any}
 use mathlib.Core.Path.{ap, sym, ◌∙◌, subst}
 use Rattle.go_tree.specs.Tree.{NameAt, Exprs}
 use Rattle.go_tree.specs.File.{Receiver, Func}
-use Rattle.go_tree.specs.ScopeNames.Means.{means, is_blank, binding}
-use Rattle.go_tree.specs.ScopeNames.FreeNames.{sig_names, free_type, free_type_option, free_params}
-use Rattle.go_tree.specs.GoTypes.Answers.{given, unless_missing, otherwise, only_if, one_of, is_among, without, and_also}
-use Rattle.go_tree.specs.GoTypes.Types.{GoType, named_type, pointer_to, base_of, fields_of, field_names, type_name_of}
-use Rattle.go_tree.specs.GoTypes.Defined.{Method, under}
-use Rattle.go_tree.specs.GoTypes.Entities.{variable, universe, World, Env, Binds, meaning, type_of_name, block_of, extend, in_block}
-use Rattle.go_tree.specs.GoTypes.TypeNames.{func_type}
-use Rattle.go_tree.specs.GoTypes.Bodies.{body_binds, body_ctx, is_body}
-use Rattle.go_tree.specs.GoTypes.Typing.{stmts, used_all, used_stmts}
-use Rattle.go_tree.specs.GoTypes.Programs.{Import, SourceFile, SourcePackage, Header, constants, variables, a_type_spec, a_func, func_of, Headed, block_names, import_sound, is_main, env_of}
-use Rattle.go_tree.specs.GoTypes.TypeDeclarations.{DeclaredTypes, is_finite}
-use Rattle.go_tree.specs.GoTypes.MethodDeclarations.{MethodName, DeclaredMethod, has_method_name, is_new_method, receiver_type, receiver_binds, method_declared, method_header, declared_on, methods_from}
-use Rattle.go_tree.specs.GoTypes.WellTyped.{means_function, refused_unless, is_method, method_ok, header_ok, receiver_of, body_env, function_ok, body_ok, receiver_names, function_uses, header_uses, is_used_in, first_import, first_header, first_in_files, first_body, lacks_main, refused_in}
+use Rattle.go_rules.specs.ScopeNames.Means.{means, is_blank, binding}
+use Rattle.go_rules.specs.ScopeNames.FreeNames.{sig_names, free_type, free_type_option, free_params}
+use Rattle.go_rules.specs.GoTypes.Answers.{given, unless_missing, otherwise, only_if, one_of, is_among, without, and_also}
+use Rattle.go_rules.specs.GoTypes.Types.{GoType, named_type, pointer_to, base_of, fields_of, field_names, type_name_of}
+use Rattle.go_rules.specs.GoTypes.Defined.{Method, under}
+use Rattle.go_rules.specs.GoTypes.Entities.{variable, universe, World, Env, Binds, meaning, type_of_name, block_of, extend, in_block}
+use Rattle.go_rules.specs.GoTypes.TypeNames.{func_type}
+use Rattle.go_rules.specs.GoTypes.Bodies.{body_binds, body_ctx, is_body}
+use Rattle.go_rules.specs.GoTypes.Typing.{stmts, used_all, used_stmts}
+use Rattle.go_rules.specs.GoTypes.Programs.{Import, SourceFile, SourcePackage, Header, constants, variables, a_type_spec, a_func, func_of, Headed, block_names, import_sound, is_main, env_of}
+use Rattle.go_rules.specs.GoTypes.TypeDeclarations.{DeclaredTypes, is_finite}
+use Rattle.go_rules.specs.GoTypes.MethodDeclarations.{MethodName, DeclaredMethod, has_method_name, is_new_method, receiver_type, receiver_binds, method_declared, method_header, declared_on, methods_from}
+use Rattle.go_rules.specs.GoTypes.WellTyped.{means_function, refused_unless, is_method, method_ok, header_ok, receiver_of, body_env, function_ok, body_ok, receiver_names, function_uses, header_uses, is_used_in, first_import, first_header, first_in_files, first_body, lacks_main, refused_in}
 use Rattle.typed_in_place.specs.SameWorlds.SameWorlds.{at}
 use Rattle.typed_in_place.proofs.SameWorlds.AtHome.{nat_same}
 use Rattle.imported_typing.specs.Reach.{AllOf, IfAny, TypeWithin, MethodWithin, PlaceWithin, HeaderWithin}

@@ -1,13 +1,13 @@
 -- Which types are assignable and convertible is the same of types within reach.
 use Rattle.std.specs.Prelude.{◌≡◌, Bool, false, not, ◌&&◌, ◌||◌}
-use Rattle.go_tree.specs.declared.const_eval.kinds.Kind.{Kind}
-use Rattle.go_tree.specs.declared.const_eval.kinds.Kind.TheVariants as kind
-use Rattle.go_tree.specs.ConstEval.Conditions.{is_number_kind}
-use Rattle.go_tree.specs.ConstEval.Exact.{is_text_kind}
-use Rattle.go_tree.specs.GoTypes.Answers.{meets}
-use Rattle.go_tree.specs.GoTypes.Types.{GoType, untyped, untyped_nil, basic_kind, base_of, has_name, same_kind}
-use Rattle.go_tree.specs.GoTypes.Identical.{identical}
-use Rattle.go_tree.specs.GoTypes.Relations.{has_nil, akin, has_kind, is_whole_number, is_string, is_byte_slice, same_underlying, assignable, similar_pointers, becomes, convertible}
+use Rattle.go_rules.specs.declared.const_eval.kinds.Kind.{Kind}
+use Rattle.go_rules.specs.declared.const_eval.kinds.Kind.TheVariants as kind
+use Rattle.go_rules.specs.ConstEval.Conditions.{is_number_kind}
+use Rattle.go_rules.specs.ConstEval.Exact.{is_text_kind}
+use Rattle.go_rules.specs.GoTypes.Answers.{meets}
+use Rattle.go_rules.specs.GoTypes.Types.{GoType, untyped, untyped_nil, basic_kind, base_of, has_name, same_kind}
+use Rattle.go_rules.specs.GoTypes.Identical.{identical}
+use Rattle.go_rules.specs.GoTypes.Relations.{has_nil, akin, has_kind, is_whole_number, is_string, is_byte_slice, same_underlying, assignable, similar_pointers, becomes, convertible}
 use Rattle.imported_typing.specs.Reach.{TypeWithin}
 use Rattle.imported_typing.proofs.Alike.{meets_alike}
 use Rattle.imported_typing.proofs.DefinedAlike.{Worlds, under_same, element_alike, own_base}

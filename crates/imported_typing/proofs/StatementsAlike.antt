@@ -4,17 +4,17 @@ use mathlib.Core.Path.{ap, ◌∙◌, subst}
 use Rattle.go_tree.specs.declared.operators.BinOp.{BinOp}
 use Rattle.go_tree.specs.declared.operators.BinOp.TheVariants.{Eq}
 use Rattle.go_tree.specs.Tree.{NameAt, Expr, ident, call, Exprs, Stmt}
-use Rattle.go_tree.specs.declared.const_eval.kinds.Kind.TheVariants as kind
-use Rattle.go_tree.specs.ConstEval.Exact.{is_truth_kind}
-use Rattle.go_tree.specs.GoTypes.Answers.{given, meets, unless_missing, is_empty}
-use Rattle.go_tree.specs.GoTypes.Types.{GoType, basic, untyped}
-use Rattle.go_tree.specs.GoTypes.Relations.{has_nil}
-use Rattle.go_tree.specs.GoTypes.Entities.{run, Place, addressable, map_element, literal, elsewhere, variable, Env, meaning}
-use Rattle.go_tree.specs.GoTypes.Operands.{Operand, value, Typed, typed, kind_passes, spread, takes_all}
-use Rattle.go_tree.specs.GoTypes.Operators.{binary_of}
-use Rattle.go_tree.specs.GoTypes.Jumps.{is_loop, is_breakable}
-use Rattle.go_tree.specs.GoTypes.Bodies.{Ctx, labelled, no_values, returns}
-use Rattle.go_tree.specs.GoTypes.Statements.{Target, blank, store, target_at, stores, stores_all, assigned_values, updates, right_values, is_condition, is_test, range_types, range_stores, range_assigns, range_binds, new_by_range, tag_value, case_value, tag_of, means_panic, is_panic}
+use Rattle.go_rules.specs.declared.const_eval.kinds.Kind.TheVariants as kind
+use Rattle.go_rules.specs.ConstEval.Exact.{is_truth_kind}
+use Rattle.go_rules.specs.GoTypes.Answers.{given, meets, unless_missing, is_empty}
+use Rattle.go_rules.specs.GoTypes.Types.{GoType, basic, untyped}
+use Rattle.go_rules.specs.GoTypes.Relations.{has_nil}
+use Rattle.go_rules.specs.GoTypes.Entities.{run, Place, addressable, map_element, literal, elsewhere, variable, Env, meaning}
+use Rattle.go_rules.specs.GoTypes.Operands.{Operand, value, Typed, typed, kind_passes, spread, takes_all}
+use Rattle.go_rules.specs.GoTypes.Operators.{binary_of}
+use Rattle.go_rules.specs.GoTypes.Jumps.{is_loop, is_breakable}
+use Rattle.go_rules.specs.GoTypes.Bodies.{Ctx, labelled, no_values, returns}
+use Rattle.go_rules.specs.GoTypes.Statements.{Target, blank, store, target_at, stores, stores_all, assigned_values, updates, right_values, is_condition, is_test, range_types, range_stores, range_assigns, range_binds, new_by_range, tag_value, case_value, tag_of, means_panic, is_panic}
 use Rattle.typed_in_place.specs.SameWorlds.SameWorlds.{at}
 use Rattle.imported_typing.specs.Reach.{Reach, AllOf, TypeWithin, OperandWithin}
 use Rattle.imported_typing.proofs.Alike.{Alike, neither, alike, only_alike, then_alike, elim_alike, meets_alike, same_of}

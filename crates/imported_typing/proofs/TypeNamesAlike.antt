@@ -1,9 +1,9 @@
 -- What types in the source mean is the same where names mean what is within reach, and within reach.
 use Rattle.std.specs.Prelude.{◌≡◌, refl, ℕ, Bool, true, false, List, Option, Some, None, if◌then◌else◌}
 use Rattle.go_tree.specs.Tree.{NameAt, TypeExpr, named, pointer, slice_type, map_type, struct_type, Fields, no_fields, field, Param, Sig, Expr, ident}
-use Rattle.go_tree.specs.GoTypes.Entities.{Entity, type_name, package_name, Env, meaning, exported, is_exported, package_of, type_of_name}
-use Rattle.go_tree.specs.GoTypes.TypeNames.{field_package, named_meaning, resolved, resolved_fields, type_meant, params_meant, func_type, written_type}
-use Rattle.go_tree.specs.GoTypes.Statements.{package_before}
+use Rattle.go_rules.specs.GoTypes.Entities.{Entity, type_name, package_name, Env, meaning, exported, is_exported, package_of, type_of_name}
+use Rattle.go_rules.specs.GoTypes.TypeNames.{field_package, named_meaning, resolved, resolved_fields, type_meant, params_meant, func_type, written_type}
+use Rattle.go_rules.specs.GoTypes.Statements.{package_before}
 use Rattle.typed_in_place.specs.SameWorlds.SameWorlds.{at}
 use Rattle.imported_typing.specs.Reach.{AllOf, IfAny, HomeWithin, TypeWithin, FieldsWithin, FunctionWithin, EntityWithin, PlaceWithin}
 use Rattle.imported_typing.proofs.Alike.{Any, Alike, neither, alike, alike_by, alike_itself, only_alike, then_alike, both_alike, answers_alike, all_any}

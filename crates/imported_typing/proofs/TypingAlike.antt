@@ -3,24 +3,24 @@
 use Rattle.std.specs.Prelude.{◌≡◌, refl, ℕ, ◌+◌, Bool, true, false, not, ◌&&◌, List, [], ◌∷◌, ◌++◌, length, Option, Some, None, if◌then◌else◌, is_some, pos}
 use mathlib.Core.Path.{ap, ◌∙◌}
 use Rattle.go_tree.specs.Tree.{Expr, ident, int_lit, rune_lit, str_lit, composite, selector, index, slice, call, func_lit, type_operand, unary, binary, star, Exprs, no_exprs, expr_and, ExprOption, no_expr, some_expr, Elems, no_elems, elem, Value, plain, braced, ValueOption, no_value, some_value, Stmt, const_decl, var_decl, empty, eval, step, assign, define, return_, break_, continue_, inner, if_, for_, range_, switch, defer, label, Stmts, no_stmts, stmt_and, StmtOption, no_stmt, some_stmt, BlockOption, no_block, some_block, RangeLeft, nothing, assigns, defines, Arms, no_arms, arm, Cases, no_cases, case, ValueSpecs, no_specs, spec}
-use Rattle.go_tree.specs.declared.const_eval.kinds.Kind.TheVariants as kind
-use Rattle.go_tree.specs.ConstEval.Exact.{number, text}
-use Rattle.go_tree.specs.ConstEval.Literals.{integer_value, literal_value}
+use Rattle.go_rules.specs.declared.const_eval.kinds.Kind.TheVariants as kind
+use Rattle.go_rules.specs.ConstEval.Exact.{number, text}
+use Rattle.go_rules.specs.ConstEval.Literals.{integer_value, literal_value}
 use Rattle.go_tree.specs.GoWords.Texts.{text_value}
-use Rattle.go_tree.specs.ScopeNames.FreeNames.{names_of, sig_names, free_type, free_type_option, free_params, declared, declared_option, defined}
-use Rattle.go_tree.specs.GoTypes.Answers.{given, meets, without}
-use Rattle.go_tree.specs.GoTypes.Types.{GoType, untyped}
-use Rattle.go_tree.specs.GoTypes.Defined.{under}
-use Rattle.go_tree.specs.GoTypes.Entities.{addressable, literal, elsewhere, refused, Env, meaning, exported, Binds, extend, in_block}
-use Rattle.go_tree.specs.GoTypes.TypeNames.{func_type, written_type}
-use Rattle.go_tree.specs.GoTypes.Operands.{Operand, Typed, named_operand, named_place}
-use Rattle.go_tree.specs.GoTypes.Operators.{unary_of}
-use Rattle.go_tree.specs.GoTypes.Primary.{selected_place, index_place, stands_alone, may_be_deferred}
-use Rattle.go_tree.specs.GoTypes.Literals.{is_struct, field_key, literal_type}
-use Rattle.go_tree.specs.GoTypes.Declarations.{Declared, bind_each, and_then, unused_after, binds_or, binds_of, beyond, new_variables, Repeated, nothing_to_repeat, all_used}
-use Rattle.go_tree.specs.GoTypes.Bodies.{Ctx, in_loop, in_switch, body_binds, body_ctx, no_values, is_body, labelled}
-use Rattle.go_tree.specs.GoTypes.Statements.{target_at, stores_all, is_condition, range_types, range_assigns, case_value, one_more, step_op, right_values, choice, is_define, is_empty_stmt}
-use Rattle.go_tree.specs.GoTypes.Typing.{parts, all_parts, bound, elements, element, with_key, place, places, used, used_all, used_option, used_elems, used_key, used_value, used_left, used_stmt, used_stmts, used_first, used_block, used_range, used_arms, used_cases, used_constants, used_variables, declares, declares_first, declares_constants, declares_variables, range_declares, targets, stmt, stmts, first, block, is_call, ranges, arms, clauses}
+use Rattle.go_rules.specs.ScopeNames.FreeNames.{names_of, sig_names, free_type, free_type_option, free_params, declared, declared_option, defined}
+use Rattle.go_rules.specs.GoTypes.Answers.{given, meets, without}
+use Rattle.go_rules.specs.GoTypes.Types.{GoType, untyped}
+use Rattle.go_rules.specs.GoTypes.Defined.{under}
+use Rattle.go_rules.specs.GoTypes.Entities.{addressable, literal, elsewhere, refused, Env, meaning, exported, Binds, extend, in_block}
+use Rattle.go_rules.specs.GoTypes.TypeNames.{func_type, written_type}
+use Rattle.go_rules.specs.GoTypes.Operands.{Operand, Typed, named_operand, named_place}
+use Rattle.go_rules.specs.GoTypes.Operators.{unary_of}
+use Rattle.go_rules.specs.GoTypes.Primary.{selected_place, index_place, stands_alone, may_be_deferred}
+use Rattle.go_rules.specs.GoTypes.Literals.{is_struct, field_key, literal_type}
+use Rattle.go_rules.specs.GoTypes.Declarations.{Declared, bind_each, and_then, unused_after, binds_or, binds_of, beyond, new_variables, Repeated, nothing_to_repeat, all_used}
+use Rattle.go_rules.specs.GoTypes.Bodies.{Ctx, in_loop, in_switch, body_binds, body_ctx, no_values, is_body, labelled}
+use Rattle.go_rules.specs.GoTypes.Statements.{target_at, stores_all, is_condition, range_types, range_assigns, case_value, one_more, step_op, right_values, choice, is_define, is_empty_stmt}
+use Rattle.go_rules.specs.GoTypes.Typing.{parts, all_parts, bound, elements, element, with_key, place, places, used, used_all, used_option, used_elems, used_key, used_value, used_left, used_stmt, used_stmts, used_first, used_block, used_range, used_arms, used_cases, used_constants, used_variables, declares, declares_first, declares_constants, declares_variables, range_declares, targets, stmt, stmts, first, block, is_call, ranges, arms, clauses}
 use Rattle.typed_in_place.specs.SameWorlds.SameWorlds.{at}
 use Rattle.imported_typing.specs.Reach.{AllOf, TypeWithin, PlaceWithin, OperandWithin}
 use Rattle.imported_typing.proofs.Alike.{Any, Alike, alike, alike_by, alike_any, only_alike, if_alike, then_alike, both_alike, elim_alike, elim_same, meets_alike, all_same, along, same_of, holds_of}

@@ -1,10 +1,10 @@
 -- Packages are well typed where they are beside further packages that none of them imports.
 use Rattle.std.specs.Prelude.{◌≡◌, true, List, [], ◌∷◌, ◌++◌}
 use mathlib.Core.Path.{sym, ◌∙◌, subst}
-use Rattle.go_tree.specs.GoTypes.Programs.{Headed, Program, headed}
-use Rattle.go_tree.specs.GoTypes.TypeDeclarations.{DeclaredType, DeclaredTypes, is_finite}
-use Rattle.go_tree.specs.GoTypes.Collect.{declared_types, aliased_world, types_declared}
-use Rattle.go_tree.specs.GoTypes.WellTyped.{well_typed}
+use Rattle.go_rules.specs.GoTypes.Programs.{Headed, Program, headed}
+use Rattle.go_rules.specs.GoTypes.TypeDeclarations.{DeclaredType, DeclaredTypes, is_finite}
+use Rattle.go_rules.specs.GoTypes.Collect.{declared_types, aliased_world, types_declared}
+use Rattle.go_rules.specs.GoTypes.WellTyped.{well_typed}
 use Rattle.imported_typing.specs.Reach.{AllOf}
 use Rattle.imported_typing.specs.Further.{imports_itself, are_others}
 use Rattle.imported_typing.proofs.HeadersAlike.{DeclaredTypeWithin}

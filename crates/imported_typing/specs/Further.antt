@@ -2,12 +2,12 @@
 -- declarations; Underlying types; Program execution).
 use Rattle.std.specs.Prelude.{ℕ, Bool, true, not, ◌&&◌, [], ◌∷◌, length, Option, nat_eq, is_none}
 use Rattle.std.specs.List.{list_any, list_all}
-use Rattle.go_tree.specs.GoTypes.Answers.{given}
-use Rattle.go_tree.specs.GoTypes.Types.{GoType, type_name_of}
-use Rattle.go_tree.specs.GoTypes.Programs.{Program, headed}
-use Rattle.go_tree.specs.GoTypes.TypeDeclarations.{DeclaredTypes, declared_as, under_within}
-use Rattle.go_tree.specs.GoTypes.Collect.{types_declared, collected}
-use Rattle.go_tree.specs.GoTypes.WellTyped.{NotTyped, first_refused}
+use Rattle.go_rules.specs.GoTypes.Answers.{given}
+use Rattle.go_rules.specs.GoTypes.Types.{GoType, type_name_of}
+use Rattle.go_rules.specs.GoTypes.Programs.{Program, headed}
+use Rattle.go_rules.specs.GoTypes.TypeDeclarations.{DeclaredTypes, declared_as, under_within}
+use Rattle.go_rules.specs.GoTypes.Collect.{types_declared, collected}
+use Rattle.go_rules.specs.GoTypes.WellTyped.{NotTyped, first_refused}
 use Rattle.imported_typing.specs.Reach.{Reach}
 
 module _ {S : Type 0} where

@@ -3,15 +3,15 @@
 use Rattle.std.specs.Prelude.{◌≡◌, Bool, true, ◌++◌}
 use Rattle.go_tree.specs.declared.spans.Span.{Span}
 use Rattle.go_tree.specs.Tree.{Expr, Stmt, Stmts}
-use Rattle.go_tree.specs.GoTypes.Types.{GoType}
-use Rattle.go_tree.specs.GoTypes.Entities.{World, Env}
-use Rattle.go_tree.specs.GoTypes.Bodies.{Ctx}
-use Rattle.go_tree.specs.GoTypes.Typing.{parts, place, declares, stmts, used_stmts}
-use Rattle.go_tree.specs.GoTypes.Recorded.{recorded_stmts}
-use Rattle.go_tree.specs.GoTypes.Programs.{Program, Headed, headed}
-use Rattle.go_tree.specs.GoTypes.TypeDeclarations.{DeclaredTypes, is_finite}
-use Rattle.go_tree.specs.GoTypes.Collect.{declared_by, types_declared, collected}
-use Rattle.go_tree.specs.GoTypes.WellTyped.{body_ok, header_uses, refused_place, well_typed}
+use Rattle.go_rules.specs.GoTypes.Types.{GoType}
+use Rattle.go_rules.specs.GoTypes.Entities.{World, Env}
+use Rattle.go_rules.specs.GoTypes.Bodies.{Ctx}
+use Rattle.go_rules.specs.GoTypes.Typing.{parts, place, declares, stmts, used_stmts}
+use Rattle.go_rules.specs.GoTypes.Recorded.{recorded_stmts}
+use Rattle.go_rules.specs.GoTypes.Programs.{Program, Headed, headed}
+use Rattle.go_rules.specs.GoTypes.TypeDeclarations.{DeclaredTypes, is_finite}
+use Rattle.go_rules.specs.GoTypes.Collect.{declared_by, types_declared, collected}
+use Rattle.go_rules.specs.GoTypes.WellTyped.{body_ok, header_uses, refused_place, well_typed}
 use Rattle.typed_in_place.specs.SameWorlds.SameWorlds.{at}
 use Rattle.imported_typing.specs.Reach.{Reach, AllOf, IfAny, TypeWithin, OperandWithin, PlaceWithin, SameWithin}
 use Rattle.imported_typing.specs.Reach.{HeaderWithin, OwnTypeWithin}

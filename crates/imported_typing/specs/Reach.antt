@@ -3,15 +3,15 @@
 -- which the same is found of all that is reached may differ in all else.
 use Rattle.std.specs.Prelude.{◌≡◌, ℕ, Bool, true, false, List, [], ◌∷◌, Option, Some, None}
 use Rattle.go_tree.specs.File.{TypeSpec}
-use Rattle.go_tree.specs.ScopeNames.Means.{means}
-use Rattle.go_tree.specs.GoTypes.Types.{GoType, basic, named_type, pointer_to, slice_of, map_of, struct_of, tuple_of}
-use Rattle.go_tree.specs.GoTypes.Types.{untyped, untyped_nil, GoFields, no_go_fields, go_field, GoTypes, no_go_types}
-use Rattle.go_tree.specs.GoTypes.Types.{go_type, FuncType}
-use Rattle.go_tree.specs.GoTypes.Defined.{Method, Defined, find_defined}
-use Rattle.go_tree.specs.GoTypes.Entities.{Entity, variable, constant, stand_in, type_name, function, package_name}
-use Rattle.go_tree.specs.GoTypes.Entities.{builtin, nil_name, iota_name, refused, World, Env, meaning, block_of}
-use Rattle.go_tree.specs.GoTypes.Operands.{Operand, value, several, a_type, a_function, a_builtin, recovered}
-use Rattle.go_tree.specs.GoTypes.Programs.{Headed, spec_of}
+use Rattle.go_rules.specs.ScopeNames.Means.{means}
+use Rattle.go_rules.specs.GoTypes.Types.{GoType, basic, named_type, pointer_to, slice_of, map_of, struct_of, tuple_of}
+use Rattle.go_rules.specs.GoTypes.Types.{untyped, untyped_nil, GoFields, no_go_fields, go_field, GoTypes, no_go_types}
+use Rattle.go_rules.specs.GoTypes.Types.{go_type, FuncType}
+use Rattle.go_rules.specs.GoTypes.Defined.{Method, Defined, find_defined}
+use Rattle.go_rules.specs.GoTypes.Entities.{Entity, variable, constant, stand_in, type_name, function, package_name}
+use Rattle.go_rules.specs.GoTypes.Entities.{builtin, nil_name, iota_name, refused, World, Env, meaning, block_of}
+use Rattle.go_rules.specs.GoTypes.Operands.{Operand, value, several, a_type, a_function, a_builtin, recovered}
+use Rattle.go_rules.specs.GoTypes.Programs.{Headed, spec_of}
 
 -- the packages and the defined types that are reached, and the packages to which fields that aren't exported belong
 pub record Reach : Type 0 where

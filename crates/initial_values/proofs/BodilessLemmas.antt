@@ -4,7 +4,7 @@ use Rattle.go_tree.specs.declared.exprs.Elem as source
 use Rattle.go_tree.specs.declared.exprs.Expr as expression
 use Rattle.go_tree.specs.Lists.{elems_from, exprs_from}
 use Rattle.go_tree.specs.View.{elem_of, expr_of, held_value_option_of, value_of}
-use Rattle.go_tree.specs.GoTypes.Bodiless.{all_bodiless, bodiless, bodiless_elems, bodiless_key, bodiless_value}
+use Rattle.go_rules.specs.GoTypes.Bodiless.{all_bodiless, bodiless, bodiless_elems, bodiless_key, bodiless_value}
 use Rattle.typed_names.proofs.TypeExprs.NewNames.{drop_all, drop_item}
 
 -- ---- expressions

@@ -6,12 +6,12 @@ use Rattle.go_tree.specs.declared.exprs.Expr as expression
 use Rattle.go_tree.specs.Tree.{Expr, Value, ValueOption}
 use Rattle.go_tree.specs.Lists.{elems_from, exprs_from}
 use Rattle.go_tree.specs.View.{elem_of, expr_of, held_value_option_of, value_of}
-use Rattle.go_tree.specs.GoTypes.Answers.{given}
-use Rattle.go_tree.specs.GoTypes.Types.{GoType}
-use Rattle.go_tree.specs.GoTypes.Defined.{under}
-use Rattle.go_tree.specs.GoTypes.Entities.{Env}
-use Rattle.go_tree.specs.GoTypes.Initial.{all_constant, all_initial, initial_elems, initial_key, initial_value, is_constant, is_initial, sizes_constant}
-use Rattle.go_tree.specs.GoTypes.Literals.{inner_type}
+use Rattle.go_rules.specs.GoTypes.Answers.{given}
+use Rattle.go_rules.specs.GoTypes.Types.{GoType}
+use Rattle.go_rules.specs.GoTypes.Defined.{under}
+use Rattle.go_rules.specs.GoTypes.Entities.{Env}
+use Rattle.go_rules.specs.GoTypes.Initial.{all_constant, all_initial, initial_elems, initial_key, initial_value, is_constant, is_initial, sizes_constant}
+use Rattle.go_rules.specs.GoTypes.Literals.{inner_type}
 use Rattle.typed_names.proofs.TypeExprs.NewNames.{drop_all, drop_item}
 use Rattle.type_table.specs.TypeRelations.Environment.{defined_types, env_type}
 use Rattle.type_table.specs.declared.nodes.TypeId.{TypeId}

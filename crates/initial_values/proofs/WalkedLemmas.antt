@@ -2,7 +2,7 @@
 use Rattle.std.proofs.Common.{◌≡◌, ◌&&◌, Bool, true, false, refl, arith}
 use Rattle.go_tree.specs.declared.spans.Span.{Span}
 use Rattle.go_tree.specs.Tree.{Expr, ident, int_lit, rune_lit, str_lit, composite, selector, index, slice, call, func_lit, type_operand, unary, binary, star, Exprs, no_exprs, expr_and, ExprOption, no_expr, some_expr, Elems, no_elems, elem, Value, plain, braced, ValueOption, no_value, some_value}
-use Rattle.go_tree.specs.GoTypes.Bodiless.{all_bodiless, bodiless, bodiless_elems, bodiless_key, bodiless_option, bodiless_value}
+use Rattle.go_rules.specs.GoTypes.Bodiless.{all_bodiless, bodiless, bodiless_elems, bodiless_key, bodiless_option, bodiless_value}
 use Rattle.expr_walk.specs.Walked.{AreAllWalked, AreWalkedElems, IsWalked, IsWalkedKey, IsWalkedOption, IsWalkedValue}
 use Rattle.initial_values.specs.Spelled.{AllHaveGoodLiterals, BoundHasGoodLiterals, ElemsHaveGoodLiterals, HasGoodLiterals, KeyHasGoodLiterals, ValueHasGoodLiterals}
 

@@ -1,10 +1,10 @@
 -- The steps in which it is told whether expressions are initialisers (Go specification, Constant expressions;
 -- Composite literals).
 use Rattle.std.specs.Prelude.{◌≡◌, Bool, true, false, List, Option, Some, None}
-use Rattle.go_tree.specs.GoTypes.Answers.{given}
-use Rattle.go_tree.specs.GoTypes.Types.{GoType}
-use Rattle.go_tree.specs.GoTypes.Defined.{Defined, under}
-use Rattle.go_tree.specs.GoTypes.Literals.{literal_type}
+use Rattle.go_rules.specs.GoTypes.Answers.{given}
+use Rattle.go_rules.specs.GoTypes.Types.{GoType}
+use Rattle.go_rules.specs.GoTypes.Defined.{Defined, under}
+use Rattle.go_rules.specs.GoTypes.Literals.{literal_type}
 use Rattle.type_table.specs.declared.operand_rules.values.Content.{Content}
 use Rattle.type_table.specs.declared.operand_rules.values.Content.TheVariants.{Run, Exact, Shift}
 use Rattle.operand_modes.specs.declared.modes.Operand.{Operand}

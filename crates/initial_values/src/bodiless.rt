@@ -2,7 +2,7 @@
 
 ghost use Rattle.std.specs.Prelude.{◌≡◌, ◌&&◌};
 ghost use Rattle.go_tree.specs.View.{boxed_expr_option_of, elems_of, expr_of, exprs_of, held_value_option_of, value_of};
-ghost use Rattle.go_tree.specs.GoTypes.Bodiless as go;
+ghost use Rattle.go_rules.specs.GoTypes.Bodiless as go;
 
 use go_tree::{Elem, ElemList, Expr, ExprList, Value};
 

@@ -3,7 +3,7 @@
 ghost use Rattle.std.specs.Prelude.{◌≡◌, IfOk, drop, map};
 ghost use Rattle.go_tree.specs.Lists.{exprs_from};
 ghost use Rattle.go_tree.specs.View.{expr_of, exprs_of};
-ghost use Rattle.go_tree.specs.GoTypes.Initial as go;
+ghost use Rattle.go_rules.specs.GoTypes.Initial as go;
 ghost use Rattle.typed_names.specs.Scopes.{env_at};
 ghost use Rattle.operand_modes.specs.CheckerTables.Ready.{Keeps};
 ghost use Rattle.operand_modes.specs.OperandAnswers.Known.{Stands};

@@ -2,9 +2,9 @@
 
 ghost use Rattle.std.specs.Prelude.{◌≡◌, ◌&&◌, IfOk, IfSome};
 ghost use Rattle.go_tree.specs.View.{elems_of, expr_of, exprs_of, held_value_option_of, value_of};
-ghost use Rattle.go_tree.specs.GoTypes.Answers.{given};
-ghost use Rattle.go_tree.specs.GoTypes.Initial as go;
-ghost use Rattle.go_tree.specs.GoTypes.Literals as literal;
+ghost use Rattle.go_rules.specs.GoTypes.Answers.{given};
+ghost use Rattle.go_rules.specs.GoTypes.Initial as go;
+ghost use Rattle.go_rules.specs.GoTypes.Literals as literal;
 ghost use Rattle.type_table.specs.TypeRelations.Environment.{defined_types};
 ghost use Rattle.type_table.specs.declared.operand_rules.values.ValueType.TheVariants.{Typed};
 ghost use Rattle.type_table.specs.OperandRules.Values.{IsType};

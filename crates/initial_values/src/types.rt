@@ -3,9 +3,9 @@
 
 ghost use Rattle.std.specs.Prelude.{◌≡◌, IfOk, IfSome};
 ghost use Rattle.go_tree.specs.View.{type_of};
-ghost use Rattle.go_tree.specs.GoTypes.Answers.{given, meets};
-ghost use Rattle.go_tree.specs.GoTypes.Literals as go;
-ghost use Rattle.go_tree.specs.GoTypes.TypeNames.{type_meant};
+ghost use Rattle.go_rules.specs.GoTypes.Answers.{given, meets};
+ghost use Rattle.go_rules.specs.GoTypes.Literals as go;
+ghost use Rattle.go_rules.specs.GoTypes.TypeNames.{type_meant};
 ghost use Rattle.type_table.specs.TypeRelations.Environment.{defined_types};
 ghost use Rattle.type_table.specs.declared.operand_rules.values.ValueType.TheVariants.{Typed};
 ghost use Rattle.type_table.specs.OperandRules.Values.{IsType};

@@ -7,8 +7,8 @@ use Rattle.go_tree.specs.declared.stmts.VarDecl as vd
 use Rattle.go_tree.specs.declared.stmts.VarSpecList as vsl
 use Rattle.go_tree.specs.Tree.{Stmt, ValueSpecs, const_decl, var_decl}
 use Rattle.go_tree.specs.View.{const_decl_of, const_specs_row, var_decl_of, var_specs_row}
-use Rattle.go_tree.specs.GoTypes.Bodies.{label_around}
-use Rattle.go_tree.specs.GoTypes.Jumps.{breaks, is_breakable, is_loop, labels}
+use Rattle.go_rules.specs.GoTypes.Bodies.{label_around}
+use Rattle.go_rules.specs.GoTypes.Jumps.{breaks, is_breakable, is_loop, labels}
 use Rattle.jump_rules.specs.declared.around.LabelAround.{LabelAround}
 use Rattle.jump_rules.specs.Labels.{LabelsRead, labels_at}
 

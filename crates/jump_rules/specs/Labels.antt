@@ -3,7 +3,7 @@
 use Rattle.std.specs.Prelude.{◌≡◌, ℕ, Bool, List, [], ◌∷◌, Option, Some, None}
 use Rattle.std.specs.Borrow.{Bor}
 use Rattle.go_tree.specs.declared.texts.NameAt.{NameAt}
-use Rattle.go_tree.specs.GoTypes.Bodies.{Ctx, label_around}
+use Rattle.go_rules.specs.GoTypes.Bodies.{Ctx, label_around}
 use Rattle.jump_rules.specs.declared.around.Around.{Around}
 use Rattle.jump_rules.specs.declared.around.LabelAround.{LabelAround}
 

@@ -4,9 +4,9 @@
 ghost use Rattle.std.specs.Prelude.{◌≡◌, Some, bytes_eq, if◌then◌else◌, is_some};
 ghost use Rattle.std.specs.Option.{option_map};
 ghost use Rattle.go_tree.specs.View.{name_at_of, stmt_of};
-ghost use Rattle.go_tree.specs.GoTypes.Answers.{meets};
-ghost use Rattle.go_tree.specs.GoTypes.Bodies as go;
-ghost use Rattle.go_tree.specs.GoTypes.Jumps as jump;
+ghost use Rattle.go_rules.specs.GoTypes.Answers.{meets};
+ghost use Rattle.go_rules.specs.GoTypes.Bodies as go;
+ghost use Rattle.go_rules.specs.GoTypes.Jumps as jump;
 ghost use Rattle.jump_rules.specs.Labels.{IsAround, labels_at};
 
 use go_tree::{Name, NameAt, Stmt};

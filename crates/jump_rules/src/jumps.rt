@@ -4,7 +4,7 @@
 ghost use Rattle.std.specs.Prelude.{◌≡◌, is_some};
 ghost use Rattle.std.specs.Option.{option_map};
 ghost use Rattle.go_tree.specs.View.{arms_of, cases_of, held_block_option_of, name_at_of, stmt_of, stmts_of};
-ghost use Rattle.go_tree.specs.GoTypes.Jumps as go;
+ghost use Rattle.go_rules.specs.GoTypes.Jumps as go;
 ghost use Rattle.jump_rules.specs.Labels.{label_name};
 
 use go_tree::{Arm, ArmList, Block, Case, CaseList, NameAt, Stmt, StmtList};

@@ -2,8 +2,8 @@
 
 ghost use Rattle.std.specs.Prelude.{◌≡◌, ◌++◌, ◌∷◌, [], IfOk, OnOk, bytes_eq};
 ghost use Rattle.go_tree.specs.View.{arms_of, cases_of, held_block_option_of, stmt_of, stmts_of};
-ghost use Rattle.go_tree.specs.GoTypes.Answers.{distinct_by};
-ghost use Rattle.go_tree.specs.GoTypes.Jumps as go;
+ghost use Rattle.go_rules.specs.GoTypes.Answers.{distinct_by};
+ghost use Rattle.go_rules.specs.GoTypes.Jumps as go;
 
 use crate::distinct_names::are_distinct;
 use go_tree::{Arm, ArmList, Block, Case, CaseList, Name, NoMemory, Stmt, StmtList};

@@ -1,7 +1,7 @@
 -- A step over a constant keeps a right table of declared types right: the same is found of the packages after it.
 use Rattle.std.proofs.Common.{◌≡◌, ◌∙◌, refl, subst, true, List, [], ◌∷◌, ◌++◌}
-use Rattle.go_tree.specs.GoTypes.Entities.{World}
-use Rattle.go_tree.specs.GoTypes.Collect.{collected}
+use Rattle.go_rules.specs.GoTypes.Entities.{World}
+use Rattle.go_rules.specs.GoTypes.Collect.{collected}
 use Rattle.pkg_graph.specs.Package as run
 use Rattle.typed_in_place.specs.SameWorlds.SameWorlds.{SameWorld}
 use Rattle.go_translation.specs.Packages.{sources, are_well_typed}

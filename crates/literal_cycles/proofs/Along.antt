@@ -1,13 +1,13 @@
 -- Two places of one body, in the function and where it is written, and what the names there say of calls.
 use Rattle.std.proofs.Common.{◌≡◌, refl, sym, ap, ◌∙◌, ℕ, Bool, true, false, ◌||◌, List, [], ◌∷◌, ◌++◌, Option, Some, None, if◌then◌else◌, arith}
 use Rattle.go_tree.specs.Tree.{NameAt, const_decl, func_lit}
-use Rattle.go_tree.specs.ScopeNames.FreeNames.{names_of}
-use Rattle.go_tree.specs.ScopeNames.Means.{Environment, means}
+use Rattle.go_rules.specs.ScopeNames.FreeNames.{names_of}
+use Rattle.go_rules.specs.ScopeNames.Means.{Environment, means}
 use Rattle.pkg_graph.specs.Members.{Target}
-use Rattle.go_tree.specs.GoTypes.Answers.{is_among}
-use Rattle.go_tree.specs.GoTypes.Entities.{Entity, World, Env, Binds, package_of, exported, extend, in_block}
-use Rattle.go_tree.specs.GoTypes.Statements.{bound_names}
-use Rattle.go_tree.specs.GoTypes.TypeNames.{func_type}
+use Rattle.go_rules.specs.GoTypes.Answers.{is_among}
+use Rattle.go_rules.specs.GoTypes.Entities.{Entity, World, Env, Binds, package_of, exported, extend, in_block}
+use Rattle.go_rules.specs.GoTypes.Statements.{bound_names}
+use Rattle.go_rules.specs.GoTypes.TypeNames.{func_type}
 use Rattle.form_meaning.specs.FormInPlace.Places.{Landing, means_function}
 use Rattle.form_meaning.proofs.FormInPlace.Uses.{among_append}
 use Rattle.run_rules.specs.Surroundings.{Seen, seen, seen_stmt}

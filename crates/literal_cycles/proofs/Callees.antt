@@ -2,15 +2,15 @@
 use Rattle.std.proofs.Common.{◌≡◌, refl, sym, ap, ◌∙◌, ℕ, Bool, true, false, List, Option, Some, None, if◌then◌else◌, arith}
 use Rattle.std.specs.Prelude.{is_some}
 use Rattle.go_tree.specs.Tree.{NameAt, Expr, ident, selector}
-use Rattle.go_tree.specs.ScopeNames.Means.{Environment, means}
+use Rattle.go_rules.specs.ScopeNames.Means.{Environment, means}
 use Rattle.pkg_graph.specs.Members.{Target}
-use Rattle.go_tree.specs.GoTypes.Answers.{given, otherwise, is_among}
-use Rattle.go_tree.specs.GoTypes.Types.{GoType, base_of, type_name_of}
-use Rattle.go_tree.specs.GoTypes.Defined.{Defined}
-use Rattle.go_tree.specs.GoTypes.Entities.{Content, Entity, function, World, Env, meaning, package_of, exported, defined_in}
-use Rattle.go_tree.specs.GoTypes.Operands.{Operand, value, typed}
-use Rattle.go_tree.specs.GoTypes.Primary.{field_type}
-use Rattle.go_tree.specs.GoTypes.Typing.{parts}
+use Rattle.go_rules.specs.GoTypes.Answers.{given, otherwise, is_among}
+use Rattle.go_rules.specs.GoTypes.Types.{GoType, base_of, type_name_of}
+use Rattle.go_rules.specs.GoTypes.Defined.{Defined}
+use Rattle.go_rules.specs.GoTypes.Entities.{Content, Entity, function, World, Env, meaning, package_of, exported, defined_in}
+use Rattle.go_rules.specs.GoTypes.Operands.{Operand, value, typed}
+use Rattle.go_rules.specs.GoTypes.Primary.{field_type}
+use Rattle.go_rules.specs.GoTypes.Typing.{parts}
 use Rattle.form_meaning.specs.FormInPlace.Places.{at_place, Landing, is_member, has_home, means_function, SelectorAlike}
 use Rattle.form_meaning.specs.FormInPlace.Leaves.{Leaf, member, imported, own, argument}
 use Rattle.form_meaning.specs.FormInPlace.Written.{Written, w_leaf, w_local, w_outer, w_selector}
@@ -30,7 +30,7 @@ home_alike ds h k n (Some o) f = refl
 
 -- a member is no package
 no_package : (e : Entity) → is_member e ≡ true → package_of (Some e) ≡ None
-no_package (Rattle.go_tree.specs.GoTypes.Entities.package_name p) h = absurd (grind (arith, h))
+no_package (Rattle.go_rules.specs.GoTypes.Entities.package_name p) h = absurd (grind (arith, h))
 no_package e h = refl
 
 module _ (site : Landing) (world : World) (K : ℕ) (outside there : Environment Entity) (C : Callees) (M : List ℕ → Option Target) (P : Option Target → Option ℕ) (puts : site.puts ≡ false) (agree : NamesAgree C M P world K site.home outside there site.around) where

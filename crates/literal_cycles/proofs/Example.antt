@@ -11,14 +11,14 @@ use Rattle.go_tree.specs.declared.exprs.Rest.TheVariants.{Plain}
 use Rattle.go_tree.specs.declared.operators.BinOp.TheVariants.{Add}
 use Rattle.go_tree.specs.Tree.{NameAt, named, Param, Sig, Expr, ident, int_lit, call, func_lit, binary, no_exprs, expr_and, Stmt, eval, define, assign, return_, Stmts, no_stmts, stmt_and}
 use Rattle.go_tree.specs.File.{Func, func}
-use Rattle.go_tree.specs.ScopeNames.Identifiers.{stmts_identifiers}
-use Rattle.go_tree.specs.ScopeNames.Means.{means}
+use Rattle.go_rules.specs.ScopeNames.Identifiers.{stmts_identifiers}
+use Rattle.go_rules.specs.ScopeNames.Means.{means}
 use Rattle.pkg_graph.specs.Package.{SourceTree, Package}
 use Rattle.param_choice.specs.Chosen.{has}
-use Rattle.go_tree.specs.GoTypes.Agreement.{head}
-use Rattle.go_tree.specs.GoTypes.Types.{basic}
-use Rattle.go_tree.specs.declared.const_eval.kinds.Kind.TheVariants as kind
-use Rattle.go_tree.specs.GoTypes.Entities.{variable, meaning}
+use Rattle.go_rules.specs.GoTypes.Agreement.{head}
+use Rattle.go_rules.specs.GoTypes.Types.{basic}
+use Rattle.go_rules.specs.declared.const_eval.kinds.Kind.TheVariants as kind
+use Rattle.go_rules.specs.GoTypes.Entities.{variable, meaning}
 use Rattle.go_translation.specs.Packages as translated
 use Rattle.run_rules.specs.Surroundings.{whole, other, Place, a_slot, in_slot, at_stmt, after_stmt, in_literal, is_local}
 use Rattle.run_rules.specs.Places.{expr_seen, sig_seen, stmts_seen}

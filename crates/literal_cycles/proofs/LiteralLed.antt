@@ -5,21 +5,21 @@ use Rattle.std.proofs.Common.{arith}
 use Rattle.go_tree.specs.declared.exprs.Rest.TheVariants.{Plain}
 use Rattle.go_tree.specs.Tree.{NameAt, Param, Sig, Expr, call, func_lit, Stmts, const_decl}
 use Rattle.go_tree.specs.Bare.{bare_expr}
-use Rattle.go_tree.specs.ScopeNames.FreeNames.{names_of}
-use Rattle.go_tree.specs.ScopeNames.Means.{Environment, is_blank}
-use Rattle.go_tree.specs.ScopeNames.Scopes.{not_blank, param_names, sig_declares, with_name}
+use Rattle.go_rules.specs.ScopeNames.FreeNames.{names_of}
+use Rattle.go_rules.specs.ScopeNames.Means.{Environment, is_blank}
+use Rattle.go_rules.specs.ScopeNames.Scopes.{not_blank, param_names, sig_declares, with_name}
 use Rattle.pkg_graph.specs.Package.{Package}
-use Rattle.go_tree.specs.GoTypes.Answers.{given, both, meets, otherwise, only_if, is_among, distinct_by}
-use Rattle.go_tree.specs.GoTypes.Types.{GoType, FuncType}
-use Rattle.go_tree.specs.GoTypes.Entities.{Env, extend, in_block}
-use Rattle.go_tree.specs.GoTypes.TypeNames.{type_meant, func_type, params_meant}
-use Rattle.go_tree.specs.GoTypes.Declarations.{bound_names}
-use Rattle.go_tree.specs.GoTypes.Bodies.{Ctx, param_binding, param_binds, body_binds, body_ctx, is_body}
-use Rattle.go_tree.specs.GoTypes.Typing.{stmts}
-use Rattle.go_tree.specs.GoTypes.Programs.{Headed, file_env}
-use Rattle.go_tree.specs.GoTypes.Collect.{env_of}
-use Rattle.go_tree.specs.GoTypes.WellTyped.{body_env, receiver_of}
-use Rattle.go_tree.proofs.GoTypes.Agreeing.{from_both, some_same}
+use Rattle.go_rules.specs.GoTypes.Answers.{given, both, meets, otherwise, only_if, is_among, distinct_by}
+use Rattle.go_rules.specs.GoTypes.Types.{GoType, FuncType}
+use Rattle.go_rules.specs.GoTypes.Entities.{Env, extend, in_block}
+use Rattle.go_rules.specs.GoTypes.TypeNames.{type_meant, func_type, params_meant}
+use Rattle.go_rules.specs.GoTypes.Declarations.{bound_names}
+use Rattle.go_rules.specs.GoTypes.Bodies.{Ctx, param_binding, param_binds, body_binds, body_ctx, is_body}
+use Rattle.go_rules.specs.GoTypes.Typing.{stmts}
+use Rattle.go_rules.specs.GoTypes.Programs.{Headed, file_env}
+use Rattle.go_rules.specs.GoTypes.Collect.{env_of}
+use Rattle.go_rules.specs.GoTypes.WellTyped.{body_env, receiver_of}
+use Rattle.go_rules.proofs.GoTypes.Agreeing.{from_both, some_same}
 use Rattle.form_meaning.specs.FormInPlace.CalledLiteral.{declared_at}
 use Rattle.form_meaning.specs.FormInPlace.Bound.{literal_binds}
 use Rattle.form_meaning.specs.FormInPlace.Places.{Landing, results_in}
@@ -134,12 +134,12 @@ module _ {S : Type 0} where
 
   -- ---- a literal that is written, in its parts
 
-  record LiteralParts (site : Landing) (r : List (List ℕ)) (a : Env) (m : Environment Rattle.go_tree.specs.GoTypes.Entities.Entity) (g g' : Sig S) (b b' : Stmts S) : Type 0 where
+  record LiteralParts (site : Landing) (r : List (List ℕ)) (a : Env) (m : Environment Rattle.go_rules.specs.GoTypes.Entities.Entity) (g g' : Sig S) (b b' : Stmts S) : Type 0 where
     params : WrittenParams site r a m g.params g'.params
     results : WrittenParams site r a m g.results g'.results
     body : WrittenBody site (results_in (func_type a g)) (bound_names (literal_binds a g) ++ r) (extend (literal_binds a g) (in_block a)) (literal_binds a g ++ m) b b'
 
-  literal_parts : (site : Landing) (r : List (List ℕ)) (a : Env) (m : Environment Rattle.go_tree.specs.GoTypes.Entities.Entity) (s z t k : S) (g g' : Sig S) (b b' : Stmts S) → Written site r a m (func_lit s g z b) (func_lit t g' k b') → LiteralParts site r a m g g' b b'
+  literal_parts : (site : Landing) (r : List (List ℕ)) (a : Env) (m : Environment Rattle.go_rules.specs.GoTypes.Entities.Entity) (s z t k : S) (g g' : Sig S) (b b' : Stmts S) → Written site r a m (func_lit s g z b) (func_lit t g' k b') → LiteralParts site r a m g g' b b'
   literal_parts site r a m s z _ _ g g' b b' (w_func_lit wp wr wb) = record { params = wp; results = wr; body = wb }
   literal_parts site r a m s z t k g g' b b' (w_leaf l) = elim l [ ]
 
@@ -171,7 +171,7 @@ module _ {S : Type 0} (same : S → S → Bool) (commented : ℕ → ℕ → S �
   lists : Listing S
   lists = listing
 
-  found : FirstFunction v.name K (Rattle.run_rules.specs.Programs.imports_mean rs u.home.of u.home.source.tree) u.callee (Rattle.go_tree.specs.GoTypes.Programs.headed (Rattle.run_rules.specs.Programs.linked rs))
+  found : FirstFunction v.name K (Rattle.run_rules.specs.Programs.imports_mean rs u.home.of u.home.source.tree) u.callee (Rattle.go_rules.specs.GoTypes.Programs.headed (Rattle.run_rules.specs.Programs.linked rs))
   found = first same commented rs marks x u v ms l
 
   function_is : FunctionMeant (Rattle.run_rules.specs.Programs.linked rs) (first same commented rs marks x u v ms l).header u.callee v.name
@@ -269,7 +269,7 @@ module _ {S : Type 0} (same : S → S → Bool) (commented : ℕ → ℕ → S �
     abbrev at : Place S
     at = record x.place { env = c.env }
 
-    abbrev beyond : Environment Rattle.go_tree.specs.GoTypes.Entities.Entity
+    abbrev beyond : Environment Rattle.go_rules.specs.GoTypes.Entities.Entity
     beyond = (top_env rs x.at.number x.at.of x.at.source.tree).names
 
     abbrev new_sig : Sig S
@@ -303,7 +303,7 @@ module _ {S : Type 0} (same : S → S → Bool) (commented : ℕ → ℕ → S �
         subst (λ k. NamesAgree C D.meaning D.package_of (world rs) K k top_names.names c.env.names around) (sym h.home_is)
         (names_agree rs marks l.typed u.home x.at l.home_stands l.there_stands (ap (slice_get rs) t.number ∙ t.package_there) l.package_there x.place c.env.names h.outer)
 
-    abbrev Two : List (List ℕ) → Env → Environment Rattle.go_tree.specs.GoTypes.Entities.Entity → List (List ℕ) → List (List ℕ) → Type 0
+    abbrev Two : List (List ℕ) → Env → Environment Rattle.go_rules.specs.GoTypes.Entities.Entity → List (List ℕ) → List (List ℕ) → Type 0
     Two r a m b d = Along S site (world rs) K top_names.names c.env.names r a m b d
 
     top_two : Two [] a c.env.names [] around

@@ -3,7 +3,7 @@ use Rattle.std.proofs.Common.{◌≡◌, refl, ap, ◌∙◌, ◌⊎◌, inl, in
 use Rattle.std.specs.Prelude.{slice_get}
 use Rattle.go_tree.specs.File.{TypeSpec, Decl, values, types, func}
 use Rattle.pkg_graph.specs.Package.{SourceTree, Package}
-use Rattle.go_tree.specs.GoTypes.Answers.{given, meets}
+use Rattle.go_rules.specs.GoTypes.Answers.{given, meets}
 use Rattle.run_rules.specs.Surroundings.{Place, Seen, seen_type}
 use Rattle.run_rules.specs.Programs.{decl_seen, types_at_top, top_place}
 use Rattle.run_rules.specs.Sites.{MarkRef, is_among_marks, Where, inlinable, is_function, sites_among, parts_of}

@@ -2,21 +2,21 @@
 use Rattle.std.proofs.Common.{◌≡◌, refl, sym, ap, ◌∙◌, ℕ, suc, Bool, true, false, List, [], ◌∷◌, ◌++◌, Option, Some, None, if◌then◌else◌, arith}
 use Rattle.std.specs.Prelude.{is_some}
 use Rattle.go_tree.specs.Tree.{NameAt, Param, Sig, TypeExpr, const_decl, composite, func_lit, Expr, Exprs, ExprOption, Elems, Value, ValueOption, Stmt, Stmts, StmtOption, BlockOption, RangeLeft, Arms, Cases, ValueSpecs}
-use Rattle.go_tree.specs.ScopeNames.FreeNames.{names_of, defined}
-use Rattle.go_tree.specs.ScopeNames.Means.{Environment}
-use Rattle.go_tree.specs.ScopeNames.Scopes as scopes
-use Rattle.go_tree.specs.ScopeNames.Scopes.{not_blank, specs_declare, param_names, sig_declares}
+use Rattle.go_rules.specs.ScopeNames.FreeNames.{names_of, defined}
+use Rattle.go_rules.specs.ScopeNames.Means.{Environment}
+use Rattle.go_rules.specs.ScopeNames.Scopes as scopes
+use Rattle.go_rules.specs.ScopeNames.Scopes.{not_blank, specs_declare, param_names, sig_declares}
 use Rattle.pkg_graph.specs.Members.{Target}
-use Rattle.go_tree.specs.GoTypes.Answers.{given, meets}
-use Rattle.go_tree.specs.GoTypes.Defined.{under}
-use Rattle.go_tree.specs.GoTypes.Types.{GoType, FuncType, basic, named_type, pointer_to, slice_of, map_of, struct_of, tuple_of, untyped, untyped_nil}
-use Rattle.go_tree.specs.GoTypes.Entities.{Entity, World, Env, defined_in, extend, in_block}
-use Rattle.go_tree.specs.GoTypes.TypeNames.{func_type}
-use Rattle.go_tree.specs.GoTypes.Literals.{is_struct, key_type, inner_type}
-use Rattle.go_tree.specs.GoTypes.Bodies.{literal_env}
-use Rattle.go_tree.specs.GoTypes.Declarations.{new_variables}
-use Rattle.go_tree.specs.GoTypes.Statements.{bound_names, right_values}
-use Rattle.go_tree.specs.GoTypes.Typing.{parts, range_declares, binds_of}
+use Rattle.go_rules.specs.GoTypes.Answers.{given, meets}
+use Rattle.go_rules.specs.GoTypes.Defined.{under}
+use Rattle.go_rules.specs.GoTypes.Types.{GoType, FuncType, basic, named_type, pointer_to, slice_of, map_of, struct_of, tuple_of, untyped, untyped_nil}
+use Rattle.go_rules.specs.GoTypes.Entities.{Entity, World, Env, defined_in, extend, in_block}
+use Rattle.go_rules.specs.GoTypes.TypeNames.{func_type}
+use Rattle.go_rules.specs.GoTypes.Literals.{is_struct, key_type, inner_type}
+use Rattle.go_rules.specs.GoTypes.Bodies.{literal_env}
+use Rattle.go_rules.specs.GoTypes.Declarations.{new_variables}
+use Rattle.go_rules.specs.GoTypes.Statements.{bound_names, right_values}
+use Rattle.go_rules.specs.GoTypes.Typing.{parts, range_declares, binds_of}
 use Rattle.std.specs.Prelude.{length}
 use Rattle.form_meaning.specs.FormInPlace.Places.{at_place, Landing}
 use Rattle.form_meaning.specs.FormInPlace.Bound.{Before, inner_under, stmt_binds, first_binds, range_left_binds, literal_binds, variable_binds, literal_under}

@@ -5,7 +5,7 @@ use Rattle.go_tree.specs.declared.spans.Span.{Span}
 use Rattle.go_tree.specs.Tree.{Expr}
 use Rattle.pkg_graph.specs.Package.{Package}
 use Rattle.pkg_graph.specs.Reads.{Source}
-use Rattle.go_tree.specs.GoTypes.Answers.{meets}
+use Rattle.go_rules.specs.GoTypes.Answers.{meets}
 use Rattle.go_translation.specs.Packages as translated
 use Rattle.run_rules.specs.Surroundings.{other, Place}
 use Rattle.run_rules.specs.Places.{expr_seen, all_seen}

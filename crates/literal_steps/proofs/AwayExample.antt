@@ -9,14 +9,14 @@ use Rattle.go_tree.specs.declared.exprs.Rest.TheVariants.{Plain}
 use Rattle.go_tree.specs.declared.operators.BinOp.TheVariants.{Add}
 use Rattle.go_tree.specs.Tree.{NameAt, TypeExpr, named, Sig, Expr, ident, int_lit, selector, call, func_lit, binary, no_exprs, expr_and, Stmt, var_decl, eval, assign, return_, Stmts, no_stmts, stmt_and, no_specs, spec}
 use Rattle.go_tree.specs.File.{Func, values, func, File}
-use Rattle.go_tree.specs.declared.const_eval.kinds.Kind.TheVariants as kind
-use Rattle.go_tree.specs.ScopeNames.Binders.{func_binders}
+use Rattle.go_rules.specs.declared.const_eval.kinds.Kind.TheVariants as kind
+use Rattle.go_rules.specs.ScopeNames.Binders.{func_binders}
 use Rattle.pkg_graph.specs.Package.{Package}
 use Rattle.pkg_graph.specs.ModuleFiles.Internal.{passes}
 use Rattle.param_choice.specs.Chosen.{has}
 use Rattle.run_rules.specs.ImportRules.Removed.{same_span}
-use Rattle.go_tree.specs.GoTypes.Types.{basic}
-use Rattle.go_tree.specs.GoTypes.Typing.{parts}
+use Rattle.go_rules.specs.GoTypes.Types.{basic}
+use Rattle.go_rules.specs.GoTypes.Typing.{parts}
 use Rattle.go_kernel.specs.Kernel.{FuncName}
 use Rattle.go_kernel.specs.Alike.{MeanSame}
 use Rattle.go_translation.specs.Here.{Here}

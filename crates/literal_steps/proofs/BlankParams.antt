@@ -3,15 +3,15 @@ use Rattle.std.specs.Prelude.{◌≡◌, refl, ℕ, suc, Bool, true, false, List
 use mathlib.Core.Path.{ap}
 use Rattle.go_tree.specs.declared.exprs.Rest.{Rest}
 use Rattle.go_tree.specs.Tree.{NameAt, Param, Sig, call, func_lit, Exprs, Stmts}
-use Rattle.go_tree.specs.ScopeNames.Means.{Environment}
-use Rattle.go_tree.specs.GoTypes.Answers.{given, both, only_if, distinct_by}
-use Rattle.go_tree.specs.GoTypes.Types.{GoType, FuncType}
-use Rattle.go_tree.specs.GoTypes.Entities.{Env, Binds, extend, in_block}
-use Rattle.go_tree.specs.GoTypes.TypeNames.{type_meant, params_meant, func_type}
-use Rattle.go_tree.specs.GoTypes.Operands.{a_function, spread}
-use Rattle.go_tree.specs.GoTypes.Declarations.{bound_names}
-use Rattle.go_tree.specs.GoTypes.Bodies.{param_binding, param_binds, body_binds, body_ctx, is_body}
-use Rattle.go_tree.specs.GoTypes.Typing.{parts, all_parts, stmts}
+use Rattle.go_rules.specs.ScopeNames.Means.{Environment}
+use Rattle.go_rules.specs.GoTypes.Answers.{given, both, only_if, distinct_by}
+use Rattle.go_rules.specs.GoTypes.Types.{GoType, FuncType}
+use Rattle.go_rules.specs.GoTypes.Entities.{Env, Binds, extend, in_block}
+use Rattle.go_rules.specs.GoTypes.TypeNames.{type_meant, params_meant, func_type}
+use Rattle.go_rules.specs.GoTypes.Operands.{a_function, spread}
+use Rattle.go_rules.specs.GoTypes.Declarations.{bound_names}
+use Rattle.go_rules.specs.GoTypes.Bodies.{param_binding, param_binds, body_binds, body_ctx, is_body}
+use Rattle.go_rules.specs.GoTypes.Typing.{parts, all_parts, stmts}
 use Rattle.go_kernel.specs.Kernel.{Name, in_cells, temporary}
 use Rattle.go_translation.specs.Values.{zeros_of}
 use Rattle.go_translation.specs.Mentions.{Mention, mentions_stmts, is_held, is_held_param}

@@ -8,26 +8,26 @@ use Rattle.go_tree.specs.declared.spans.Span.{Span}
 use Rattle.go_tree.specs.Tree.{NameAt, Param, Sig, Expr, ident, selector, call, func_lit, Exprs, no_exprs, expr_and, Stmts, const_decl, eval, defer, ValueSpecs, no_specs, spec}
 use Rattle.go_tree.specs.File.{Func, Decl, values, types, func, TypeSpec}
 use Rattle.go_tree.specs.Bare.{bare_expr}
-use Rattle.go_tree.specs.ScopeNames.Means.{Environment, means, is_blank}
-use Rattle.go_tree.specs.ScopeNames.FreeNames.{names_of, sig_names}
-use Rattle.go_tree.specs.ScopeNames.Scopes.{not_blank, param_names, sig_declares}
+use Rattle.go_rules.specs.ScopeNames.Means.{Environment, means, is_blank}
+use Rattle.go_rules.specs.ScopeNames.FreeNames.{names_of, sig_names}
+use Rattle.go_rules.specs.ScopeNames.Scopes.{not_blank, param_names, sig_declares}
 use Rattle.pkg_graph.specs.Package.{Package}
 use Rattle.pkg_graph.specs.Members.{Target, package_block}
-use Rattle.go_tree.specs.GoTypes.Answers.{given, both, meets, only_if, otherwise, is_among}
-use Rattle.go_tree.specs.GoTypes.Types.{GoType, FuncType}
-use Rattle.go_tree.specs.GoTypes.Entities.{Entity, variable, constant, stand_in, type_name, package_name, builtin, nil_name, iota_name, refused, function, Env, Binds, meaning, package_of, is_exported, exported, block_of, defined_in, extend, in_block}
-use Rattle.go_tree.specs.GoTypes.TypeNames.{type_meant, func_type, params_meant}
-use Rattle.go_tree.specs.GoTypes.Operands.{Operand, a_function, with_value, named_operand}
-use Rattle.go_tree.specs.GoTypes.Primary.{call_of, selected, stands_alone, may_be_deferred}
-use Rattle.go_tree.specs.GoTypes.Statements.{means_panic, is_panic}
-use Rattle.go_tree.specs.GoTypes.Declarations.{bound_names, binds_or}
-use Rattle.go_tree.specs.GoTypes.Bodies.{Ctx, body_binds, body_ctx, is_body}
-use Rattle.go_tree.specs.GoTypes.Typing.{package_before, parts, all_parts, place, stmt, stmts}
-use Rattle.go_tree.specs.GoTypes.Programs.{SourcePackage, Program, Headed, headed, file_env}
-use Rattle.go_tree.specs.GoTypes.Collect.{env_of, collected}
-use Rattle.go_tree.specs.GoTypes.WellTyped.{body_env, receiver_of}
-use Rattle.go_tree.proofs.GoTypes.Agreeing.{from_given, from_both, some_same}
-use Rattle.go_tree.proofs.GoTypes.TypingBare.{parts-bare, stmt-bare}
+use Rattle.go_rules.specs.GoTypes.Answers.{given, both, meets, only_if, otherwise, is_among}
+use Rattle.go_rules.specs.GoTypes.Types.{GoType, FuncType}
+use Rattle.go_rules.specs.GoTypes.Entities.{Entity, variable, constant, stand_in, type_name, package_name, builtin, nil_name, iota_name, refused, function, Env, Binds, meaning, package_of, is_exported, exported, block_of, defined_in, extend, in_block}
+use Rattle.go_rules.specs.GoTypes.TypeNames.{type_meant, func_type, params_meant}
+use Rattle.go_rules.specs.GoTypes.Operands.{Operand, a_function, with_value, named_operand}
+use Rattle.go_rules.specs.GoTypes.Primary.{call_of, selected, stands_alone, may_be_deferred}
+use Rattle.go_rules.specs.GoTypes.Statements.{means_panic, is_panic}
+use Rattle.go_rules.specs.GoTypes.Declarations.{bound_names, binds_or}
+use Rattle.go_rules.specs.GoTypes.Bodies.{Ctx, body_binds, body_ctx, is_body}
+use Rattle.go_rules.specs.GoTypes.Typing.{package_before, parts, all_parts, place, stmt, stmts}
+use Rattle.go_rules.specs.GoTypes.Programs.{SourcePackage, Program, Headed, headed, file_env}
+use Rattle.go_rules.specs.GoTypes.Collect.{env_of, collected}
+use Rattle.go_rules.specs.GoTypes.WellTyped.{body_env, receiver_of}
+use Rattle.go_rules.proofs.GoTypes.Agreeing.{from_given, from_both, some_same}
+use Rattle.go_rules.proofs.GoTypes.TypingBare.{parts-bare, stmt-bare}
 use Rattle.typed_in_place.specs.Declared as declared
 use Rattle.typed_in_place.specs.Declared.{HasNumber}
 use Rattle.form_meaning.specs.FormInPlace.CalledLiteral.{declared_at}

@@ -3,14 +3,14 @@ use Rattle.std.specs.Prelude.{◌≡◌, refl, ℕ, Bool, true, false, ◌&&◌,
 use mathlib.Core.Path.{ap, sym, ◌∙◌, subst}
 use Rattle.std.proofs.Common.{arith}
 use Rattle.std.proofs.lemmas.Slice.Eq.{bytes_eq-Decides}
-use Rattle.go_tree.specs.ScopeNames.Means as names
-use Rattle.go_tree.specs.ScopeNames.Means.{Environment, means, numbered, or_else}
+use Rattle.go_rules.specs.ScopeNames.Means as names
+use Rattle.go_rules.specs.ScopeNames.Means.{Environment, means, numbered, or_else}
 use Rattle.pkg_graph.specs.Package.{Package, import_specs}
 use Rattle.pkg_graph.specs.Members.{Target, imported, predeclared, package_block, import_name}
-use Rattle.go_tree.specs.GoTypes.Entities.{Entity, World, block_of, universe}
-use Rattle.go_tree.specs.GoTypes.Programs as source
-use Rattle.go_tree.specs.GoTypes.Programs.{Program, SourceFile, Headed, headed, headed_package, headed_files, is_main}
-use Rattle.go_tree.specs.GoTypes.Collect.{DeclaredTypes, block_by, types_declared, valued_world}
+use Rattle.go_rules.specs.GoTypes.Entities.{Entity, World, block_of, universe}
+use Rattle.go_rules.specs.GoTypes.Programs as source
+use Rattle.go_rules.specs.GoTypes.Programs.{Program, SourceFile, Headed, headed, headed_package, headed_files, is_main}
+use Rattle.go_rules.specs.GoTypes.Collect.{DeclaredTypes, block_by, types_declared, valued_world}
 use Rattle.typed_in_place.proofs.Collected.{valued_settled}
 use Rattle.run_rules.specs.Programs.{linked, linked_file, imports_mean, top_env}
 use Rattle.run_rules.specs.Sites.{Where}

@@ -6,15 +6,15 @@ use Rattle.std.proofs.Common.{arith}
 use Rattle.go_tree.specs.declared.exprs.Rest.TheVariants.{Plain}
 use Rattle.go_tree.specs.Tree.{NameAt, Param, Sig, Expr, ident, selector, call, func_lit, Exprs, no_exprs, expr_and, Stmts}
 use Rattle.go_tree.specs.Bare.{bare_type, bare_param, bare_expr, bare_exprs, bare_stmts}
-use Rattle.go_tree.specs.ScopeNames.Means.{Environment}
+use Rattle.go_rules.specs.ScopeNames.Means.{Environment}
 use Rattle.pkg_graph.specs.Package.{Package}
-use Rattle.go_tree.specs.GoTypes.Answers.{given}
-use Rattle.go_tree.specs.GoTypes.Entities.{Entity, World}
+use Rattle.go_rules.specs.GoTypes.Answers.{given}
+use Rattle.go_rules.specs.GoTypes.Entities.{Entity, World}
 use Rattle.std.proofs.lemmas.Slice.Eq.{bytes_eq-Decides}
-use Rattle.go_tree.specs.ScopeNames.FreeNames.{names_of}
-use Rattle.go_tree.specs.ScopeNames.Means.{means}
-use Rattle.go_tree.specs.GoTypes.Answers.{is_among}
-use Rattle.go_tree.proofs.GoTypes.Agreeing.{from_given}
+use Rattle.go_rules.specs.ScopeNames.FreeNames.{names_of}
+use Rattle.go_rules.specs.ScopeNames.Means.{means}
+use Rattle.go_rules.specs.GoTypes.Answers.{is_among}
+use Rattle.go_rules.proofs.GoTypes.Agreeing.{from_given}
 use Rattle.run_rules.specs.BodyItems.{number_of}
 use Rattle.run_rules.specs.Surroundings.{Use, Place, local_at, declared_at, is_local, Seen, seen, seen_type, seen_stmt}
 use Rattle.run_rules.specs.Places.{params_seen, stmts_seen}
@@ -68,7 +68,7 @@ module _ {S : Type 0} (same : S → S → Bool) (commented : ℕ → ℕ → S �
   no_binds : (i : ℕ) (gs : List (Given S)) → chosen_binds same rs c ch (numbered_from i gs) ≡ []
   no_binds i [] = refl
   no_binds i (g ∷ gs) =
-      ap (λ b. (if b then Rattle.go_tree.specs.ScopeNames.Means.binding (param_name g.param) (Rattle.run_rules.specs.Conversions.chosen_entity g.type (Rattle.run_rules.specs.Calls.arg_typed same rs c g.arg)) else []) ++ chosen_binds same rs c ch (numbered_from (suc i) gs)) (v.nothing_chosen i)
+      ap (λ b. (if b then Rattle.go_rules.specs.ScopeNames.Means.binding (param_name g.param) (Rattle.run_rules.specs.Conversions.chosen_entity g.type (Rattle.run_rules.specs.Calls.arg_typed same rs c g.arg)) else []) ++ chosen_binds same rs c ch (numbered_from (suc i) gs)) (v.nothing_chosen i)
       ∙ no_binds (suc i) gs
 
   pub start_is : start_with same rs c ch ≡ start same rs c

@@ -4,18 +4,18 @@ use mathlib.Core.Path.{ap, ap₂, sym, ◌∙◌, subst}
 use Rattle.std.proofs.Common.{arith}
 use Rattle.std.proofs.lemmas.Slice.Eq.{bytes_eq-Decides}
 use Rattle.go_tree.specs.File.{Receiver, Func as Function}
-use Rattle.go_tree.specs.ScopeNames.Means.{Environment, means, is_blank, binding}
-use Rattle.go_tree.specs.GoTypes.Answers.{given, only_if, otherwise, unless_missing, is_among}
-use Rattle.go_tree.specs.GoTypes.Types.{FuncType}
-use Rattle.go_tree.specs.GoTypes.Entities.{Entity, function, World, Binds, block_of}
-use Rattle.go_tree.specs.GoTypes.TypeNames.{func_type}
-use Rattle.go_tree.specs.GoTypes.Declarations.{bind_each}
-use Rattle.go_tree.specs.GoTypes.Bodies.{body_binds}
-use Rattle.go_tree.specs.GoTypes.Programs.{constants, variables, a_type_spec, a_func, func_of, Header, Headed, header_names, Program, headed}
-use Rattle.go_tree.specs.GoTypes.Collect.{env_of, collected, valued_world, types_declared, DeclaredTypes, declared_by, func_declared, function_declared, may_be_main, good_entity, package_constants, package_variables}
-use Rattle.go_tree.specs.GoTypes.MethodDeclarations.{DeclaredMethod, MethodName, methods_from, receiver_type}
-use Rattle.go_tree.specs.GoTypes.WellTyped.{is_method, header_ok, method_ok, function_ok, well_typed}
-use Rattle.go_tree.proofs.GoTypes.Agreeing.{from_given, from_only, some_same}
+use Rattle.go_rules.specs.ScopeNames.Means.{Environment, means, is_blank, binding}
+use Rattle.go_rules.specs.GoTypes.Answers.{given, only_if, otherwise, unless_missing, is_among}
+use Rattle.go_rules.specs.GoTypes.Types.{FuncType}
+use Rattle.go_rules.specs.GoTypes.Entities.{Entity, function, World, Binds, block_of}
+use Rattle.go_rules.specs.GoTypes.TypeNames.{func_type}
+use Rattle.go_rules.specs.GoTypes.Declarations.{bind_each}
+use Rattle.go_rules.specs.GoTypes.Bodies.{body_binds}
+use Rattle.go_rules.specs.GoTypes.Programs.{constants, variables, a_type_spec, a_func, func_of, Header, Headed, header_names, Program, headed}
+use Rattle.go_rules.specs.GoTypes.Collect.{env_of, collected, valued_world, types_declared, DeclaredTypes, declared_by, func_declared, function_declared, may_be_main, good_entity, package_constants, package_variables}
+use Rattle.go_rules.specs.GoTypes.MethodDeclarations.{DeclaredMethod, MethodName, methods_from, receiver_type}
+use Rattle.go_rules.specs.GoTypes.WellTyped.{is_method, header_ok, method_ok, function_ok, well_typed}
+use Rattle.go_rules.proofs.GoTypes.Agreeing.{from_given, from_only, some_same}
 use Rattle.typed_in_place.specs.Declared.{FirstWith, this_one, a_later_one, HasNumber}
 use Rattle.typed_in_place.proofs.Headers.{value_phase}
 use Rattle.typed_in_place.proofs.Blocks.{Fits}
@@ -175,7 +175,7 @@ module _ {S : Type 0} (ps : Program S) (hd : Headed S) (g : Function S) (n : Lis
             ap (λ bs. means (block_of bs hd.home) n) (sym (ap (λ w. w.blocks) (valued_settled ps hs)))
             ∙ ap (λ m. means m n) (block_of_package (declared_by ds v) hs hd.home number)
             ∙ (first_means (declared_by ds v) fits_all n hd hs first (λ ms. Some (function q.0))
-            (λ ms. ap (λ o. means (otherwise o (bind_each Rattle.go_tree.specs.GoTypes.Entities.refused (header_names hd.header)) ++ ms) n) declared_before ∙ binding_first (function q.0) ms spelled) (self hd.home)).1;
+            (λ ms. ap (λ o. means (otherwise o (bind_each Rattle.go_rules.specs.GoTypes.Entities.refused (header_names hd.header)) ++ ms) n) declared_before ∙ binding_first (function q.0) ms spelled) (self hd.home)).1;
       }
     where
       paths_none : List (ℕ × ImportPath)

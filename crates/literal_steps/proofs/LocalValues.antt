@@ -4,19 +4,19 @@ use mathlib.Core.Path.{ap, sym, ◌∙◌}
 use Rattle.std.proofs.Common.{arith}
 use Rattle.std.proofs.lemmas.Slice.Eq.{bytes_eq-Decides}
 use Rattle.go_tree.specs.Tree.{NameAt, Param, Sig, Expr, Exprs, Stmt, const_decl, var_decl, empty, eval, step, assign, define, return_, break_, continue_, inner, if_, for_, range_, switch, defer, label, StmtOption, no_stmt, some_stmt, RangeLeft, nothing, assigns, defines, ValueSpecs, no_specs, spec, TypeExpr}
-use Rattle.go_tree.specs.ScopeNames.Means.{Environment, means, is_blank, binding}
-use Rattle.go_tree.specs.ScopeNames.FreeNames.{names_of, sig_names, declared, defined}
-use Rattle.go_tree.specs.GoTypes.Answers.{given, both, only_if, is_among}
-use Rattle.go_tree.specs.GoTypes.Types.{GoType, FuncType}
-use Rattle.go_tree.specs.GoTypes.Defined.{Defined}
-use Rattle.go_tree.specs.GoTypes.Entities.{run, exact, shift, Entity, variable, constant, refused, Env, Binds, meaning, defined_in, extend, in_block, is_declared_here}
-use Rattle.go_tree.specs.GoTypes.Operands.{Operand, Typed, typed, all_typed, settled}
-use Rattle.go_tree.specs.GoTypes.Declarations.{Declared, no_names, bound_names, bind_all, bind_each, constant_entity, variable_entity, defined_by, assigns_to, may_declare, names_once, constants_declared, variables_declared, some_declared, new_constants, new_variables, new_by_define, binds_or, binds_of, and_then, unused_after, Repeated, nothing_to_repeat}
-use Rattle.go_tree.specs.GoTypes.Bodies.{param_binding, param_binds, body_binds, no_values}
-use Rattle.go_tree.specs.GoTypes.Statements.{range_types, range_binds, new_by_range, right_values}
-use Rattle.go_tree.specs.GoTypes.TypeNames.{written_type, func_type}
-use Rattle.go_tree.specs.GoTypes.Typing.{parts, all_parts, places, used_variables, declares, declares_constants, declares_variables, range_declares}
-use Rattle.go_tree.proofs.GoTypes.Agreeing.{from_given, from_both, from_only, some_same}
+use Rattle.go_rules.specs.ScopeNames.Means.{Environment, means, is_blank, binding}
+use Rattle.go_rules.specs.ScopeNames.FreeNames.{names_of, sig_names, declared, defined}
+use Rattle.go_rules.specs.GoTypes.Answers.{given, both, only_if, is_among}
+use Rattle.go_rules.specs.GoTypes.Types.{GoType, FuncType}
+use Rattle.go_rules.specs.GoTypes.Defined.{Defined}
+use Rattle.go_rules.specs.GoTypes.Entities.{run, exact, shift, Entity, variable, constant, refused, Env, Binds, meaning, defined_in, extend, in_block, is_declared_here}
+use Rattle.go_rules.specs.GoTypes.Operands.{Operand, Typed, typed, all_typed, settled}
+use Rattle.go_rules.specs.GoTypes.Declarations.{Declared, no_names, bound_names, bind_all, bind_each, constant_entity, variable_entity, defined_by, assigns_to, may_declare, names_once, constants_declared, variables_declared, some_declared, new_constants, new_variables, new_by_define, binds_or, binds_of, and_then, unused_after, Repeated, nothing_to_repeat}
+use Rattle.go_rules.specs.GoTypes.Bodies.{param_binding, param_binds, body_binds, no_values}
+use Rattle.go_rules.specs.GoTypes.Statements.{range_types, range_binds, new_by_range, right_values}
+use Rattle.go_rules.specs.GoTypes.TypeNames.{written_type, func_type}
+use Rattle.go_rules.specs.GoTypes.Typing.{parts, all_parts, places, used_variables, declares, declares_constants, declares_variables, range_declares}
+use Rattle.go_rules.proofs.GoTypes.Agreeing.{from_given, from_both, from_only, some_same}
 use Rattle.form_meaning.specs.FormInPlace.Bound.{stmt_binds, first_binds, range_left_binds, literal_binds, variable_binds}
 use Rattle.form_meaning.proofs.FormInPlace.Uses.{among_append}
 use Rattle.constant_steps.specs.WrittenLiteral.Within.{Grows}
@@ -150,8 +150,8 @@ values_variables a ns t zeros vs d e = values_declared (given t (by zeros)) d fo
 
 values_some : (r : Option Binds) (d : Declared) → ((bs : Binds) → r ≡ Some bs → all_values bs ≡ true) → some_declared r ≡ Some d → all_values d.binds ≡ true
 values_some r d k e =
-    let q = from_given r (λ bs. only_if (not (Rattle.go_tree.specs.GoTypes.Answers.is_empty bs)) (variables_declared (Some bs))) d e in
-    values_declared (Some q.0) d (λ bs f. k bs (q.1 ∙ f)) (from_only (not (Rattle.go_tree.specs.GoTypes.Answers.is_empty q.0)) (variables_declared (Some q.0)) d q.2)
+    let q = from_given r (λ bs. only_if (not (Rattle.go_rules.specs.GoTypes.Answers.is_empty bs)) (variables_declared (Some bs))) d e in
+    values_declared (Some q.0) d (λ bs f. k bs (q.1 ∙ f)) (from_only (not (Rattle.go_rules.specs.GoTypes.Answers.is_empty q.0)) (variables_declared (Some q.0)) d q.2)
 
 values_define : (a : Env) (ns : List (List ℕ)) (vs : Option (List Typed)) (d : Declared) → new_by_define a ns vs ≡ Some d → all_values d.binds ≡ true
 values_define a ns vs d e =

@@ -5,8 +5,8 @@ use Rattle.std.proofs.Common.{arith}
 use Rattle.go_tree.specs.Tree.{Param, Expr}
 use Rattle.pkg_graph.specs.Package.{Package}
 use Rattle.param_choice.specs.Chosen.{has}
-use Rattle.go_tree.specs.GoTypes.Answers.{given, one_of}
-use Rattle.go_tree.proofs.GoTypes.Agreeing.{from_given, some_same}
+use Rattle.go_rules.specs.GoTypes.Answers.{given, one_of}
+use Rattle.go_rules.proofs.GoTypes.Agreeing.{from_given, some_same}
 use Rattle.run_rules.specs.Surroundings.{Seen, seen_type}
 use Rattle.run_rules.specs.Places.{params_seen}
 use Rattle.run_rules.specs.Programs.{numbered, numbered_from, with_receiver}

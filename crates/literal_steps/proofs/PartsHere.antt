@@ -3,21 +3,21 @@ use Rattle.std.specs.Prelude.{◌≡◌, refl, ℕ, Bool, true, false, ◌&&◌,
 use mathlib.Core.Path.{ap, sym, ◌∙◌, subst}
 use Rattle.std.proofs.Common.{arith}
 use Rattle.go_tree.specs.Tree.{NameAt, Param, TypeExpr, named, pointer, slice_type, map_type, struct_type, Fields, no_fields, field, Expr, ident, int_lit, rune_lit, str_lit, composite, selector, index, slice, call, func_lit, type_operand, unary, binary, star, Elems, no_elems, elem, Value, plain, braced, ValueOption, no_value, some_value, const_decl, eval, defer, Stmts}
-use Rattle.go_tree.specs.ScopeNames.Means.{Environment, means, is_blank}
-use Rattle.go_tree.specs.ScopeNames.FreeNames.{names_of}
+use Rattle.go_rules.specs.ScopeNames.Means.{Environment, means, is_blank}
+use Rattle.go_rules.specs.ScopeNames.FreeNames.{names_of}
 use Rattle.pkg_graph.specs.Package.{Package}
 use Rattle.pkg_graph.specs.Members.{Target, local, imported, member, predeclared}
-use Rattle.go_tree.specs.GoTypes.Answers.{given, both, only_if, is_among}
-use Rattle.go_tree.specs.GoTypes.Types.{GoType, pointer_to, slice_of, map_of, struct_of, GoFields, no_go_fields, go_field}
-use Rattle.go_tree.specs.GoTypes.Defined.{Defined, under, has_keys}
-use Rattle.go_tree.specs.GoTypes.Entities.{Content, is_exported, variable, constant, stand_in, type_name, function, package_name, builtin, nil_name, iota_name, refused, Entity, World, Env, meaning, universe, block_of, exported, package_of, type_of_name, defined_in}
-use Rattle.go_tree.specs.GoTypes.TypeNames.{resolved, resolved_fields, field_before, type_meant, params_meant}
-use Rattle.go_tree.specs.GoTypes.Operands.{Operand, value}
-use Rattle.go_tree.specs.GoTypes.Primary.{fields_in}
-use Rattle.go_tree.specs.GoTypes.Literals.{Element, field_key, of_field, keyed, built_inside, key_type, inner_type, literal_type}
-use Rattle.go_tree.specs.GoTypes.Bodies.{Ctx}
-use Rattle.go_tree.specs.GoTypes.Typing.{parts, elements, element, with_key, stmts}
-use Rattle.go_tree.proofs.GoTypes.Agreeing.{from_given, from_both}
+use Rattle.go_rules.specs.GoTypes.Answers.{given, both, only_if, is_among}
+use Rattle.go_rules.specs.GoTypes.Types.{GoType, pointer_to, slice_of, map_of, struct_of, GoFields, no_go_fields, go_field}
+use Rattle.go_rules.specs.GoTypes.Defined.{Defined, under, has_keys}
+use Rattle.go_rules.specs.GoTypes.Entities.{Content, is_exported, variable, constant, stand_in, type_name, function, package_name, builtin, nil_name, iota_name, refused, Entity, World, Env, meaning, universe, block_of, exported, package_of, type_of_name, defined_in}
+use Rattle.go_rules.specs.GoTypes.TypeNames.{resolved, resolved_fields, field_before, type_meant, params_meant}
+use Rattle.go_rules.specs.GoTypes.Operands.{Operand, value}
+use Rattle.go_rules.specs.GoTypes.Primary.{fields_in}
+use Rattle.go_rules.specs.GoTypes.Literals.{Element, field_key, of_field, keyed, built_inside, key_type, inner_type, literal_type}
+use Rattle.go_rules.specs.GoTypes.Bodies.{Ctx}
+use Rattle.go_rules.specs.GoTypes.Typing.{parts, elements, element, with_key, stmts}
+use Rattle.go_rules.proofs.GoTypes.Agreeing.{from_given, from_both}
 use Rattle.form_meaning.specs.FormInPlace.Places.{Landing, SeenFields, SeenIn, SelectorAlike, is_member, means_function}
 use Rattle.form_meaning.specs.FormInPlace.Bound.{inner_under, literal_under}
 use Rattle.form_meaning.specs.FormInPlace.Written.{WrittenBody}

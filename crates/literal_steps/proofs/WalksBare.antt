@@ -7,18 +7,18 @@ use Rattle.go_tree.specs.Tree.{NameAt, Param, Sig, TypeExpr, Expr, ident, int_li
 use Rattle.go_tree.specs.Bare.{bare_name, bare_type, bare_param, bare_sig, bare_expr, bare_exprs, bare_expr_option, bare_elems, bare_value, bare_value_option, bare_stmt, bare_stmts, bare_stmt_option, bare_block_option, bare_range_left, bare_arms, bare_cases, bare_value_specs}
 use Rattle.std.specs.Option.{option_map}
 use Rattle.go_tree.specs.GoWords.Terminals.{level_of}
-use Rattle.go_tree.specs.GoTypes.Answers.{given, meets}
-use Rattle.go_tree.specs.GoTypes.Types.{GoType}
-use Rattle.go_tree.specs.GoTypes.Defined.{under}
-use Rattle.go_tree.specs.GoTypes.Entities.{defined_in}
-use Rattle.go_tree.specs.GoTypes.TypeNames.{type_meant}
-use Rattle.go_tree.specs.GoTypes.Literals.{is_struct, literal_type}
-use Rattle.go_tree.specs.GoTypes.Typing.{parts, all_parts}
+use Rattle.go_rules.specs.GoTypes.Answers.{given, meets}
+use Rattle.go_rules.specs.GoTypes.Types.{GoType}
+use Rattle.go_rules.specs.GoTypes.Defined.{under}
+use Rattle.go_rules.specs.GoTypes.Entities.{defined_in}
+use Rattle.go_rules.specs.GoTypes.TypeNames.{type_meant}
+use Rattle.go_rules.specs.GoTypes.Literals.{is_struct, literal_type}
+use Rattle.go_rules.specs.GoTypes.Typing.{parts, all_parts}
 use Rattle.run_rules.specs.Surroundings.{Use, whole, stored, updated, called, deferred_call, alone, other, a_slot, Place, Seen, seen, seen_stmt, alike, into_type, head_use, later_uses, arg_uses, unary_use, operand_use, first_operand_use, right_uses, every_use, value_use, return_uses, elem_use, key_use, inner_slot, last_slot, in_slot, callee_place, comma_slot, elem_closed, after_stmt, after_first, block, looping, switching, in_heading, at_stmt, plain_slot, ranged, in_literal, repeated_by, in_constant, after_constants, before_repeats, after_variables}
-use Rattle.go_tree.specs.GoTypes.Answers.{otherwise}
+use Rattle.go_rules.specs.GoTypes.Answers.{otherwise}
 use Rattle.run_rules.specs.Places.{type_seen, written_seen, params_seen, sig_seen, old_seen, after_arms, expr_seen, all_seen, option_seen, elems_seen, key_seen, value_seen, stmt_seen, stmts_seen, first_seen, block_seen, left_seen, arms_seen, cases_seen, constants_seen, variables_seen}
-use Rattle.go_tree.specs.GoTypes.Bodies.{labelled}
-use Rattle.go_tree.specs.GoTypes.Declarations.{Repeated, nothing_to_repeat}
+use Rattle.go_rules.specs.GoTypes.Bodies.{labelled}
+use Rattle.go_rules.specs.GoTypes.Declarations.{Repeated, nothing_to_repeat}
 use Rattle.run_rules.specs.Rewriting.{Changes, new_name, new_names, new_label, new_type, new_written, new_params, new_sig, new_expr, new_all, new_option, new_elems, new_key, new_value, new_stmt, new_stmts, new_first, new_block, new_left, new_arms, new_cases, new_constants, new_variables}
 use Rattle.run_rules.specs.Respanned.{name_with, value_with}
 use Rattle.literal_steps.proofs.BareValues.{value-with}

@@ -2,9 +2,9 @@
 -- Declarations and scope; Package block).
 use Rattle.std.specs.Prelude.{◌≡◌, ℕ, List, None}
 use Rattle.go_tree.specs.File.{Func}
-use Rattle.go_tree.specs.ScopeNames.Means.{Environment}
-use Rattle.go_tree.specs.GoTypes.Entities.{Entity}
-use Rattle.go_tree.specs.GoTypes.Programs.{a_func, Headed}
+use Rattle.go_rules.specs.ScopeNames.Means.{Environment}
+use Rattle.go_rules.specs.GoTypes.Entities.{Entity}
+use Rattle.go_rules.specs.GoTypes.Programs.{a_func, Headed}
 use Rattle.typed_in_place.specs.Declared.{FirstWith}
 
 -- The first header with the name n of a package with this number is that of the function g, which has no receiver; its

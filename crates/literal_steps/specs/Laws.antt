@@ -6,16 +6,16 @@ use Rattle.go_tree.specs.declared.spans.Span.{Span}
 use Rattle.go_tree.specs.Tree.{Expr, Stmts}
 use Rattle.go_tree.specs.Bare.{bare_stmts}
 use Rattle.go_tree.specs.File.{Func, func}
-use Rattle.go_tree.specs.ScopeNames.FreeNames.{names_of}
-use Rattle.go_tree.specs.ScopeNames.Means.{Environment, means, is_blank}
+use Rattle.go_rules.specs.ScopeNames.FreeNames.{names_of}
+use Rattle.go_rules.specs.ScopeNames.Means.{Environment, means, is_blank}
 use Rattle.pkg_graph.specs.Package.{Package}
 use Rattle.pkg_graph.specs.Members.{member}
-use Rattle.go_tree.specs.GoTypes.Answers.{is_among}
-use Rattle.go_tree.specs.GoTypes.Types.{GoType}
-use Rattle.go_tree.specs.GoTypes.Entities.{Entity, World}
-use Rattle.go_tree.specs.GoTypes.Bodies.{Ctx}
-use Rattle.go_tree.specs.GoTypes.Programs.{SourceFile, SourcePackage, Program, headed, block_names, file_block}
-use Rattle.go_tree.specs.GoTypes.Typing.{parts, stmts}
+use Rattle.go_rules.specs.GoTypes.Answers.{is_among}
+use Rattle.go_rules.specs.GoTypes.Types.{GoType}
+use Rattle.go_rules.specs.GoTypes.Entities.{Entity, World}
+use Rattle.go_rules.specs.GoTypes.Bodies.{Ctx}
+use Rattle.go_rules.specs.GoTypes.Programs.{SourceFile, SourcePackage, Program, headed, block_names, file_block}
+use Rattle.go_rules.specs.GoTypes.Typing.{parts, stmts}
 use Rattle.go_kernel.specs.Kernel.{FuncName}
 use Rattle.go_kernel.specs.Alike.{MeanSame}
 use Rattle.go_kernel.specs.Laws.{Ranked}

@@ -2,16 +2,16 @@
 -- scope; Qualified identifiers; Composite literals; Expression statements; Defer statements).
 use Rattle.std.specs.Prelude.{◌≡◌, ℕ, Bool, true, false, ◌&&◌, List, [], ◌∷◌, Option, Some, is_some}
 use Rattle.go_tree.specs.Tree.{NameAt, TypeExpr, ident, composite, selector, func_lit, Elems, const_decl, eval, defer}
-use Rattle.go_tree.specs.ScopeNames.Means.{is_blank}
-use Rattle.go_tree.specs.ScopeNames.FreeNames.{names_of}
-use Rattle.go_tree.specs.GoTypes.Answers.{is_among}
-use Rattle.go_tree.specs.GoTypes.Types.{GoType}
-use Rattle.go_tree.specs.GoTypes.Defined.{under}
-use Rattle.go_tree.specs.GoTypes.Entities.{Entity, variable, constant, stand_in, refused, Env, Binds, meaning}
-use Rattle.go_tree.specs.GoTypes.Entities.{defined_in}
-use Rattle.go_tree.specs.GoTypes.TypeNames.{resolved, type_meant, func_type}
-use Rattle.go_tree.specs.GoTypes.Literals.{Element}
-use Rattle.go_tree.specs.GoTypes.Typing.{elements}
+use Rattle.go_rules.specs.ScopeNames.Means.{is_blank}
+use Rattle.go_rules.specs.ScopeNames.FreeNames.{names_of}
+use Rattle.go_rules.specs.GoTypes.Answers.{is_among}
+use Rattle.go_rules.specs.GoTypes.Types.{GoType}
+use Rattle.go_rules.specs.GoTypes.Defined.{under}
+use Rattle.go_rules.specs.GoTypes.Entities.{Entity, variable, constant, stand_in, refused, Env, Binds, meaning}
+use Rattle.go_rules.specs.GoTypes.Entities.{defined_in}
+use Rattle.go_rules.specs.GoTypes.TypeNames.{resolved, type_meant, func_type}
+use Rattle.go_rules.specs.GoTypes.Literals.{Element}
+use Rattle.go_rules.specs.GoTypes.Typing.{elements}
 use Rattle.run_rules.specs.Surroundings.{Place, is_local, Seen, seen, seen_type, seen_stmt}
 use Rattle.constant_steps.specs.WrittenLiteral.Fine.{is_package, is_call}
 

@@ -2,10 +2,10 @@
 --   type T struct { X int }; type M map[int]T
 use Rattle.std.proofs.Common.{◌≡◌, refl, sym, subst, ℕ, zero, suc, true, false, true≢false, List, [], ◌∷◌, Some, None, codes, if◌then◌else◌, Bool, bytes_eq, nat_eq, slice_index_or, arith}
 use Rattle.std.proofs.lemmas.Option.{none-some, same_Some}
-use Rattle.go_tree.specs.declared.const_eval.kinds.Kind.TheVariants.{Int}
-use Rattle.go_tree.specs.ScopeNames.Means.{Environment, means}
-use Rattle.go_tree.specs.GoTypes.Types.{GoType, basic, named_type, map_of, struct_of, no_go_fields, go_field}
-use Rattle.go_tree.specs.GoTypes.Entities.{World, Entity, type_name, type_of_name, block_of}
+use Rattle.go_rules.specs.declared.const_eval.kinds.Kind.TheVariants.{Int}
+use Rattle.go_rules.specs.ScopeNames.Means.{Environment, means}
+use Rattle.go_rules.specs.GoTypes.Types.{GoType, basic, named_type, map_of, struct_of, no_go_fields, go_field}
+use Rattle.go_rules.specs.GoTypes.Entities.{World, Entity, type_name, type_of_name, block_of}
 use Rattle.repeated_parts.specs.declared.literal_types.table.LiteralType.{LiteralType}
 use Rattle.repeated_parts.specs.declared.literal_types.table.LiteralTypes.{LiteralTypes}
 use Rattle.repeated_parts.specs.LiteralTypes.Types.{AreTypes, StandsFor}

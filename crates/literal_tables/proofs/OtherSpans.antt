@@ -3,9 +3,9 @@ use Rattle.std.proofs.Common.{◌≡◌, ◌∙◌, refl, sym, subst, ℕ, false
 use Rattle.go_tree.specs.Tree.{no_exprs, const_decl, var_decl, spec, no_specs}
 use Rattle.go_tree.specs.File.{Decl, values, types, func}
 use Rattle.pkg_graph.specs.Package.{Package}
-use Rattle.go_tree.specs.GoTypes.Entities.{World}
-use Rattle.go_tree.specs.GoTypes.Programs.{Program, Header, constants, variables, a_type_spec, a_func, Headed, headed}
-use Rattle.go_tree.specs.GoTypes.Collect.{aliased_world, typed_world}
+use Rattle.go_rules.specs.GoTypes.Entities.{World}
+use Rattle.go_rules.specs.GoTypes.Programs.{Program, Header, constants, variables, a_type_spec, a_func, Headed, headed}
+use Rattle.go_rules.specs.GoTypes.Collect.{aliased_world, typed_world}
 use Rattle.typed_in_place.specs.BareHeaders.{bare_header, bare_headed}
 use Rattle.typed_in_place.specs.ProgramsAlike.{OneByOne, SameNumbers, DeclareAlike}
 use Rattle.typed_in_place.proofs.OneByOne.{one_by_one}

@@ -1,12 +1,12 @@
 -- A right table stays right where names mean the same types, and these are defined alike.
 use Rattle.std.proofs.Common.{◌≡◌, ◌∙◌, refl, sym, ap, ℕ, List, Option, Some, None}
 use Rattle.std.specs.Prelude.{slice_get}
-use Rattle.go_tree.specs.ScopeNames.Means.{means}
-use Rattle.go_tree.specs.GoTypes.Answers.{given}
-use Rattle.go_tree.specs.GoTypes.Types.{GoType, basic, named_type, pointer_to, slice_of, map_of, struct_of, tuple_of, untyped, untyped_nil, base_of}
-use Rattle.go_tree.specs.GoTypes.Defined.{Defined, under_of, under}
-use Rattle.go_tree.specs.GoTypes.Entities.{Entity, variable, constant, stand_in, type_name, function, package_name, builtin, nil_name, iota_name, refused, World, block_of, type_of_name}
-use Rattle.go_tree.specs.GoTypes.Literals.{is_struct, key_type, inner_type}
+use Rattle.go_rules.specs.ScopeNames.Means.{means}
+use Rattle.go_rules.specs.GoTypes.Answers.{given}
+use Rattle.go_rules.specs.GoTypes.Types.{GoType, basic, named_type, pointer_to, slice_of, map_of, struct_of, tuple_of, untyped, untyped_nil, base_of}
+use Rattle.go_rules.specs.GoTypes.Defined.{Defined, under_of, under}
+use Rattle.go_rules.specs.GoTypes.Entities.{Entity, variable, constant, stand_in, type_name, function, package_name, builtin, nil_name, iota_name, refused, World, block_of, type_of_name}
+use Rattle.go_rules.specs.GoTypes.Literals.{is_struct, key_type, inner_type}
 use Rattle.typed_in_place.specs.SameWorlds.SameWorlds.{SameWorld}
 use Rattle.package_blocks.specs.FuncHeaders.NameRoles.{NameRole, a_type, a_package, another, role_of}
 use Rattle.repeated_parts.specs.declared.literal_types.table.LiteralType.{LiteralType}

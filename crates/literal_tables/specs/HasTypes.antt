@@ -1,9 +1,9 @@
 -- A table of declared types that is right: it has the types that the packages of a program declare, as far as composite
 -- literals go by them (Go specification, Type declarations; Underlying types; Composite literals).
 use Rattle.std.specs.Prelude.{◌≡◌, ℕ, List, Some}
-use Rattle.go_tree.specs.ScopeNames.Means.{means}
-use Rattle.go_tree.specs.GoTypes.Types.{GoType}
-use Rattle.go_tree.specs.GoTypes.Entities.{World, block_of, type_of_name}
+use Rattle.go_rules.specs.ScopeNames.Means.{means}
+use Rattle.go_rules.specs.GoTypes.Types.{GoType}
+use Rattle.go_rules.specs.GoTypes.Entities.{World, block_of, type_of_name}
 use Rattle.repeated_parts.specs.declared.literal_types.table.LiteralTypes.{LiteralTypes}
 use Rattle.repeated_parts.specs.LiteralTypes.Tables.{number_in}
 use Rattle.repeated_parts.specs.LiteralTypes.Types.{AreTypes, StandsFor}

@@ -1,7 +1,7 @@
 -- The laws of right tables of declared types. Each is the contract of a function of this crate (Go specification, Type
 -- declarations; Declarations and scope).
 use Rattle.std.specs.Prelude.{List}
-use Rattle.go_tree.specs.GoTypes.Entities.{World}
+use Rattle.go_rules.specs.GoTypes.Entities.{World}
 use Rattle.typed_in_place.specs.SameWorlds.SameWorlds.{SameWorld}
 use Rattle.package_blocks.specs.FuncHeaders.NameRoles.{SameTypes}
 use Rattle.pkg_graph.specs.Package.{Package}

@@ -3,13 +3,13 @@ use Rattle.std.specs.Prelude.{◌≡◌, refl, ℕ, Bool, true, List, []}
 use mathlib.Core.Path.{ap, sym, ◌∙◌}
 use Rattle.go_tree.specs.declared.spans.Span.{Span}
 use Rattle.go_tree.specs.Tree.{Stmts}
-use Rattle.go_tree.specs.ScopeNames.FreeNames.{free_stmts}
-use Rattle.go_tree.specs.ScopeNames.Identifiers.{identifiers}
-use Rattle.go_tree.specs.GoTypes.Agreement.{In, On}
-use Rattle.go_tree.specs.GoTypes.Answers.{is_among}
-use Rattle.go_tree.specs.GoTypes.Bodies.{Ctx}
-use Rattle.go_tree.specs.GoTypes.Typing.{stmts}
-use Rattle.go_tree.proofs.GoTypes.TypingAlike.{stmts-alike}
+use Rattle.go_rules.specs.ScopeNames.FreeNames.{free_stmts}
+use Rattle.go_rules.specs.ScopeNames.Identifiers.{identifiers}
+use Rattle.go_rules.specs.GoTypes.Agreement.{In, On}
+use Rattle.go_rules.specs.GoTypes.Answers.{is_among}
+use Rattle.go_rules.specs.GoTypes.Bodies.{Ctx}
+use Rattle.go_rules.specs.GoTypes.Typing.{stmts}
+use Rattle.go_rules.proofs.GoTypes.TypingAlike.{stmts-alike}
 use Rattle.pkg_graph.specs.Package.{Package}
 use Rattle.go_translation.specs.Here.{Here}
 use Rattle.go_translation.specs.Packages as translated

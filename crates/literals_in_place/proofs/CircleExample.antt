@@ -1,9 +1,9 @@
 -- A type that holds itself, as in no well-typed program, has another zero value where a further type is defined: so that zero values stay beside further packages asks that these are well typed.
 --   type T struct { f T }; in a further package: type U int
 use Rattle.std.specs.Prelude.{◌≡◌, List, [], ◌∷◌, None, codes}
-use Rattle.go_tree.specs.declared.const_eval.kinds.Kind.TheVariants as kind
-use Rattle.go_tree.specs.GoTypes.Defined.{Defined}
-use Rattle.go_tree.specs.GoTypes.Types.{GoType, basic, named_type, struct_of, no_go_fields, go_field}
+use Rattle.go_rules.specs.declared.const_eval.kinds.Kind.TheVariants as kind
+use Rattle.go_rules.specs.GoTypes.Defined.{Defined}
+use Rattle.go_rules.specs.GoTypes.Types.{GoType, basic, named_type, struct_of, no_go_fields, go_field}
 use Rattle.go_translation.specs.Values.{zero_of}
 
 abbrev circle : GoType

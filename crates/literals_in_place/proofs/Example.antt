@@ -9,12 +9,12 @@ use Rattle.go_tree.specs.declared.exprs.Rest.TheVariants.{Plain}
 use Rattle.go_tree.specs.declared.operators.BinOp.TheVariants.{Add}
 use Rattle.go_tree.specs.Tree.{NameAt, named, Sig, Expr, ident, int_lit, call, func_lit, binary, no_exprs, expr_and, Stmt, eval, assign, return_, Stmts, no_stmts, stmt_and}
 use Rattle.go_tree.specs.File.{Func, Decl, func, File}
-use Rattle.go_tree.proofs.GoTypes.Agreeing.{some_same}
+use Rattle.go_rules.proofs.GoTypes.Agreeing.{some_same}
 use Rattle.pkg_graph.specs.Package.{SourceTree, Package}
 use Rattle.param_choice.specs.Chosen.{has}
 use Rattle.run_rules.specs.ImportRules.Removed.{same_span}
-use Rattle.go_tree.specs.GoTypes.Collect.{collected}
-use Rattle.go_tree.specs.GoTypes.Programs.{a_func, Headed, Program as Sources}
+use Rattle.go_rules.specs.GoTypes.Collect.{collected}
+use Rattle.go_rules.specs.GoTypes.Programs.{a_func, Headed, Program as Sources}
 use Rattle.go_kernel.specs.Kernel.{ImportPath, FuncName, Program}
 use Rattle.go_kernel.specs.Alike.{MeanSame, Below}
 use Rattle.go_translation.specs.Here.{Here}

@@ -6,17 +6,17 @@ use Rattle.go_tree.specs.declared.exprs.Rest.{Rest}
 use Rattle.go_tree.specs.declared.exprs.Rest.TheVariants.{Plain}
 use Rattle.go_tree.specs.declared.spans.Span.{Span}
 use Rattle.go_tree.specs.Tree.{Param, Sig, Expr, ident, call, func_lit, Exprs, Stmts}
-use Rattle.go_tree.specs.ScopeNames.FreeNames.{names_of, sig_names, free_params, free_type}
-use Rattle.go_tree.specs.ScopeNames.Means.{Environment}
-use Rattle.go_tree.specs.GoTypes.Answers.{given, both, meets, is_among, without}
-use Rattle.go_tree.specs.GoTypes.Declarations.{binds_or}
-use Rattle.go_tree.specs.GoTypes.Entities.{Entity, builtin, Env, meaning, defined_in, extend, in_block}
-use Rattle.go_tree.specs.GoTypes.Initial.{means_maker, is_maker, is_constant, sizes_constant}
-use Rattle.go_tree.specs.GoTypes.Operands.{a_function, typed, constant_of, named_operand}
-use Rattle.go_tree.specs.GoTypes.Primary.{call_of, stands_alone, may_be_deferred}
-use Rattle.go_tree.specs.GoTypes.Statements.{body_binds, means_panic, is_panic}
-use Rattle.go_tree.specs.GoTypes.Types.{FuncType}
-use Rattle.go_tree.specs.GoTypes.Typing.{parts, all_parts, used, used_stmts}
+use Rattle.go_rules.specs.ScopeNames.FreeNames.{names_of, sig_names, free_params, free_type}
+use Rattle.go_rules.specs.ScopeNames.Means.{Environment}
+use Rattle.go_rules.specs.GoTypes.Answers.{given, both, meets, is_among, without}
+use Rattle.go_rules.specs.GoTypes.Declarations.{binds_or}
+use Rattle.go_rules.specs.GoTypes.Entities.{Entity, builtin, Env, meaning, defined_in, extend, in_block}
+use Rattle.go_rules.specs.GoTypes.Initial.{means_maker, is_maker, is_constant, sizes_constant}
+use Rattle.go_rules.specs.GoTypes.Operands.{a_function, typed, constant_of, named_operand}
+use Rattle.go_rules.specs.GoTypes.Primary.{call_of, stands_alone, may_be_deferred}
+use Rattle.go_rules.specs.GoTypes.Statements.{body_binds, means_panic, is_panic}
+use Rattle.go_rules.specs.GoTypes.Types.{FuncType}
+use Rattle.go_rules.specs.GoTypes.Typing.{parts, all_parts, used, used_stmts}
 use Rattle.pkg_graph.specs.Package.{Package}
 use Rattle.form_meaning.specs.FormInPlace.Bound.{literal_binds}
 use Rattle.form_meaning.specs.FormInPlace.CalledLiteral.{declared_at}

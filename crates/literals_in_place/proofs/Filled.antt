@@ -3,14 +3,14 @@ use Rattle.std.specs.Prelude.{◌≡◌, refl, ℕ, Bool, true, false, ◌||◌,
 use mathlib.Core.Path.{ap, ap₂, ◌∙◌}
 use Rattle.std.proofs.Common.{arith}
 use Rattle.go_tree.specs.Tree.{NameAt, Param, Sig}
-use Rattle.go_tree.specs.ScopeNames.Means.{binding}
-use Rattle.go_tree.specs.ScopeNames.FreeNames.{sig_names, params_names, name_then}
-use Rattle.go_tree.specs.GoTypes.Answers.{given, both, only_if, distinct_by, is_among}
-use Rattle.go_tree.specs.GoTypes.Declarations.{bound_names, bind_each, binds_or}
-use Rattle.go_tree.specs.GoTypes.Entities.{refused, Env, Binds}
-use Rattle.go_tree.specs.GoTypes.Statements.{body_binds, param_binding, param_binds}
-use Rattle.go_tree.specs.GoTypes.TypeNames.{type_meant, func_type, params_meant}
-use Rattle.go_tree.specs.GoTypes.Types.{GoType, FuncType}
+use Rattle.go_rules.specs.ScopeNames.Means.{binding}
+use Rattle.go_rules.specs.ScopeNames.FreeNames.{sig_names, params_names, name_then}
+use Rattle.go_rules.specs.GoTypes.Answers.{given, both, only_if, distinct_by, is_among}
+use Rattle.go_rules.specs.GoTypes.Declarations.{bound_names, bind_each, binds_or}
+use Rattle.go_rules.specs.GoTypes.Entities.{refused, Env, Binds}
+use Rattle.go_rules.specs.GoTypes.Statements.{body_binds, param_binding, param_binds}
+use Rattle.go_rules.specs.GoTypes.TypeNames.{type_meant, func_type, params_meant}
+use Rattle.go_rules.specs.GoTypes.Types.{GoType, FuncType}
 use Rattle.form_meaning.specs.FormInPlace.Bound.{literal_binds}
 use Rattle.run_rules.specs.Calls.{blank}
 use Rattle.literal_steps.specs.LiteralUse.{filled, filled_sig}

@@ -5,12 +5,12 @@ use mathlib.Core.Path.{ap, sym, ◌∙◌, subst}
 use Rattle.std.proofs.Common.{arith}
 use Rattle.std.proofs.lemmas.Slice.Eq.{bytes_eq-Decides}
 use Rattle.go_tree.specs.File.{Receiver, Func as Function}
-use Rattle.go_tree.specs.GoTypes.Answers.{given}
-use Rattle.go_tree.specs.GoTypes.Collect.{env_of, receiver_type, collected}
-use Rattle.go_tree.specs.GoTypes.Entities.{World}
-use Rattle.go_tree.specs.GoTypes.Programs.{Header, constants, variables, a_type_spec, a_func, Headed, headed_package, headed}
-use Rattle.go_tree.specs.GoTypes.TypeNames.{func_type}
-use Rattle.go_tree.specs.GoTypes.WellTyped.{well_typed}
+use Rattle.go_rules.specs.GoTypes.Answers.{given}
+use Rattle.go_rules.specs.GoTypes.Collect.{env_of, receiver_type, collected}
+use Rattle.go_rules.specs.GoTypes.Entities.{World}
+use Rattle.go_rules.specs.GoTypes.Programs.{Header, constants, variables, a_type_spec, a_func, Headed, headed_package, headed}
+use Rattle.go_rules.specs.GoTypes.TypeNames.{func_type}
+use Rattle.go_rules.specs.GoTypes.WellTyped.{well_typed}
 use Rattle.go_kernel.specs.Kernel.{ImportPath, FuncName, Func, same_func, same_text, same_receiver, declared, no_func}
 use Rattle.go_translation.specs.Calls.{function_named, method_named}
 use Rattle.go_translation.specs.Packages.{Package, PackageCode, sources, paths_in, has_path, has_number, are_distinct, are_linked, are_well_typed, function_code, named_code, called_name, func_code, header_functions, headers_functions, package_code, codes_of, functions_of, program_of}

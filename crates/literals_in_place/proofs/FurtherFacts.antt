@@ -2,18 +2,18 @@
 use Rattle.std.specs.Prelude.{◌≡◌, refl, ℕ, Bool, true, false, ◌&&◌, List, ◌++◌, [], None}
 use mathlib.Core.Path.{ap, sym, ◌∙◌, subst}
 use Rattle.go_tree.specs.declared.spans.Span.{Span}
-use Rattle.go_tree.specs.ScopeNames.Means.{Environment}
+use Rattle.go_rules.specs.ScopeNames.Means.{Environment}
 use Rattle.go_tree.specs.Tree.{Expr, ident, call, no_exprs, expr_and}
-use Rattle.go_tree.specs.GoTypes.Answers.{meets, is_among}
-use Rattle.go_tree.specs.GoTypes.Collect.{collected}
-use Rattle.go_tree.specs.GoTypes.Entities.{Entity, World, Env, meaning, package_of}
-use Rattle.go_tree.specs.GoTypes.Initial.{means_maker, is_initial, is_maker}
-use Rattle.go_tree.specs.GoTypes.Operands.{Operand}
-use Rattle.go_tree.specs.GoTypes.Primary.{stands_alone, may_be_deferred}
-use Rattle.go_tree.specs.GoTypes.Programs.{Program}
-use Rattle.go_tree.specs.GoTypes.Statements.{means_panic, package_before}
-use Rattle.go_tree.specs.GoTypes.Typing.{used_left, is_call}
-use Rattle.go_tree.specs.GoTypes.WellTyped.{well_typed}
+use Rattle.go_rules.specs.GoTypes.Answers.{meets, is_among}
+use Rattle.go_rules.specs.GoTypes.Collect.{collected}
+use Rattle.go_rules.specs.GoTypes.Entities.{Entity, World, Env, meaning, package_of}
+use Rattle.go_rules.specs.GoTypes.Initial.{means_maker, is_initial, is_maker}
+use Rattle.go_rules.specs.GoTypes.Operands.{Operand}
+use Rattle.go_rules.specs.GoTypes.Primary.{stands_alone, may_be_deferred}
+use Rattle.go_rules.specs.GoTypes.Programs.{Program}
+use Rattle.go_rules.specs.GoTypes.Statements.{means_panic, package_before}
+use Rattle.go_rules.specs.GoTypes.Typing.{used_left, is_call}
+use Rattle.go_rules.specs.GoTypes.WellTyped.{well_typed}
 use Rattle.pkg_graph.specs.Package.{Package}
 use Rattle.go_translation.specs.Here.{Here}
 use Rattle.go_translation.specs.Mentions.{Way, Mention, any_mention, mentions}

@@ -4,14 +4,14 @@ use mathlib.Core.Path.{ap, sym, ◌∙◌, subst}
 use Rattle.std.proofs.Common.{arith}
 use Rattle.go_tree.specs.declared.spans.Span.{Span}
 use Rattle.go_tree.specs.File.{Func as Function}
-use Rattle.go_tree.specs.ScopeNames.Means.{Environment}
+use Rattle.go_rules.specs.ScopeNames.Means.{Environment}
 use Rattle.go_tree.specs.Tree.{Expr, Stmts}
-use Rattle.go_tree.specs.GoTypes.Answers.{given, meets, is_among}
-use Rattle.go_tree.specs.GoTypes.Collect.{env_of, collected}
-use Rattle.go_tree.specs.GoTypes.Entities.{Entity, World, Binds, extend, in_block}
-use Rattle.go_tree.specs.GoTypes.Programs.{a_func, Headed, headed_package, headed}
-use Rattle.go_tree.specs.GoTypes.TypeNames.{func_type}
-use Rattle.go_tree.specs.GoTypes.Types.{GoType, FuncType}
+use Rattle.go_rules.specs.GoTypes.Answers.{given, meets, is_among}
+use Rattle.go_rules.specs.GoTypes.Collect.{env_of, collected}
+use Rattle.go_rules.specs.GoTypes.Entities.{Entity, World, Binds, extend, in_block}
+use Rattle.go_rules.specs.GoTypes.Programs.{a_func, Headed, headed_package, headed}
+use Rattle.go_rules.specs.GoTypes.TypeNames.{func_type}
+use Rattle.go_rules.specs.GoTypes.Types.{GoType, FuncType}
 use Rattle.pkg_graph.specs.Package.{Package}
 use Rattle.go_kernel.specs.Alike.{MeanSame, Below, Calls}
 use Rattle.go_kernel.specs.Kernel.{ImportPath, FuncName, Func, Program as Code, Term, Let, Alone, Call, Defer, DeferLit, code}

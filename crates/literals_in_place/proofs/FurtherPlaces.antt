@@ -3,8 +3,8 @@
 use Rattle.std.specs.Prelude.{◌≡◌, ℕ, List, [], ◌++◌}
 use mathlib.Core.Path.{sym, ◌∙◌, subst}
 use Rattle.go_tree.specs.Tree.{Sig, func_lit, Expr, Exprs, Elems, Value, ExprOption, some_expr, Stmt, const_decl, var_decl, empty, eval, step, assign, define, return_, break_, continue_, inner, if_, for_, range_, switch, defer, label, Stmts, StmtOption, no_stmt, some_stmt, BlockOption, RangeLeft, Arms, Cases, ValueSpecs, no_specs, spec}
-use Rattle.go_tree.specs.GoTypes.Entities.{Env, Binds, extend, in_block}
-use Rattle.go_tree.specs.GoTypes.Types.{FuncType}
+use Rattle.go_rules.specs.GoTypes.Entities.{Env, Binds, extend, in_block}
+use Rattle.go_rules.specs.GoTypes.Types.{FuncType}
 use Rattle.go_kernel.specs.Kernel.{ImportPath}
 use Rattle.go_translation.specs.Facts.{binds_after, binds_first, literal_names, following, after}
 use Rattle.go_translation.specs.Here.{Here, in_inner, declaring, at_body}

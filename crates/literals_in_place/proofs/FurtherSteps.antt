@@ -3,10 +3,10 @@ use Rattle.std.specs.Prelude.{◌≡◌, refl, ℕ, Bool, true, false, not, ◌&
 use Rattle.std.specs.List.{list_any, list_all}
 use mathlib.Core.Path.{ap, ap₂, sym, ◌∙◌}
 use Rattle.go_tree.specs.Tree.{Stmts}
-use Rattle.go_tree.specs.GoTypes.Collect.{collected}
-use Rattle.go_tree.specs.GoTypes.Entities.{World}
-use Rattle.go_tree.specs.GoTypes.Programs.{Import, SourceFile, headed}
-use Rattle.go_tree.specs.GoTypes.WellTyped.{well_typed}
+use Rattle.go_rules.specs.GoTypes.Collect.{collected}
+use Rattle.go_rules.specs.GoTypes.Entities.{World}
+use Rattle.go_rules.specs.GoTypes.Programs.{Import, SourceFile, headed}
+use Rattle.go_rules.specs.GoTypes.WellTyped.{well_typed}
 use Rattle.go_kernel.specs.Kernel.{ImportPath, FuncName, same_text}
 use Rattle.go_translation.specs.Here.{Here}
 use Rattle.go_translation.specs.Packages.{Package, sources, paths_in, has_path, has_number, are_distinct, imports_known, are_linked, are_well_typed}

@@ -3,12 +3,12 @@ use Rattle.std.specs.Prelude.{◌≡◌, refl, ℕ, suc, Bool, true, false, not,
 use Rattle.std.specs.List.{list_all}
 use mathlib.Core.Path.{ap, sym, ◌∙◌}
 use Rattle.std.proofs.Common.{arith}
-use Rattle.go_tree.specs.ScopeNames.Means.{Environment, is_blank}
-use Rattle.go_tree.specs.GoTypes.Answers.{one_of, is_among}
-use Rattle.go_tree.specs.GoTypes.Collect.{aliased_world, typed_world, collected}
-use Rattle.go_tree.specs.GoTypes.Entities.{Entity, World}
-use Rattle.go_tree.specs.GoTypes.Programs.{a_func, Header, Import, SourceFile, SourcePackage, Program, Headed, header_names, names_in, all_headers, block_names, file_block, import_sound, is_main, headed_file, headed_files, headed_package, headed}
-use Rattle.go_tree.specs.GoTypes.WellTyped.{refused_unless, body_ok, header_uses, is_used_in, first_import, well_typed}
+use Rattle.go_rules.specs.ScopeNames.Means.{Environment, is_blank}
+use Rattle.go_rules.specs.GoTypes.Answers.{one_of, is_among}
+use Rattle.go_rules.specs.GoTypes.Collect.{aliased_world, typed_world, collected}
+use Rattle.go_rules.specs.GoTypes.Entities.{Entity, World}
+use Rattle.go_rules.specs.GoTypes.Programs.{a_func, Header, Import, SourceFile, SourcePackage, Program, Headed, header_names, names_in, all_headers, block_names, file_block, import_sound, is_main, headed_file, headed_files, headed_package, headed}
+use Rattle.go_rules.specs.GoTypes.WellTyped.{refused_unless, body_ok, header_uses, is_used_in, first_import, well_typed}
 use Rattle.go_tree.specs.File.{Func as Function}
 use Rattle.go_tree.specs.Tree.{Stmts}
 use Rattle.go_kernel.specs.Kernel.{ImportPath, FuncName}

@@ -1,8 +1,8 @@
 -- Well-typed packages have the same zero values beside further packages.
 use Rattle.std.specs.Prelude.{◌≡◌, true, ◌++◌}
-use Rattle.go_tree.specs.GoTypes.Collect.{collected}
-use Rattle.go_tree.specs.GoTypes.Programs.{Program}
-use Rattle.go_tree.specs.GoTypes.WellTyped.{well_typed}
+use Rattle.go_rules.specs.GoTypes.Collect.{collected}
+use Rattle.go_rules.specs.GoTypes.Programs.{Program}
+use Rattle.go_rules.specs.GoTypes.WellTyped.{well_typed}
 use Rattle.imported_typing.specs.Further.{in_order, own_reach}
 use Rattle.imported_typing.proofs.InOrder.{first_import_themselves, later_are_others}
 use Rattle.imported_typing.proofs.WellTypedAlone.{well_typed_alone}

@@ -6,12 +6,12 @@ use Rattle.std.proofs.lemmas.List.Folds.{list_any-append}
 use Rattle.go_tree.specs.declared.exprs.Rest.TheVariants.{Plain}
 use Rattle.go_tree.specs.declared.spans.Span.{Span}
 use Rattle.go_tree.specs.Tree.{Expr, ident, call, func_lit, Sig, Stmts}
-use Rattle.go_tree.specs.ScopeNames.FreeNames.{names_of, sig_names}
-use Rattle.go_tree.specs.ScopeNames.Means.{Environment, means}
-use Rattle.go_tree.specs.GoTypes.Answers.{given, both, is_among}
-use Rattle.go_tree.specs.GoTypes.Declarations.{binds_or}
-use Rattle.go_tree.specs.GoTypes.Entities.{Entity, Env, meaning, extend, in_block}
-use Rattle.go_tree.specs.GoTypes.Statements.{body_binds}
+use Rattle.go_rules.specs.ScopeNames.FreeNames.{names_of, sig_names}
+use Rattle.go_rules.specs.ScopeNames.Means.{Environment, means}
+use Rattle.go_rules.specs.GoTypes.Answers.{given, both, is_among}
+use Rattle.go_rules.specs.GoTypes.Declarations.{binds_or}
+use Rattle.go_rules.specs.GoTypes.Entities.{Entity, Env, meaning, extend, in_block}
+use Rattle.go_rules.specs.GoTypes.Statements.{body_binds}
 use Rattle.pkg_graph.specs.Package.{Package}
 use Rattle.form_meaning.specs.FormInPlace.CalledLiteral.{declared_at}
 use Rattle.form_meaning.proofs.FormInPlace.Call.{params_anywhere}

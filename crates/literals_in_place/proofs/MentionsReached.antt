@@ -2,19 +2,19 @@
 use Rattle.std.specs.Prelude.{◌≡◌, refl, ℕ, ◌&&◌, List, [], ◌++◌, length, Option, if◌then◌else◌, is_some, is_none}
 use mathlib.Core.Path.{ap, ◌∙◌}
 use Rattle.go_tree.specs.Tree.{Expr, ident, int_lit, rune_lit, str_lit, composite, selector, index, slice, call, func_lit, type_operand, unary, binary, star, Exprs, no_exprs, expr_and, ExprOption, no_expr, some_expr, Elems, no_elems, elem, Value, plain, braced, ValueOption, no_value, some_value, Stmt, const_decl, var_decl, empty, eval, step, assign, define, return_, break_, continue_, inner, if_, for_, range_, switch, defer, label, Stmts, no_stmts, stmt_and, StmtOption, no_stmt, some_stmt, BlockOption, no_block, some_block, RangeLeft, nothing, assigns, defines, Arms, no_arms, arm, Cases, no_cases, case, ValueSpecs, no_specs, spec}
-use Rattle.go_tree.specs.ScopeNames.FreeNames.{names_of, sig_names, declared, declared_option, defined}
-use Rattle.go_tree.specs.GoTypes.Answers.{given, meets}
-use Rattle.go_tree.specs.GoTypes.Bodies.{body_binds, no_values}
-use Rattle.go_tree.specs.GoTypes.Declarations.{binds_or, binds_of, new_variables}
-use Rattle.go_tree.specs.GoTypes.Defined.{under}
-use Rattle.go_tree.specs.GoTypes.Entities.{Env, meaning, Binds, extend, in_block}
-use Rattle.go_tree.specs.GoTypes.Literals.{is_struct}
-use Rattle.go_tree.specs.GoTypes.Operands.{Operand, Typed}
-use Rattle.go_tree.specs.GoTypes.Primary.{find_method, field_type}
-use Rattle.go_tree.specs.GoTypes.Statements.{right_values}
-use Rattle.go_tree.specs.GoTypes.TypeNames.{func_type, written_type}
-use Rattle.go_tree.specs.GoTypes.Types.{GoType, base_of, fields_of}
-use Rattle.go_tree.specs.GoTypes.Typing.{parts, all_parts, places, declares, declares_first, range_declares}
+use Rattle.go_rules.specs.ScopeNames.FreeNames.{names_of, sig_names, declared, declared_option, defined}
+use Rattle.go_rules.specs.GoTypes.Answers.{given, meets}
+use Rattle.go_rules.specs.GoTypes.Bodies.{body_binds, no_values}
+use Rattle.go_rules.specs.GoTypes.Declarations.{binds_or, binds_of, new_variables}
+use Rattle.go_rules.specs.GoTypes.Defined.{under}
+use Rattle.go_rules.specs.GoTypes.Entities.{Env, meaning, Binds, extend, in_block}
+use Rattle.go_rules.specs.GoTypes.Literals.{is_struct}
+use Rattle.go_rules.specs.GoTypes.Operands.{Operand, Typed}
+use Rattle.go_rules.specs.GoTypes.Primary.{find_method, field_type}
+use Rattle.go_rules.specs.GoTypes.Statements.{right_values}
+use Rattle.go_rules.specs.GoTypes.TypeNames.{func_type, written_type}
+use Rattle.go_rules.specs.GoTypes.Types.{GoType, base_of, fields_of}
+use Rattle.go_rules.specs.GoTypes.Typing.{parts, all_parts, places, declares, declares_first, range_declares}
 use Rattle.go_translation.specs.Mentions.{Way, Mention, Read, Stored, Addressed, Deferred, variable_mention, callee_way, literal_mentions, takes_address, selected_way, operand_way, unary_way, beyond_names, beyond, stored_again, mentions, mentions_all, mentions_option, mentions_left, mentions_elems, mentions_key, mentions_value, mentions_stmt, mentions_stmts, mentions_first, mentions_block, mentions_range, mentions_arms, mentions_cases, mentions_specs}
 use Rattle.go_translation.specs.Values.{typed_of}
 use Rattle.typed_in_place.specs.SameWorlds.SameWorlds.{at}

@@ -4,16 +4,16 @@ use mathlib.Core.Path.{ap, sym, subst}
 use Rattle.go_tree.specs.declared.exprs.Rest.{Rest}
 use Rattle.go_tree.specs.declared.exprs.Rest.TheVariants.{Plain}
 use Rattle.go_tree.specs.Tree.{NameAt, Sig, TypeExpr, Expr, composite, selector, call, func_lit, Exprs, no_exprs, Elems, elem, Value, some_value, Stmts}
-use Rattle.go_tree.specs.GoTypes.Answers.{given, meets, both as both_of}
-use Rattle.go_tree.specs.GoTypes.Defined.{Defined, under, methods, Method}
-use Rattle.go_tree.specs.GoTypes.Literals.{of_field, keyed, is_struct, field_key, inner_type, key_type, literal_type, built, built_inside}
-use Rattle.go_tree.specs.GoTypes.Entities.{Binds, exported, extend, in_block}
-use Rattle.go_tree.specs.GoTypes.Operands.{Operand, Typed, named_operand, spread}
-use Rattle.go_tree.specs.GoTypes.Primary.{call_of, find_method}
-use Rattle.go_tree.specs.GoTypes.Statements.{body_binds, package_before}
-use Rattle.go_tree.specs.GoTypes.TypeNames.{type_meant, func_type}
-use Rattle.go_tree.specs.GoTypes.Types.{GoType, basic, named_type, pointer_to, slice_of, map_of, struct_of, tuple_of, untyped, untyped_nil, base_of, GoFields, fields_of, FuncType}
-use Rattle.go_tree.specs.GoTypes.Typing.{parts, all_parts, elements, element, with_key}
+use Rattle.go_rules.specs.GoTypes.Answers.{given, meets, both as both_of}
+use Rattle.go_rules.specs.GoTypes.Defined.{Defined, under, methods, Method}
+use Rattle.go_rules.specs.GoTypes.Literals.{of_field, keyed, is_struct, field_key, inner_type, key_type, literal_type, built, built_inside}
+use Rattle.go_rules.specs.GoTypes.Entities.{Binds, exported, extend, in_block}
+use Rattle.go_rules.specs.GoTypes.Operands.{Operand, Typed, named_operand, spread}
+use Rattle.go_rules.specs.GoTypes.Primary.{call_of, find_method}
+use Rattle.go_rules.specs.GoTypes.Statements.{body_binds, package_before}
+use Rattle.go_rules.specs.GoTypes.TypeNames.{type_meant, func_type}
+use Rattle.go_rules.specs.GoTypes.Types.{GoType, basic, named_type, pointer_to, slice_of, map_of, struct_of, tuple_of, untyped, untyped_nil, base_of, GoFields, fields_of, FuncType}
+use Rattle.go_rules.specs.GoTypes.Typing.{parts, all_parts, elements, element, with_key}
 use Rattle.go_kernel.specs.Alike.{both, call as call_alike, defer, defer_lit}
 use Rattle.go_kernel.specs.Kernel.{ImportPath, FuncName, Alloc, Term, Both, Prim, code}
 use Rattle.go_kernel.proofs.AcrossPrograms.{same_self}

@@ -1,14 +1,14 @@
 -- Calls, selectors, composite literals and conversions as terms, in worlds in which the same is found of what is
 -- reached, where packages that are reached have the same import paths.
 use Rattle.std.specs.Prelude.{◌≡◌, ℕ, not, ◌&&◌, ◌||◌, List, [], ◌∷◌, length, Option, Some, None, if◌then◌else◌, is_some}
-use Rattle.go_tree.specs.declared.const_eval.kinds.Kind.TheVariants as kind
-use Rattle.go_tree.specs.GoTypes.Answers.{given}
-use Rattle.go_tree.specs.GoTypes.Types.{GoType, basic, named_type, slice_of, map_of, struct_of, base_of, element_of, map_parts}
-use Rattle.go_tree.specs.GoTypes.Defined.{Method, under, methods}
-use Rattle.go_tree.specs.GoTypes.Entities.{Builtin, Append, Cap, Copy, Delete, Len, Make, New, Panic, Print, Println, Recover}
-use Rattle.go_tree.specs.GoTypes.Operands.{Operand, a_type, a_function, a_builtin, Typed, spread}
-use Rattle.go_tree.specs.GoTypes.Primary.{find_method}
-use Rattle.go_tree.specs.GoTypes.Relations.{is_whole_number}
+use Rattle.go_rules.specs.declared.const_eval.kinds.Kind.TheVariants as kind
+use Rattle.go_rules.specs.GoTypes.Answers.{given}
+use Rattle.go_rules.specs.GoTypes.Types.{GoType, basic, named_type, slice_of, map_of, struct_of, base_of, element_of, map_parts}
+use Rattle.go_rules.specs.GoTypes.Defined.{Method, under, methods}
+use Rattle.go_rules.specs.GoTypes.Entities.{Builtin, Append, Cap, Copy, Delete, Len, Make, New, Panic, Print, Println, Recover}
+use Rattle.go_rules.specs.GoTypes.Operands.{Operand, a_type, a_function, a_builtin, Typed, spread}
+use Rattle.go_rules.specs.GoTypes.Primary.{find_method}
+use Rattle.go_rules.specs.GoTypes.Relations.{is_whole_number}
 use Rattle.go_kernel.specs.Kernel as k
 use Rattle.go_kernel.specs.Kernel.{Name, ImportPath, Convert, BytesOfString, StringOfBytes, StructLit, SliceLit, MakeSlice, MapLit, MakeMap, MapLen, MapDelete, Emit, Fail, Alloc, code, Term, Both, Prim, Let, Alone, Call, Defer, DeferLit}
 use Rattle.go_translation.specs.Values.{nothing, one_value}

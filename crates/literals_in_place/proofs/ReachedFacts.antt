@@ -2,19 +2,19 @@
 use Rattle.std.specs.Prelude.{◌≡◌, ℕ, zero, suc, not, ◌&&◌, List, [], ◌∷◌, ◌++◌, length, Option, Some, None, if◌then◌else◌, is_some, pos}
 use Rattle.go_tree.specs.Tree.{NameAt, TypeExpr, Expr, Exprs, no_exprs, expr_and, ExprOption, no_expr, some_expr, Elems, no_elems, elem, plain, braced, ValueOption, no_value, some_value, Stmt, var_decl, label, StmtOption, RangeLeft, nothing, assigns, defines, ValueSpecs, no_specs, spec}
 use Rattle.go_tree.specs.declared.operators.BinOp.{BinOp}
-use Rattle.go_tree.specs.declared.const_eval.consts.Const.TheVariants.{Whole}
-use Rattle.go_tree.specs.ScopeNames.FreeNames.{names_of, declared, declared_option, defined}
-use Rattle.go_tree.specs.ScopeNames.Means.{is_blank}
-use Rattle.go_tree.specs.GoTypes.Answers.{meets}
-use Rattle.go_tree.specs.GoTypes.Bodies.{no_values}
-use Rattle.go_tree.specs.GoTypes.Declarations.{Declared, bound_names, binds_of}
-use Rattle.go_tree.specs.GoTypes.Defined.{under}
-use Rattle.go_tree.specs.GoTypes.Entities.{run, Entity, variable, constant, stand_in, nil_name, iota_name, type_name, function, package_name, builtin, refused, Env, meaning, exported, is_declared_here, extend, Binds}
-use Rattle.go_tree.specs.GoTypes.Literals.{field_key, key_type, inner_type, literal_type}
-use Rattle.go_tree.specs.GoTypes.Operands.{Typed}
-use Rattle.go_tree.specs.GoTypes.Statements.{is_blank_name, right_values}
-use Rattle.go_tree.specs.GoTypes.Types.{GoType, is_untyped, GoFields, no_go_fields, go_field, fields_of}
-use Rattle.go_tree.specs.GoTypes.Typing.{parts, all_parts, places, range_declares}
+use Rattle.go_rules.specs.declared.const_eval.consts.Const.TheVariants.{Whole}
+use Rattle.go_rules.specs.ScopeNames.FreeNames.{names_of, declared, declared_option, defined}
+use Rattle.go_rules.specs.ScopeNames.Means.{is_blank}
+use Rattle.go_rules.specs.GoTypes.Answers.{meets}
+use Rattle.go_rules.specs.GoTypes.Bodies.{no_values}
+use Rattle.go_rules.specs.GoTypes.Declarations.{Declared, bound_names, binds_of}
+use Rattle.go_rules.specs.GoTypes.Defined.{under}
+use Rattle.go_rules.specs.GoTypes.Entities.{run, Entity, variable, constant, stand_in, nil_name, iota_name, type_name, function, package_name, builtin, refused, Env, meaning, exported, is_declared_here, extend, Binds}
+use Rattle.go_rules.specs.GoTypes.Literals.{field_key, key_type, inner_type, literal_type}
+use Rattle.go_rules.specs.GoTypes.Operands.{Typed}
+use Rattle.go_rules.specs.GoTypes.Statements.{is_blank_name, right_values}
+use Rattle.go_rules.specs.GoTypes.Types.{GoType, is_untyped, GoFields, no_go_fields, go_field, fields_of}
+use Rattle.go_rules.specs.GoTypes.Typing.{parts, all_parts, places, range_declares}
 use Rattle.go_kernel.specs.Kernel.{ImportPath, Nil, Element, ByteAt, Term, temporary, Local, Prim, Let}
 use Rattle.go_translation.specs.Values.{one_value, path_of, as_value, typed_of}
 use Rattle.go_translation.specs.Values as v

@@ -2,11 +2,11 @@
 -- no type goes through more names than there are.
 use Rattle.std.specs.Prelude.{◌≡◌, refl, ℕ, zero, suc, Bool, true, false, List, length, Option, Some, None}
 use mathlib.Core.Path.{ap, ap₂, sym, ◌∙◌}
-use Rattle.go_tree.specs.GoTypes.Answers.{unless_missing}
-use Rattle.go_tree.specs.GoTypes.Types.{GoType, basic, named_type, pointer_to, slice_of, map_of, struct_of, tuple_of, untyped, untyped_nil, GoFields, no_go_fields, go_field}
-use Rattle.go_tree.specs.GoTypes.Defined.{Defined, find_defined, under_of, under}
-use Rattle.go_tree.specs.GoTypes.TypeDeclarations.{is_finite_by, are_finite_by}
-use Rattle.go_tree.proofs.GoTypes.IdenticalLaws.{and_left, and_right}
+use Rattle.go_rules.specs.GoTypes.Answers.{unless_missing}
+use Rattle.go_rules.specs.GoTypes.Types.{GoType, basic, named_type, pointer_to, slice_of, map_of, struct_of, tuple_of, untyped, untyped_nil, GoFields, no_go_fields, go_field}
+use Rattle.go_rules.specs.GoTypes.Defined.{Defined, find_defined, under_of, under}
+use Rattle.go_rules.specs.GoTypes.TypeDeclarations.{is_finite_by, are_finite_by}
+use Rattle.go_rules.proofs.GoTypes.IdenticalLaws.{and_left, and_right}
 use Rattle.go_kernel.specs.Kernel.{Value, Nil, With}
 use Rattle.go_translation.specs.Values.{zero_by, zero_fields, zero_within}
 use Rattle.imported_typing.specs.Reach.{Reach, TypeWithin, FieldsWithin}

@@ -3,14 +3,14 @@
 use Rattle.std.specs.Prelude.{◌≡◌, refl, ℕ, zero, suc, Bool, true, false, ◌&&◌, List, [], ◌∷◌, length, Option, Some, None, if◌then◌else◌, nat_eq, bytes_eq}
 use mathlib.Core.Path.{ap, sym, ◌∙◌, subst}
 use Rattle.std.proofs.Common.{arith}
-use Rattle.go_tree.specs.GoTypes.Answers.{given, meets, unless_missing}
-use Rattle.go_tree.specs.GoTypes.Types.{GoType, basic, named_type, pointer_to, slice_of, map_of, struct_of, tuple_of, untyped, untyped_nil}
-use Rattle.go_tree.specs.GoTypes.Defined.{Defined, find_defined}
-use Rattle.go_tree.specs.GoTypes.Programs.{Headed, Program, headed}
-use Rattle.go_tree.specs.GoTypes.TypeDeclarations.{DeclaredType, DeclaredTypes, declared_as, under_within, underlying, is_finite_by, is_finite_within, is_finite}
-use Rattle.go_tree.specs.GoTypes.MethodDeclarations.{DeclaredMethod, with_methods, methods_on, methods_from}
-use Rattle.go_tree.specs.GoTypes.Collect.{types_declared, valued_world, collected}
-use Rattle.go_tree.specs.GoTypes.WellTyped.{well_typed}
+use Rattle.go_rules.specs.GoTypes.Answers.{given, meets, unless_missing}
+use Rattle.go_rules.specs.GoTypes.Types.{GoType, basic, named_type, pointer_to, slice_of, map_of, struct_of, tuple_of, untyped, untyped_nil}
+use Rattle.go_rules.specs.GoTypes.Defined.{Defined, find_defined}
+use Rattle.go_rules.specs.GoTypes.Programs.{Headed, Program, headed}
+use Rattle.go_rules.specs.GoTypes.TypeDeclarations.{DeclaredType, DeclaredTypes, declared_as, under_within, underlying, is_finite_by, is_finite_within, is_finite}
+use Rattle.go_rules.specs.GoTypes.MethodDeclarations.{DeclaredMethod, with_methods, methods_on, methods_from}
+use Rattle.go_rules.specs.GoTypes.Collect.{types_declared, valued_world, collected}
+use Rattle.go_rules.specs.GoTypes.WellTyped.{well_typed}
 use Rattle.typed_in_place.proofs.Collected.{typed_is, valued_is}
 use Rattle.imported_typing.specs.Reach.{Reach, AllOf}
 use Rattle.imported_typing.proofs.ChainsEnd.{all_finite}

@@ -6,12 +6,12 @@ use Rattle.go_tree.specs.declared.exprs.Rest.{Rest}
 use Rattle.go_tree.specs.Tree.{NameAt, Sig, TypeExpr, Expr, composite, selector, call, func_lit, Exprs}
 use Rattle.go_tree.specs.Tree.{Elems, elem, Value, plain, braced, ValueOption, some_value}
 use Rattle.go_tree.specs.Tree.{Stmts}
-use Rattle.go_tree.specs.GoTypes.Entities.{Binds, extend, in_block}
-use Rattle.go_tree.specs.GoTypes.Literals.{field_key}
-use Rattle.go_tree.specs.GoTypes.Statements.{body_binds}
-use Rattle.go_tree.specs.GoTypes.TypeNames.{func_type}
-use Rattle.go_tree.specs.GoTypes.Types.{FuncType}
-use Rattle.go_tree.specs.GoTypes.Typing.{parts}
+use Rattle.go_rules.specs.GoTypes.Entities.{Binds, extend, in_block}
+use Rattle.go_rules.specs.GoTypes.Literals.{field_key}
+use Rattle.go_rules.specs.GoTypes.Statements.{body_binds}
+use Rattle.go_rules.specs.GoTypes.TypeNames.{func_type}
+use Rattle.go_rules.specs.GoTypes.Types.{FuncType}
+use Rattle.go_rules.specs.GoTypes.Typing.{parts}
 use Rattle.go_translation.specs.Facts.{literal_names}
 use Rattle.go_translation.specs.Here.{Here, at_body}
 use Rattle.go_translation.specs.Mentions.{mentions_stmts}

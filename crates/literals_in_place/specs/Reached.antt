@@ -1,9 +1,9 @@
 -- Places of a translated program in worlds in which the same is found of what is reached (Go specification, Packages;
 -- Import declarations; The zero value; Program execution).
 use Rattle.std.specs.Prelude.{◌≡◌, ℕ, true, List}
-use Rattle.go_tree.specs.GoTypes.Types.{GoType}
-use Rattle.go_tree.specs.GoTypes.Defined.{Defined}
-use Rattle.go_tree.specs.GoTypes.Entities.{World}
+use Rattle.go_rules.specs.GoTypes.Types.{GoType}
+use Rattle.go_rules.specs.GoTypes.Defined.{Defined}
+use Rattle.go_rules.specs.GoTypes.Entities.{World}
 use Rattle.go_kernel.specs.Kernel.{ImportPath}
 use Rattle.go_translation.specs.Here.{Here}
 use Rattle.go_translation.specs.Values.{path_of, zero_of}

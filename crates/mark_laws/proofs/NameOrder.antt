@@ -11,9 +11,9 @@ use Rattle.go_read.specs.SpellsTypes.{Lexemes, SpellsNames, last_name_rule, more
 use Rattle.go_read.specs.Spells.{SpellsDecl, SpellsSpecs, SpellsSpec, single_rule, group_rule, no_specs_rule, last_spec_rule, more_specs_rule, repeated_rule, typed_var_rule, values_rule, typed_values_rule}
 use Rattle.go_read.specs.SpellsFiles.{SpellsTypeSpec, SpellsTypeSpecs, SpellsTop, SpellsTops, SpellsFront, SpellsFile, type_spec_rule, alias_spec_rule, no_type_specs_rule, last_type_spec_rule, more_type_specs_rule, top_const_rule, top_var_rule, top_type_rule, top_type_group_rule, top_func_rule, top_method_rule, no_tops_rule, more_tops_rule, front_rule}
 use Rattle.go_read.proofs.Suffixes.{Suffix, whole, after, type_suffix, sig_suffix, exprs_suffix, block_suffix, decl_suffix, receiver_suffix, imports_suffix}
-use Rattle.go_tree.specs.declared.scope_names.names.Entity.{Entity}
-use Rattle.go_tree.specs.declared.scope_names.names.FileNames.{FileNames}
-use Rattle.go_tree.specs.ScopeNames.Means.{Environment, outermost}
+use Rattle.go_rules.specs.declared.scope_names.names.Entity.{Entity}
+use Rattle.go_rules.specs.declared.scope_names.names.FileNames.{FileNames}
+use Rattle.go_rules.specs.ScopeNames.Means.{Environment, outermost}
 use Rattle.directive_scan.specs.Items.{Item, member_starts, names_items, specs_items, types_items, decl_items, decls_items, items_of, rest_of}
 use Rattle.mark_laws.specs.Ascending.{AscendFrom, none, next, Ascend}
 use Rattle.mark_laws.proofs.AscendLaws.{from_less}

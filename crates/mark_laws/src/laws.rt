@@ -7,7 +7,7 @@ ghost use Rattle.go_tree.specs.declared.tokens.Comment.{Comment};
 ghost use Rattle.go_tree.specs.File.{File};
 ghost use Rattle.go_tree.specs.GoWords.Tokens.{TokensOf};
 ghost use Rattle.go_read.specs.SpellsFiles.{SpellsFile};
-ghost use Rattle.go_tree.specs.declared.scope_names.names.FileNames.{FileNames};
+ghost use Rattle.go_rules.specs.declared.scope_names.names.FileNames.{FileNames};
 ghost use Rattle.directive_scan.specs.Marked.{good_marks, bad_marks};
 ghost use Rattle.mark_laws.specs.Ascending.{Ascend};
 

@@ -3,10 +3,10 @@ use Rattle.std.specs.Prelude.{◌≡◌, refl, ℕ, true, List, [], ◌∷◌, �
 use mathlib.Core.Path.{ap}
 use Rattle.go_tree.specs.File.{Func as Function}
 use Rattle.go_tree.specs.Tree.{Stmts}
-use Rattle.go_tree.specs.GoTypes.Collect.{aliased_world, typed_world, collected}
-use Rattle.go_tree.specs.GoTypes.Entities.{World}
-use Rattle.go_tree.specs.GoTypes.Programs.{a_func, Headed, headed, Program}
-use Rattle.go_tree.specs.GoTypes.WellTyped.{well_typed}
+use Rattle.go_rules.specs.GoTypes.Collect.{aliased_world, typed_world, collected}
+use Rattle.go_rules.specs.GoTypes.Entities.{World}
+use Rattle.go_rules.specs.GoTypes.Programs.{a_func, Headed, headed, Program}
+use Rattle.go_rules.specs.GoTypes.WellTyped.{well_typed}
 use Rattle.go_kernel.specs.Kernel.{ImportPath, FuncName}
 use Rattle.go_translation.specs.Here.{Here}
 use Rattle.go_translation.specs.Packages.{Package, sources, paths_in}

@@ -5,9 +5,9 @@ use Rattle.std.proofs.Common.{arith}
 use Rattle.go_tree.specs.declared.operators.BinOp.TheVariants.{Add, Lt}
 use Rattle.go_tree.specs.Tree.{Expr, some_expr, Stmt, step, for_, no_stmt}
 use Rattle.go_tree.specs.File.{Func}
-use Rattle.go_tree.specs.GoTypes.Programs.{a_func, Headed}
-use Rattle.go_tree.specs.GoTypes.Collect.{collected}
-use Rattle.go_tree.proofs.GoTypes.Trees.{sig, v, int, app, bin, ss, def, ev, func_at, file, pack}
+use Rattle.go_rules.specs.GoTypes.Programs.{a_func, Headed}
+use Rattle.go_rules.specs.GoTypes.Collect.{collected}
+use Rattle.go_rules.proofs.GoTypes.Trees.{sig, v, int, app, bin, ss, def, ev, func_at, file, pack}
 use Rattle.go_kernel.specs.Kernel.{ImportPath, FuncName, Program, Term, code}
 use Rattle.go_translation.specs.Here.{Here}
 use Rattle.go_translation.specs.Packages.{Package, sources, paths_in, codes_of, program_of, freely_shown_by}

@@ -3,11 +3,11 @@ use Rattle.std.specs.Prelude.{◌≡◌, refl, ℕ, Bool, true, false, List, [],
 use mathlib.Core.Path.{ap, ◌∙◌, subst}
 use Rattle.go_tree.specs.File.{Func as Function}
 use Rattle.go_tree.specs.Tree.{Stmts}
-use Rattle.go_tree.specs.ScopeNames.Means.{Environment, is_blank}
-use Rattle.go_tree.specs.GoTypes.Answers.{is_among}
-use Rattle.go_tree.specs.GoTypes.Types.{FuncType}
-use Rattle.go_tree.specs.GoTypes.Entities.{World, Binds, extend, in_block}
-use Rattle.go_tree.specs.GoTypes.Programs.{Headed}
+use Rattle.go_rules.specs.ScopeNames.Means.{Environment, is_blank}
+use Rattle.go_rules.specs.GoTypes.Answers.{is_among}
+use Rattle.go_rules.specs.GoTypes.Types.{FuncType}
+use Rattle.go_rules.specs.GoTypes.Entities.{World, Binds, extend, in_block}
+use Rattle.go_rules.specs.GoTypes.Programs.{Headed}
 use Rattle.go_kernel.specs.Kernel.{ImportPath, FuncName, Slot, Term, Vals, Let, Within, code, in_cells, named_result}
 use Rattle.go_translation.specs.Values.{zeros_of}
 use Rattle.go_translation.specs.Here.{Here, defined_here, Location, cells_in, BodyNames, param_locals, result_locals, result_slots, slots_at, at_body, function_of}

@@ -4,10 +4,10 @@ use mathlib.Core.Path.{ap, ap₂, sym, ◌∙◌}
 use Rattle.std.proofs.Common.{arith}
 use Rattle.std.proofs.lemmas.Slice.Eq.{bytes_eq-Decides}
 use Rattle.go_tree.specs.Tree.{StmtOption, no_stmt, some_stmt}
-use Rattle.go_tree.specs.ScopeNames.Means.{Environment, is_blank}
-use Rattle.go_tree.specs.GoTypes.Answers.{is_among}
-use Rattle.go_tree.specs.GoTypes.Entities.{Entity, variable, Env, Binds}
-use Rattle.go_tree.specs.GoTypes.Statements.{bound_names}
+use Rattle.go_rules.specs.ScopeNames.Means.{Environment, is_blank}
+use Rattle.go_rules.specs.GoTypes.Answers.{is_among}
+use Rattle.go_rules.specs.GoTypes.Entities.{Entity, variable, Env, Binds}
+use Rattle.go_rules.specs.GoTypes.Statements.{bound_names}
 use Rattle.go_kernel.specs.Kernel.{Name, Slot, named_result, result_name}
 use Rattle.go_translation.specs.Facts.{binds_first}
 use Rattle.go_translation.specs.Here.{Location, location_at, entity_location, located, frame_name, located_names, slot_at, named_and, slots_at}

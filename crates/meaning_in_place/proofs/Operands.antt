@@ -2,24 +2,24 @@
 use Rattle.std.specs.Prelude.{◌≡◌, refl, ℕ, Bool, not, ◌&&◌, ◌||◌, List, [], Option, Some, None, if◌then◌else◌}
 use mathlib.Core.Path.{ap, sym, ◌∙◌, subst}
 use Rattle.go_tree.specs.declared.exprs.Rest.{Rest}
-use Rattle.go_tree.specs.declared.const_eval.kinds.Kind.TheVariants as kind
+use Rattle.go_rules.specs.declared.const_eval.kinds.Kind.TheVariants as kind
 use Rattle.go_tree.specs.declared.operators.BinOp.{BinOp}
 use Rattle.go_tree.specs.declared.operators.UnOp.{UnOp}
 use Rattle.go_tree.specs.declared.operators.UnOp.TheVariants as un
 use Rattle.go_tree.specs.Tree.{NameAt, Sig, Expr, selector, index, slice, call, func_lit, unary, binary, star, Exprs, ExprOption, some_expr, Stmts}
-use Rattle.go_tree.specs.ScopeNames.FreeNames.{sig_names}
-use Rattle.go_tree.specs.GoTypes.Answers.{given, both}
-use Rattle.go_tree.specs.GoTypes.Declarations.{binds_or}
-use Rattle.go_tree.specs.GoTypes.Defined.{Defined}
-use Rattle.go_tree.specs.GoTypes.Entities.{Builtin, Append, Cap, Copy, Delete, Len, Make, New, Panic, Print, Println, Recover, exact, Binds, exported, defined_in, extend, in_block, addressable}
-use Rattle.go_tree.specs.GoTypes.Operands.{Operand, value, Typed, typed, with_value, named_operand, named_place, spread}
-use Rattle.go_tree.specs.GoTypes.Operators.{unary_of, binary_of, star_of}
-use Rattle.go_tree.specs.GoTypes.Primary.{selected, selected_place, index_of, index_place, sliced, call_of}
-use Rattle.go_tree.specs.GoTypes.Relations.{is_whole_number}
-use Rattle.go_tree.specs.GoTypes.Statements.{body_binds, package_before}
-use Rattle.go_tree.specs.GoTypes.TypeNames.{func_type}
-use Rattle.go_tree.specs.GoTypes.Types.{GoType, basic, untyped, FuncType}
-use Rattle.go_tree.specs.GoTypes.Typing.{parts, all_parts, bound, place_by}
+use Rattle.go_rules.specs.ScopeNames.FreeNames.{sig_names}
+use Rattle.go_rules.specs.GoTypes.Answers.{given, both}
+use Rattle.go_rules.specs.GoTypes.Declarations.{binds_or}
+use Rattle.go_rules.specs.GoTypes.Defined.{Defined}
+use Rattle.go_rules.specs.GoTypes.Entities.{Builtin, Append, Cap, Copy, Delete, Len, Make, New, Panic, Print, Println, Recover, exact, Binds, exported, defined_in, extend, in_block, addressable}
+use Rattle.go_rules.specs.GoTypes.Operands.{Operand, value, Typed, typed, with_value, named_operand, named_place, spread}
+use Rattle.go_rules.specs.GoTypes.Operators.{unary_of, binary_of, star_of}
+use Rattle.go_rules.specs.GoTypes.Primary.{selected, selected_place, index_of, index_place, sliced, call_of}
+use Rattle.go_rules.specs.GoTypes.Relations.{is_whole_number}
+use Rattle.go_rules.specs.GoTypes.Statements.{body_binds, package_before}
+use Rattle.go_rules.specs.GoTypes.TypeNames.{func_type}
+use Rattle.go_rules.specs.GoTypes.Types.{GoType, basic, untyped, FuncType}
+use Rattle.go_rules.specs.GoTypes.Typing.{parts, all_parts, bound, place_by}
 use Rattle.go_kernel.specs.Alike.{both as both_alike, call as call_alike}
 use Rattle.go_kernel.specs.Kernel as k
 use Rattle.go_kernel.specs.Kernel.{ImportPath, FuncName, Func, MapGet, MapTry, Slicing, Checked, Load, Term, Both, Prim, code}

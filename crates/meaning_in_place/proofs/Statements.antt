@@ -3,18 +3,18 @@
 use Rattle.std.specs.Prelude.{◌≡◌, refl, ℕ, suc, pos, List, [], ◌∷◌, ◌++◌, length, Option, Some, None, if◌then◌else◌}
 use mathlib.Core.Path.{ap, ◌∙◌, subst}
 use Rattle.go_tree.specs.Tree.{NameAt, TypeExpr, Expr, Exprs, no_exprs, expr_and, ExprOption, some_expr, Stmt, var_decl, step, assign, assigns, define, for_, range_, switch, label, Stmts, stmt_and, StmtOption, BlockOption, RangeLeft, Arms, Cases, case, no_specs, spec}
-use Rattle.go_tree.specs.ScopeNames.FreeNames.{names_of, specs_names, defined}
-use Rattle.go_tree.specs.ScopeNames.Means.{Environment}
-use Rattle.go_tree.specs.GoTypes.Answers.{given, both, meets}
-use Rattle.go_tree.specs.GoTypes.Types.{GoType, is_untyped}
-use Rattle.go_tree.specs.declared.const_eval.consts.Const.TheVariants.{Whole}
-use Rattle.go_tree.specs.GoTypes.Entities.{run, Env, Binds, extend, in_block}
-use Rattle.go_tree.specs.GoTypes.TypeNames.{written_type}
-use Rattle.go_tree.specs.GoTypes.Operands.{Operand, Typed}
-use Rattle.go_tree.specs.GoTypes.Jumps.{is_breakable}
-use Rattle.go_tree.specs.GoTypes.Declarations.{Declared, and_then, unused_after}
-use Rattle.go_tree.specs.GoTypes.Statements.{no_values, is_blank_name}
-use Rattle.go_tree.specs.GoTypes.Typing.{parts, all_parts, place, places, binds_of, declares_variables, used_variables, range_declares, new_variables, new_by_define, right_values, step_op}
+use Rattle.go_rules.specs.ScopeNames.FreeNames.{names_of, specs_names, defined}
+use Rattle.go_rules.specs.ScopeNames.Means.{Environment}
+use Rattle.go_rules.specs.GoTypes.Answers.{given, both, meets}
+use Rattle.go_rules.specs.GoTypes.Types.{GoType, is_untyped}
+use Rattle.go_rules.specs.declared.const_eval.consts.Const.TheVariants.{Whole}
+use Rattle.go_rules.specs.GoTypes.Entities.{run, Env, Binds, extend, in_block}
+use Rattle.go_rules.specs.GoTypes.TypeNames.{written_type}
+use Rattle.go_rules.specs.GoTypes.Operands.{Operand, Typed}
+use Rattle.go_rules.specs.GoTypes.Jumps.{is_breakable}
+use Rattle.go_rules.specs.GoTypes.Declarations.{Declared, and_then, unused_after}
+use Rattle.go_rules.specs.GoTypes.Statements.{no_values, is_blank_name}
+use Rattle.go_rules.specs.GoTypes.Typing.{parts, all_parts, place, places, binds_of, declares_variables, used_variables, range_declares, new_variables, new_by_define, right_values, step_op}
 use Rattle.go_kernel.specs.Kernel.{FuncName, Term, Vals, Prim, If, Let, Leave, Catch, in_cells, Name, temporary, return_label, break_label}
 use Rattle.go_translation.specs.Values.{one_value, as_value, typed_of}
 use Rattle.go_translation.specs.Values as v

@@ -9,9 +9,9 @@ use Rattle.go_translation.specs.Statements.{return_term, all_in_frame, loop_term
 use Rattle.meaning_in_place.specs.Standing.{TermStands}
 use Rattle.go_tree.specs.declared.operators.BinOp.{BinOp}
 use Rattle.go_tree.specs.declared.operators.BinOp.TheVariants as bin
-use Rattle.go_tree.specs.GoTypes.Defined.{Defined}
-use Rattle.go_tree.specs.GoTypes.Operands.{Typed}
-use Rattle.go_tree.specs.GoTypes.Types.{GoType}
+use Rattle.go_rules.specs.GoTypes.Defined.{Defined}
+use Rattle.go_rules.specs.GoTypes.Operands.{Typed}
+use Rattle.go_rules.specs.GoTypes.Types.{GoType}
 use Rattle.go_translation.specs.Operators.{operator_term}
 
 module _ {E : Term → Term → Type 0} {C : FuncName → Type 0} where

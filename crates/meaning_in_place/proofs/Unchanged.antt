@@ -2,13 +2,13 @@
 use Rattle.std.specs.Prelude.{◌≡◌, refl, ℕ, suc, not, ◌&&◌, List, [], ◌∷◌, ◌++◌, length, Option, Some, None, if◌then◌else◌}
 use mathlib.Core.Path.{ap, ap₂, ◌∙◌}
 use Rattle.go_tree.specs.Tree.{NameAt, Stmt, const_decl, var_decl, empty, eval, step, assign, define, return_, break_, continue_, inner, if_, for_, range_, switch, defer, label, StmtOption, no_stmt, some_stmt, RangeLeft, nothing, assigns, defines, Cases, no_cases, case, ValueSpecs, no_specs, spec}
-use Rattle.go_tree.specs.ScopeNames.FreeNames.{names_of}
-use Rattle.go_tree.specs.ScopeNames.Means.{Environment, is_blank}
-use Rattle.go_tree.specs.GoTypes.Types.{GoType}
-use Rattle.go_tree.specs.GoTypes.Entities.{Binds, extend, is_declared_here}
-use Rattle.go_tree.specs.GoTypes.TypeNames.{written_type}
-use Rattle.go_tree.specs.GoTypes.Jumps.{is_breakable}
-use Rattle.go_tree.specs.GoTypes.Statements.{no_values}
+use Rattle.go_rules.specs.ScopeNames.FreeNames.{names_of}
+use Rattle.go_rules.specs.ScopeNames.Means.{Environment, is_blank}
+use Rattle.go_rules.specs.GoTypes.Types.{GoType}
+use Rattle.go_rules.specs.GoTypes.Entities.{Binds, extend, is_declared_here}
+use Rattle.go_rules.specs.GoTypes.TypeNames.{written_type}
+use Rattle.go_rules.specs.GoTypes.Jumps.{is_breakable}
+use Rattle.go_rules.specs.GoTypes.Statements.{no_values}
 use Rattle.go_kernel.specs.Kernel.{Name, FuncName, Term, Vals, Let, Catch, in_cells, break_label}
 use Rattle.go_translation.specs.Values as v
 use Rattle.go_translation.specs.Facts.{value_types, spec_binds, define_binds}

@@ -7,11 +7,11 @@ use Rattle.go_tree.specs.declared.operators.BinOp.{BinOp}
 use Rattle.go_tree.specs.declared.operators.UnOp.{UnOp}
 use Rattle.go_tree.specs.Tree.{NameAt, Sig, Expr, selector, index, slice, call, func_lit, unary, binary, star, Exprs}
 use Rattle.go_tree.specs.Tree.{ExprOption, some_expr, Stmts}
-use Rattle.go_tree.specs.GoTypes.Entities.{Binds, extend, in_block}
-use Rattle.go_tree.specs.GoTypes.Statements.{body_binds}
-use Rattle.go_tree.specs.GoTypes.TypeNames.{func_type}
-use Rattle.go_tree.specs.GoTypes.Types.{FuncType}
-use Rattle.go_tree.specs.GoTypes.Typing.{parts}
+use Rattle.go_rules.specs.GoTypes.Entities.{Binds, extend, in_block}
+use Rattle.go_rules.specs.GoTypes.Statements.{body_binds}
+use Rattle.go_rules.specs.GoTypes.TypeNames.{func_type}
+use Rattle.go_rules.specs.GoTypes.Types.{FuncType}
+use Rattle.go_rules.specs.GoTypes.Typing.{parts}
 use Rattle.go_kernel.specs.Kernel.{FuncName, Term}
 use Rattle.go_translation.specs.Facts.{literal_names}
 use Rattle.go_translation.specs.Here.{Here, at_body}

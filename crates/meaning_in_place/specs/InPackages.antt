@@ -3,13 +3,13 @@
 use Rattle.std.specs.Prelude.{◌≡◌, ℕ, Bool, true, List, [], ◌∷◌, ◌++◌, Option, Some, None, if◌then◌else◌}
 use Rattle.go_tree.specs.Tree.{Stmts}
 use Rattle.go_tree.specs.File.{Func as Function}
-use Rattle.go_tree.specs.ScopeNames.Means.{is_blank}
-use Rattle.go_tree.specs.GoTypes.Answers.{is_among}
-use Rattle.go_tree.specs.GoTypes.Types.{FuncType}
-use Rattle.go_tree.specs.GoTypes.Entities.{World}
-use Rattle.go_tree.specs.GoTypes.TypeNames.{func_type}
-use Rattle.go_tree.specs.GoTypes.Programs.{a_func, Headed, headed_package}
-use Rattle.go_tree.specs.GoTypes.Collect.{env_of, collected}
+use Rattle.go_rules.specs.ScopeNames.Means.{is_blank}
+use Rattle.go_rules.specs.GoTypes.Answers.{is_among}
+use Rattle.go_rules.specs.GoTypes.Types.{FuncType}
+use Rattle.go_rules.specs.GoTypes.Entities.{World}
+use Rattle.go_rules.specs.GoTypes.TypeNames.{func_type}
+use Rattle.go_rules.specs.GoTypes.Programs.{a_func, Headed, headed_package}
+use Rattle.go_rules.specs.GoTypes.Collect.{env_of, collected}
 use Rattle.go_kernel.specs.Alike.{MeanSame, Below, Calls}
 use Rattle.go_kernel.specs.Kernel.{ImportPath, FuncName, Program, code}
 use Rattle.go_translation.specs.Here.{Here, BodyNames}

@@ -9,7 +9,7 @@ use Rattle.go_tree.specs.Tree.{NameAt, TypeExpr, Expr, Exprs, expr_and, ExprOpti
 use Rattle.go_tree.specs.Tree.{eval, step, assign, define, return_, inner, if_, for_, range_, switch, defer}
 use Rattle.go_tree.specs.Tree.{label, Stmts, stmt_and, StmtOption, some_stmt, BlockOption, some_block, RangeLeft}
 use Rattle.go_tree.specs.Tree.{assigns, Arms, no_arms, arm, Cases, case, no_specs, spec}
-use Rattle.go_tree.specs.GoTypes.Entities.{in_block}
+use Rattle.go_rules.specs.GoTypes.Entities.{in_block}
 use Rattle.go_kernel.specs.Kernel.{FuncName, Term}
 use Rattle.go_translation.specs.Facts.{following, after}
 use Rattle.go_translation.specs.Here.{Here, in_inner}

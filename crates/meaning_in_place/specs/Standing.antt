@@ -3,11 +3,11 @@
 -- (Go specification, Blocks; Declarations and scope; Variables; Defer statements).
 use Rattle.std.specs.Prelude.{◌≡◌, ℕ, Bool, true, List}
 use Rattle.go_tree.specs.Tree.{Expr, Stmt, var_decl, label, StmtOption, no_stmt, some_stmt, ValueSpecs, no_specs, spec}
-use Rattle.go_tree.specs.GoTypes.Answers.{is_among}
-use Rattle.go_tree.specs.GoTypes.Types.{GoType}
-use Rattle.go_tree.specs.GoTypes.Entities.{Env, Binds, extend}
-use Rattle.go_tree.specs.GoTypes.Statements.{bound_names, package_before, is_blank_name}
-use Rattle.go_tree.specs.GoTypes.Typing as typing
+use Rattle.go_rules.specs.GoTypes.Answers.{is_among}
+use Rattle.go_rules.specs.GoTypes.Types.{GoType}
+use Rattle.go_rules.specs.GoTypes.Entities.{Env, Binds, extend}
+use Rattle.go_rules.specs.GoTypes.Statements.{bound_names, package_before, is_blank_name}
+use Rattle.go_rules.specs.GoTypes.Typing as typing
 use Rattle.go_kernel.specs.Alike.{Same, Calls}
 use Rattle.go_kernel.specs.Kernel.{FuncName, Value, Term}
 use Rattle.go_translation.specs.Facts.{binds_after, spec_binds}

@@ -3,16 +3,16 @@ use Rattle.std.proofs.Common.{◌≡◌, ◌∙◌, ℕ, zero, suc, Bool, true, 
 use Rattle.std.specs.Prelude.{slice_get, if◌then◌else◌}
 use Rattle.go_tree.specs.Tree.{NameAt}
 use Rattle.go_tree.specs.File.{Decl}
-use Rattle.go_tree.specs.declared.scope_names.names.Entity.{Entity}
-use Rattle.go_tree.specs.declared.scope_names.names.Entity.TheVariants.{Local, Import, Package, Universe}
-use Rattle.go_tree.specs.ScopeNames.Means.{Environment, is_blank, or_else, means, binding, numbered}
-use Rattle.go_tree.specs.ScopeNames.Means as universe
+use Rattle.go_rules.specs.declared.scope_names.names.Entity.{Entity}
+use Rattle.go_rules.specs.declared.scope_names.names.Entity.TheVariants.{Local, Import, Package, Universe}
+use Rattle.go_rules.specs.ScopeNames.Means.{Environment, is_blank, or_else, means, binding, numbered}
+use Rattle.go_rules.specs.ScopeNames.Means as universe
 use Rattle.scope_tables.specs.Table.{meaning_in}
 use Rattle.scope_tables.proofs.TableLaws.{first_of}
 use Rattle.pkg_graph.specs.Package.{SourceTree, import_specs}
 use Rattle.pkg_graph.specs.Package as packages
 use Rattle.pkg_graph.specs.Members.{Target, imported, member, predeclared, import_name, block_names, items_from, decls_from, files_from, package_block}
-use Rattle.go_tree.specs.GoTypes.Answers.{given}
+use Rattle.go_rules.specs.GoTypes.Answers.{given}
 use Rattle.run_rules.specs.Surroundings.{Place, is_local}
 use Rattle.run_rules.specs.Programs.{package_number}
 use Rattle.run_rules.specs.Sites.{Where, mark_of, imported_by, members_in, outer, outer_meaning, import_number, qualifier, member_of, name_mark, qualified_mark}

@@ -5,12 +5,12 @@ use Rattle.std.proofs.lemmas.List.{append_assoc, append-nil, map-append}
 use Rattle.go_tree.specs.declared.spans.Span.{Span}
 use Rattle.go_tree.specs.Tree.{NameAt, TypeExpr, named, pointer, slice_type, map_type, struct_type, Expr, ident, int_lit, rune_lit, str_lit, composite, selector, index, slice, call, func_lit, type_operand, unary, binary, star}
 use Rattle.go_tree.specs.File.{File}
-use Rattle.go_tree.specs.ScopeNames.Means.{means, is_blank}
-use Rattle.go_tree.specs.ScopeNames.Scopes.{expr_span}
+use Rattle.go_rules.specs.ScopeNames.Means.{means, is_blank}
+use Rattle.go_rules.specs.ScopeNames.Scopes.{expr_span}
 use Rattle.pkg_graph.specs.Package.{Package}
 use Rattle.pkg_graph.specs.Members.{Target}
-use Rattle.go_tree.specs.GoTypes.Answers.{given}
-use Rattle.go_tree.specs.GoTypes.Entities.{is_declared_here}
+use Rattle.go_rules.specs.GoTypes.Answers.{given}
+use Rattle.go_rules.specs.GoTypes.Entities.{is_declared_here}
 use Rattle.run_rules.specs.Surroundings.{Use, other, stored, Place, Seen, seen, seen_type, seen_stmt, is_old}
 use Rattle.run_rules.specs.Sites.{MarkRef, Where, Part, an_expr, a_type_part, Site, mark_of, not_function, type_span, part_span, named_in, outer, member_of, name_mark, qualified_mark, marked, marked_as, expr_mark, type_mark, site_by, type_sites, site_here, sites_among}
 use Rattle.member_uses.specs.PossibleUses.Candidates.{Candidate, plain_part, key_part}

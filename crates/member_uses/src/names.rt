@@ -5,7 +5,7 @@ ghost use Rattle.go_tree.specs.View.{name_at_of};
 ghost use Rattle.member_uses.specs.Uses.{package_at, import_at, type_package};
 ghost use Rattle.member_uses.specs.Views.{names_in};
 
-use go_tree::scope_names::Entity;
+use go_rules::scope_names::Entity;
 use go_tree::{Name, NameAt};
 use scope_tables::Scopes;
 

@@ -4,7 +4,7 @@ ghost use Rattle.std.specs.Prelude.{◌≡◌, ◌++◌, false, IfOk, OnOk, map}
 ghost use Rattle.go_tree.specs.View.{expr_of, type_of};
 ghost use Rattle.run_rules.specs.Sites.{an_expr, a_type_part};
 ghost use Rattle.member_uses.specs.PossibleUses.Views.{part_of};
-ghost use Rattle.go_tree.specs.GoTypes.Answers.{given};
+ghost use Rattle.go_rules.specs.GoTypes.Answers.{given};
 ghost use Rattle.member_uses.specs.Uses.{import_at as spec_import_at, member_uses, name_alone, part_uses};
 ghost use Rattle.member_uses.specs.Views.{names_in, used_of};
 

@@ -6,16 +6,16 @@ use Rattle.std.proofs.Common.{arith}
 use Rattle.std.proofs.lemmas.Slice.Eq.{bytes_eq-Decides}
 use Rattle.go_tree.specs.declared.spans.Span.{Span}
 use Rattle.go_tree.specs.File.{Receiver, Func}
-use Rattle.go_tree.specs.ScopeNames.Means.{is_blank}
-use Rattle.go_tree.specs.ScopeNames.FreeNames.{name_then, sig_names}
-use Rattle.go_tree.specs.GoTypes.Answers.{given, both, only_if, is_among, and_also}
-use Rattle.go_tree.specs.GoTypes.Types.{GoType, named_type, type_name_of, base_of, fields_of, field_names}
-use Rattle.go_tree.specs.GoTypes.Defined.{Defined, find_defined, declared_methods}
-use Rattle.go_tree.specs.GoTypes.Entities.{World, Env, meaning, type_of_name}
-use Rattle.go_tree.specs.GoTypes.Declarations.{names_once}
-use Rattle.go_tree.specs.GoTypes.Primary.{find_method}
-use Rattle.go_tree.specs.GoTypes.Programs.{Headed, func_of, env_of}
-use Rattle.go_tree.specs.GoTypes.MethodDeclarations.{DeclaredMethod, MethodName, declared_on, fields_under, has_method_name, method_declared, method_header, methods_from, methods_on, receiver_type, with_methods}
+use Rattle.go_rules.specs.ScopeNames.Means.{is_blank}
+use Rattle.go_rules.specs.ScopeNames.FreeNames.{name_then, sig_names}
+use Rattle.go_rules.specs.GoTypes.Answers.{given, both, only_if, is_among, and_also}
+use Rattle.go_rules.specs.GoTypes.Types.{GoType, named_type, type_name_of, base_of, fields_of, field_names}
+use Rattle.go_rules.specs.GoTypes.Defined.{Defined, find_defined, declared_methods}
+use Rattle.go_rules.specs.GoTypes.Entities.{World, Env, meaning, type_of_name}
+use Rattle.go_rules.specs.GoTypes.Declarations.{names_once}
+use Rattle.go_rules.specs.GoTypes.Primary.{find_method}
+use Rattle.go_rules.specs.GoTypes.Programs.{Headed, func_of, env_of}
+use Rattle.go_rules.specs.GoTypes.MethodDeclarations.{DeclaredMethod, MethodName, declared_on, fields_under, has_method_name, method_declared, method_header, methods_from, methods_on, receiver_type, with_methods}
 use Rattle.package_blocks.specs.FuncHeaders.NameRoles.{SameTypes, SameTypesAt}
 use Rattle.package_blocks.proofs.FuncHeaders.SameTypeLaws.{func_same, header_types, same_type}
 use Rattle.method_headers.specs.Methods.{method_type_at, own_type_name, receiver_at}

@@ -3,17 +3,17 @@ use Rattle.std.proofs.Common.{◌≡◌, ◌∙◌, ◌++◌, ℕ, Bool, true, f
 use Rattle.go_tree.specs.declared.spans.Span.{Span}
 use Rattle.go_tree.specs.Tree.{NameAt}
 use Rattle.go_tree.specs.File.{Receiver, Func}
-use Rattle.go_tree.specs.ScopeNames.Means.{binding, is_blank}
-use Rattle.go_tree.specs.ScopeNames.FreeNames.{name_then, params_names, sig_names}
-use Rattle.go_tree.specs.GoTypes.Answers.{both, distinct_by, given, only_if}
-use Rattle.go_tree.specs.GoTypes.Types.{GoType, named_type, pointer_to, FuncType}
-use Rattle.go_tree.specs.GoTypes.Defined.{Method}
-use Rattle.go_tree.specs.GoTypes.Entities.{variable, Env, Binds}
-use Rattle.go_tree.specs.GoTypes.TypeNames.{func_type, params_meant}
-use Rattle.go_tree.specs.GoTypes.Declarations.{bound_names, names_once, not_blank}
-use Rattle.go_tree.specs.GoTypes.Bodies.{body_binds, param_binds}
-use Rattle.go_tree.specs.GoTypes.Programs.{env_of}
-use Rattle.go_tree.specs.GoTypes.MethodDeclarations.{receiver_binds, receiver_type}
+use Rattle.go_rules.specs.ScopeNames.Means.{binding, is_blank}
+use Rattle.go_rules.specs.ScopeNames.FreeNames.{name_then, params_names, sig_names}
+use Rattle.go_rules.specs.GoTypes.Answers.{both, distinct_by, given, only_if}
+use Rattle.go_rules.specs.GoTypes.Types.{GoType, named_type, pointer_to, FuncType}
+use Rattle.go_rules.specs.GoTypes.Defined.{Method}
+use Rattle.go_rules.specs.GoTypes.Entities.{variable, Env, Binds}
+use Rattle.go_rules.specs.GoTypes.TypeNames.{func_type, params_meant}
+use Rattle.go_rules.specs.GoTypes.Declarations.{bound_names, names_once, not_blank}
+use Rattle.go_rules.specs.GoTypes.Bodies.{body_binds, param_binds}
+use Rattle.go_rules.specs.GoTypes.Programs.{env_of}
+use Rattle.go_rules.specs.GoTypes.MethodDeclarations.{receiver_binds, receiver_type}
 use Rattle.package_blocks.proofs.HeaderLemmas.{map_append}
 use Rattle.package_blocks.proofs.FuncHeaders.Signatures.{blank_append, params_bound}
 use Rattle.method_headers.specs.Methods.{method_of, method_type_at}

@@ -4,15 +4,15 @@ use Rattle.std.specs.Prelude.{◌≡◌, ℕ, ◌&&◌, true, List, [], ◌∷�
 use Rattle.std.specs.Prelude.{if◌then◌else◌, nat_eq, bytes_eq, is_some}
 use Rattle.go_tree.specs.declared.spans.Span.{Span}
 use Rattle.go_tree.specs.File.{Receiver, Func}
-use Rattle.go_tree.specs.GoTypes.Answers.{both}
-use Rattle.go_tree.specs.GoTypes.Types.{named_type}
-use Rattle.go_tree.specs.GoTypes.Defined.{Method, find_defined, methods}
-use Rattle.go_tree.specs.GoTypes.Entities.{World}
-use Rattle.go_tree.specs.GoTypes.Primary.{find_method}
-use Rattle.go_tree.specs.GoTypes.Programs.{Headed, env_of}
-use Rattle.go_tree.specs.GoTypes.MethodDeclarations.{DeclaredMethod, MethodName, declared_on, method_declared}
-use Rattle.go_tree.specs.GoTypes.MethodDeclarations.{method_header, methods_from}
-use Rattle.go_tree.specs.GoTypes.Collect.{world_of}
+use Rattle.go_rules.specs.GoTypes.Answers.{both}
+use Rattle.go_rules.specs.GoTypes.Types.{named_type}
+use Rattle.go_rules.specs.GoTypes.Defined.{Method, find_defined, methods}
+use Rattle.go_rules.specs.GoTypes.Entities.{World}
+use Rattle.go_rules.specs.GoTypes.Primary.{find_method}
+use Rattle.go_rules.specs.GoTypes.Programs.{Headed, env_of}
+use Rattle.go_rules.specs.GoTypes.MethodDeclarations.{DeclaredMethod, MethodName, declared_on, method_declared}
+use Rattle.go_rules.specs.GoTypes.MethodDeclarations.{method_header, methods_from}
+use Rattle.go_rules.specs.GoTypes.Collect.{world_of}
 use Rattle.package_blocks.specs.FuncHeaders.NameRoles.{SameTypes}
 use Rattle.method_headers.specs.Methods.{method_of, method_type_at, receiver_at}
 

@@ -2,13 +2,13 @@
 -- specification, Method declarations).
 use Rattle.std.specs.Prelude.{◌≡◌, ℕ, ◌<◌, ◌&&◌, List, length, Option, Some, None, nat_eq, is_none}
 use Rattle.go_tree.specs.File.{Receiver, Func}
-use Rattle.go_tree.specs.ScopeNames.FreeNames.{name_then, sig_names}
-use Rattle.go_tree.specs.GoTypes.Answers.{given, only_if}
-use Rattle.go_tree.specs.GoTypes.Types.{GoType, named_type, type_name_of, base_of, FuncType}
-use Rattle.go_tree.specs.GoTypes.Defined.{Defined, Method, under}
-use Rattle.go_tree.specs.GoTypes.Entities.{Env, meaning, type_of_name, defined_in}
-use Rattle.go_tree.specs.GoTypes.TypeNames.{func_type}
-use Rattle.go_tree.specs.GoTypes.Declarations.{names_once}
+use Rattle.go_rules.specs.ScopeNames.FreeNames.{name_then, sig_names}
+use Rattle.go_rules.specs.GoTypes.Answers.{given, only_if}
+use Rattle.go_rules.specs.GoTypes.Types.{GoType, named_type, type_name_of, base_of, FuncType}
+use Rattle.go_rules.specs.GoTypes.Defined.{Defined, Method, under}
+use Rattle.go_rules.specs.GoTypes.Entities.{Env, meaning, type_of_name, defined_in}
+use Rattle.go_rules.specs.GoTypes.TypeNames.{func_type}
+use Rattle.go_rules.specs.GoTypes.Declarations.{names_once}
 use Rattle.type_table.specs.TypeRelations.Environment.{Environment, env_type}
 use Rattle.type_table.specs.declared.nodes.TypeId.{TypeId}
 

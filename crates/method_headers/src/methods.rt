@@ -1,7 +1,7 @@
 //! The types of methods (Go specification, Method declarations).
 
 ghost use Rattle.std.specs.Prelude.{List, length};
-ghost use Rattle.go_tree.specs.declared.const_eval.consts.Const.{Const};
+ghost use Rattle.go_rules.specs.declared.const_eval.consts.Const.{Const};
 ghost use Rattle.go_tree.specs.FileView.{func_of, receiver_of};
 ghost use Rattle.type_flags.specs.Grown.{AreFlagsSoFar, DefinedBelow};
 ghost use Rattle.type_table.specs.ValueTypes.ValueTypes.{HasValueTypes};

@@ -1,11 +1,11 @@
 //! Receivers (Go specification, Method declarations).
 
 ghost use Rattle.std.specs.Prelude.{◌≡◌, ◌<◌, List, length, nat_eq, is_some, IfSome};
-ghost use Rattle.go_tree.specs.declared.const_eval.consts.Const.{Const};
+ghost use Rattle.go_rules.specs.declared.const_eval.consts.Const.{Const};
 ghost use Rattle.go_tree.specs.FileView.{receiver_of};
-ghost use Rattle.go_tree.specs.GoTypes.Answers.{given, meets};
-ghost use Rattle.go_tree.specs.GoTypes.Entities.{type_of_name};
-ghost use Rattle.go_tree.specs.GoTypes.Types.{base_of, type_name_of};
+ghost use Rattle.go_rules.specs.GoTypes.Answers.{given, meets};
+ghost use Rattle.go_rules.specs.GoTypes.Entities.{type_of_name};
+ghost use Rattle.go_rules.specs.GoTypes.Types.{base_of, type_name_of};
 ghost use Rattle.type_table.specs.TypeRelations.Environment.{defined_types, env_type};
 ghost use Rattle.typed_names.specs.Known.{HasTypes, KnowsTypes};
 ghost use Rattle.typed_names.specs.Meanings.{entity_option};

@@ -3,13 +3,13 @@ use Rattle.std.specs.Prelude.{◌≡◌, refl, ℕ, suc, not, ◌&&◌, ◌||◌
 use Rattle.std.specs.List.{list_any}
 use mathlib.Core.Path.{ap}
 use Rattle.go_tree.specs.declared.spans.Span.{Span}
-use Rattle.go_tree.specs.ScopeNames.Means.{is_blank}
-use Rattle.go_tree.specs.GoTypes.Answers.{meets, is_among, and_also}
-use Rattle.go_tree.specs.GoTypes.Types.{named_type, fields_of, field_names}
-use Rattle.go_tree.specs.GoTypes.Entities.{World}
-use Rattle.go_tree.specs.GoTypes.Programs.{Headed}
-use Rattle.go_tree.specs.GoTypes.MethodDeclarations.{MethodName, declared_on, fields_under, has_method_name}
-use Rattle.go_tree.specs.GoTypes.WellTyped.{is_method, method_ok}
+use Rattle.go_rules.specs.ScopeNames.Means.{is_blank}
+use Rattle.go_rules.specs.GoTypes.Answers.{meets, is_among, and_also}
+use Rattle.go_rules.specs.GoTypes.Types.{named_type, fields_of, field_names}
+use Rattle.go_rules.specs.GoTypes.Entities.{World}
+use Rattle.go_rules.specs.GoTypes.Programs.{Headed}
+use Rattle.go_rules.specs.GoTypes.MethodDeclarations.{MethodName, declared_on, fields_under, has_method_name}
+use Rattle.go_rules.specs.GoTypes.WellTyped.{is_method, method_ok}
 use Rattle.package_blocks.specs.FuncHeaders.NameRoles.{SameTypes}
 use Rattle.package_blocks.proofs.FuncHeaders.MethodsAside.{methods_aside}
 use Rattle.method_headers.proofs.MethodLaws.{headers_by_types}

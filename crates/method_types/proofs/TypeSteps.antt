@@ -4,17 +4,17 @@ use Rattle.std.specs.Prelude.{is_none, slice_get}
 use Rattle.go_tree.specs.declared.spans.Span.{Span}
 use Rattle.go_tree.specs.File.{Receiver, Func}
 use Rattle.go_tree.specs.FileView as tree
-use Rattle.go_tree.specs.declared.const_eval.consts.Const.{Const}
-use Rattle.go_tree.specs.ScopeNames.FreeNames.{name_then, sig_names}
-use Rattle.go_tree.specs.GoTypes.Answers.{given, both, meets, only_if, and_also}
-use Rattle.go_tree.specs.GoTypes.Types.{FuncType, GoType}
-use Rattle.go_tree.specs.GoTypes.Defined as go
-use Rattle.go_tree.specs.GoTypes.Entities.{World}
-use Rattle.go_tree.specs.GoTypes.Declarations.{names_once}
-use Rattle.go_tree.specs.GoTypes.Programs as programs
-use Rattle.go_tree.specs.GoTypes.Programs.{Header, constants, variables, a_type_spec, a_func, Headed, env_of}
-use Rattle.go_tree.specs.GoTypes.MethodDeclarations.{MethodName, declared_on, is_new_method, method_declared, method_header, receiver_type}
-use Rattle.go_tree.specs.GoTypes.WellTyped.{is_method, method_ok}
+use Rattle.go_rules.specs.declared.const_eval.consts.Const.{Const}
+use Rattle.go_rules.specs.ScopeNames.FreeNames.{name_then, sig_names}
+use Rattle.go_rules.specs.GoTypes.Answers.{given, both, meets, only_if, and_also}
+use Rattle.go_rules.specs.GoTypes.Types.{FuncType, GoType}
+use Rattle.go_rules.specs.GoTypes.Defined as go
+use Rattle.go_rules.specs.GoTypes.Entities.{World}
+use Rattle.go_rules.specs.GoTypes.Declarations.{names_once}
+use Rattle.go_rules.specs.GoTypes.Programs as programs
+use Rattle.go_rules.specs.GoTypes.Programs.{Header, constants, variables, a_type_spec, a_func, Headed, env_of}
+use Rattle.go_rules.specs.GoTypes.MethodDeclarations.{MethodName, declared_on, is_new_method, method_declared, method_header, receiver_type}
+use Rattle.go_rules.specs.GoTypes.WellTyped.{is_method, method_ok}
 use Rattle.type_table.specs.TypeRelations.Environment.{Environment}
 use Rattle.type_table.specs.declared.type_relations.methods.Method.{Method}
 use Rattle.type_table.specs.declared.nodes.TypeId.{TypeId}

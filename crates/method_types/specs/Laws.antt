@@ -2,10 +2,10 @@
 -- function of this crate.
 use Rattle.std.specs.Prelude.{◌≡◌, ℕ, List}
 use Rattle.go_tree.specs.declared.spans.Span.{Span}
-use Rattle.go_tree.specs.GoTypes.Entities.{World}
-use Rattle.go_tree.specs.GoTypes.Programs.{Headed}
-use Rattle.go_tree.specs.GoTypes.MethodDeclarations.{MethodName}
-use Rattle.go_tree.specs.GoTypes.Collect.{world_of}
+use Rattle.go_rules.specs.GoTypes.Entities.{World}
+use Rattle.go_rules.specs.GoTypes.Programs.{Headed}
+use Rattle.go_rules.specs.GoTypes.MethodDeclarations.{MethodName}
+use Rattle.go_rules.specs.GoTypes.Collect.{world_of}
 use Rattle.package_blocks.specs.FuncHeaders.NameRoles.{SameTypes}
 use Rattle.method_types.specs.Methods.{refused_methods}
 

@@ -2,12 +2,12 @@
 use Rattle.std.specs.Prelude.{◌≡◌, ℕ, suc, not, ◌&&◌, List, [], ◌∷◌, Option, Some, None}
 use Rattle.std.specs.Prelude.{if◌then◌else◌}
 use Rattle.go_tree.specs.declared.spans.Span.{Span}
-use Rattle.go_tree.specs.GoTypes.Answers.{given, only_if, and_also}
-use Rattle.go_tree.specs.GoTypes.Defined as go
-use Rattle.go_tree.specs.GoTypes.Entities.{World}
-use Rattle.go_tree.specs.GoTypes.Programs.{Headed}
-use Rattle.go_tree.specs.GoTypes.MethodDeclarations.{MethodName, declared_on, is_new_method, method_header}
-use Rattle.go_tree.specs.GoTypes.WellTyped.{is_method, method_ok}
+use Rattle.go_rules.specs.GoTypes.Answers.{given, only_if, and_also}
+use Rattle.go_rules.specs.GoTypes.Defined as go
+use Rattle.go_rules.specs.GoTypes.Entities.{World}
+use Rattle.go_rules.specs.GoTypes.Programs.{Headed}
+use Rattle.go_rules.specs.GoTypes.MethodDeclarations.{MethodName, declared_on, is_new_method, method_header}
+use Rattle.go_rules.specs.GoTypes.WellTyped.{is_method, method_ok}
 use Rattle.type_table.specs.TypeRelations.Environment.{Environment}
 use Rattle.type_table.specs.declared.type_relations.methods.Method.{Method}
 use Rattle.func_types.specs.Answers.{AreTypesOf, func_of}

@@ -2,12 +2,12 @@
 use Rattle.std.specs.Prelude.{◌≡◌, ℕ, zero, suc, Bool, List, [], ◌∷◌, ◌++◌, length, map, drop, Option}
 use Rattle.std.specs.Prelude.{Some, None, is_some}
 use Rattle.go_tree.specs.declared.spans.Span.{Span}
-use Rattle.go_tree.specs.declared.const_eval.consts.Const.{Const}
-use Rattle.go_tree.specs.GoTypes.Answers.{and_also}
-use Rattle.go_tree.specs.GoTypes.Types as go
-use Rattle.go_tree.specs.GoTypes.Entities.{World}
-use Rattle.go_tree.specs.GoTypes.Programs.{Headed}
-use Rattle.go_tree.specs.GoTypes.MethodDeclarations.{MethodName, declared_on}
+use Rattle.go_rules.specs.declared.const_eval.consts.Const.{Const}
+use Rattle.go_rules.specs.GoTypes.Answers.{and_also}
+use Rattle.go_rules.specs.GoTypes.Types as go
+use Rattle.go_rules.specs.GoTypes.Entities.{World}
+use Rattle.go_rules.specs.GoTypes.Programs.{Headed}
+use Rattle.go_rules.specs.GoTypes.MethodDeclarations.{MethodName, declared_on}
 use Rattle.type_table.specs.TypeRelations.Environment.{Environment}
 use Rattle.type_table.specs.declared.type_relations.methods.Method.{Method}
 use Rattle.type_table.specs.declared.nodes.TypeId.{TypeId}

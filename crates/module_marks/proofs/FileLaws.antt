@@ -5,7 +5,7 @@ use Rattle.std.proofs.lemmas.List.{length-map}
 use Rattle.pkg_graph.specs.ModuleFiles.PathLists.{number_of}
 use Rattle.pkg_graph.proofs.ImportOrder.NumberLaws.{number_at}
 use Rattle.go_tree.specs.declared.spans.Span.{Span}
-use Rattle.go_tree.specs.declared.scope_names.names.FileNames.{FileNames}
+use Rattle.go_rules.specs.declared.scope_names.names.FileNames.{FileNames}
 use Rattle.pkg_graph.specs.Package.{SourceTree, Package}
 use Rattle.pkg_graph.specs.Members.{names_of_file}
 use Rattle.directive_scan.specs.Marked.{good_marks, bad_marks}

@@ -8,7 +8,7 @@ use Rattle.indexmap.specs.IndexMap.{insert_entry}
 use Rattle.go_tree.specs.declared.spans.Span.{Span}
 use Rattle.go_tree.specs.Tree.{NameAt}
 use Rattle.go_tree.specs.File.{Decl}
-use Rattle.go_tree.specs.ScopeNames.Means.{or_else}
+use Rattle.go_rules.specs.ScopeNames.Means.{or_else}
 use Rattle.run_rules.specs.ImportRules.Removed.{span_at, same_span}
 use Rattle.pkg_graph.specs.Members.{decl_names}
 use Rattle.run_rules.specs.Programs.{numbered, numbered_from}

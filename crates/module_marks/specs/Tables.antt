@@ -1,7 +1,7 @@
 -- Package blocks by the numbers of their packages, and which of their names are marked.
 use Rattle.std.specs.Prelude.{◌≡◌, ℕ, suc, List, [], ◌∷◌}
 use Rattle.go_tree.specs.declared.spans.Span.{Span}
-use Rattle.go_tree.specs.ScopeNames.Means.{Environment}
+use Rattle.go_rules.specs.ScopeNames.Means.{Environment}
 use Rattle.pkg_graph.specs.Package.{Package}
 use Rattle.pkg_graph.specs.Members.{Target, package_block}
 use Rattle.run_rules.specs.Sites.{MarkRef, is_among_marks}

@@ -11,7 +11,7 @@ ghost use Rattle.module_marks.specs.Views.{mark_ref_of, bad_at_of};
 use crate::spans::declared_spans;
 use directive_scan::{BadMark, Mark, marks};
 use file_names::MarkRef;
-use go_tree::scope_names::FileNames;
+use go_rules::scope_names::FileNames;
 use go_tree::{FileTree, NoMemory, Text};
 use pkg_graph::SourceTree;
 use scanned_files::ScannedFile;

@@ -4,7 +4,7 @@ ghost use Rattle.std.specs.Prelude.{◌≡◌, [], Some, None, is_some, OnOk, If
 ghost use Rattle.std.specs.Option.{option_map};
 ghost use Rattle.go_tree.specs.declared.spans.Span.{Span};
 ghost use Rattle.go_tree.specs.FileView.{decl_of, file_of};
-ghost use Rattle.go_tree.specs.ScopeNames.Means.{or_else};
+ghost use Rattle.go_rules.specs.ScopeNames.Means.{or_else};
 ghost use Rattle.pkg_graph.specs.Members.{decl_names};
 ghost use Rattle.run_rules.specs.ImportRules.Removed.{same_span};
 ghost use Rattle.run_rules.specs.Programs.{numbered};

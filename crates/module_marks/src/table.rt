@@ -3,10 +3,10 @@
 ghost use Rattle.std.specs.Prelude.{◌≡◌, List, [], Some, slice_index_or, map, IfOk};
 ghost use Rattle.std.specs.Option.{option_map};
 ghost use Rattle.go_tree.specs.declared.spans.Span.{Span};
-ghost use Rattle.go_tree.specs.ScopeNames.Means.{means};
+ghost use Rattle.go_rules.specs.ScopeNames.Means.{means};
 ghost use Rattle.pkg_graph.specs.Package as pure;
 ghost use Rattle.pkg_graph.specs.Views.{package_view};
-ghost use Rattle.go_tree.specs.GoTypes.Answers.{given};
+ghost use Rattle.go_rules.specs.GoTypes.Answers.{given};
 ghost use Rattle.run_rules.specs.Sites as sites;
 ghost use Rattle.run_rules.specs.Sites.{mark_of, is_among_marks};
 ghost use Rattle.file_names.specs.Members.{member_of};

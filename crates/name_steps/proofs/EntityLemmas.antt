@@ -1,13 +1,13 @@
 -- What a name means has its types and its constant in the tables.
 use Rattle.std.proofs.Common.{◌≡◌, ◌∙◌, ◌<◌, ◌++◌, ℕ, zero, suc, Bool, true, false, List, [], ◌∷◌, Option, Some, None, refl, sym, ap, subst, IfSome, length, bytes_eq, cond}
-use Rattle.go_tree.specs.declared.const_eval.consts.Const.{Const}
-use Rattle.go_tree.specs.declared.const_eval.consts.Const.TheVariants.{Truth}
-use Rattle.go_tree.specs.ScopeNames.Means.{means}
-use Rattle.go_tree.specs.GoTypes.Types.{GoType}
-use Rattle.go_tree.specs.GoTypes.Entities as go
-use Rattle.go_tree.specs.GoTypes.Entities.{block_of, exported, is_exported, meaning, universe}
-use Rattle.go_tree.specs.ConstEval.Exact.{represents}
-use Rattle.go_tree.specs.GoTypes.Operands.{kind_passes}
+use Rattle.go_rules.specs.declared.const_eval.consts.Const.{Const}
+use Rattle.go_rules.specs.declared.const_eval.consts.Const.TheVariants.{Truth}
+use Rattle.go_rules.specs.ScopeNames.Means.{means}
+use Rattle.go_rules.specs.GoTypes.Types.{GoType}
+use Rattle.go_rules.specs.GoTypes.Entities as go
+use Rattle.go_rules.specs.GoTypes.Entities.{block_of, exported, is_exported, meaning, universe}
+use Rattle.go_rules.specs.ConstEval.Exact.{represents}
+use Rattle.go_rules.specs.GoTypes.Operands.{kind_passes}
 use Rattle.type_table.specs.TypeRelations.Environment.{Environment, defined_types}
 use Rattle.type_table.specs.declared.operand_rules.values.ValueType.{ValueType}
 use Rattle.type_table.specs.declared.operand_rules.values.Content.TheVariants.{Exact}

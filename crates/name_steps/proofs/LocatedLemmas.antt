@@ -1,10 +1,10 @@
 -- Names as operands.
 use Rattle.std.proofs.Common.{◌≡◌, List, Option, Some, refl}
-use Rattle.go_tree.specs.declared.const_eval.consts.Const.{Const}
-use Rattle.go_tree.specs.GoTypes.Entities as go_entity
-use Rattle.go_tree.specs.GoTypes.Entities.{run}
-use Rattle.go_tree.specs.GoTypes.Operands as go
-use Rattle.go_tree.specs.GoTypes.Operands.{value, named_operand, named_place}
+use Rattle.go_rules.specs.declared.const_eval.consts.Const.{Const}
+use Rattle.go_rules.specs.GoTypes.Entities as go_entity
+use Rattle.go_rules.specs.GoTypes.Entities.{run}
+use Rattle.go_rules.specs.GoTypes.Operands as go
+use Rattle.go_rules.specs.GoTypes.Operands.{value, named_operand, named_place}
 use Rattle.type_table.specs.declared.nodes.TypeId.{TypeId}
 use Rattle.type_table.specs.TypeRelations.Environment.{Environment, env_type}
 use Rattle.type_table.specs.declared.operand_rules.constants.ConstId.{ConstId}

@@ -1,7 +1,7 @@
 -- Literals whose spelling is that of their kind (Go specification, Integer literals; Rune literals; String literals).
 use Rattle.std.specs.Prelude.{◌≡◌, ℕ, true, List}
-use Rattle.go_tree.specs.declared.const_eval.kinds.Kind.{Kind}
-use Rattle.go_tree.specs.ConstEval.Literals.{literal_value}
+use Rattle.go_rules.specs.declared.const_eval.kinds.Kind.{Kind}
+use Rattle.go_rules.specs.ConstEval.Literals.{literal_value}
 use Rattle.go_tree.specs.GoLiterals.Literals.{IsLiteral}
 use Rattle.type_table.specs.OperandRules.Folding.{is_literal_kind}
 

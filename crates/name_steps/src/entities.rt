@@ -1,8 +1,8 @@
 //! What an entity is as an operand, and where it stands (Go specification, Operands; Address operators).
 
 ghost use Rattle.std.specs.Prelude.{◌≡◌, IfSome, Option, Some};
-ghost use Rattle.go_tree.specs.GoTypes.Entities as go_entity;
-ghost use Rattle.go_tree.specs.GoTypes.Operands.{named_operand, named_place};
+ghost use Rattle.go_rules.specs.GoTypes.Entities as go_entity;
+ghost use Rattle.go_rules.specs.GoTypes.Operands.{named_operand, named_place};
 ghost use Rattle.typed_names.specs.Meanings.{entity_at, entity_option};
 ghost use Rattle.operand_modes.specs.CheckerTables.Ready.{AreReady, Keeps};
 ghost use Rattle.operand_modes.specs.OperandAnswers.Known.{IsEntity};

@@ -1,13 +1,13 @@
 //! Literals as operands (Go specification, Operands; Constants).
 
-ghost use Rattle.go_tree.specs.ConstEval.Literals.{literal_value};
-ghost use Rattle.go_tree.specs.GoTypes.Entities as go_entity;
-ghost use Rattle.go_tree.specs.GoTypes.Operands.{literal_operand};
+ghost use Rattle.go_rules.specs.ConstEval.Literals.{literal_value};
+ghost use Rattle.go_rules.specs.GoTypes.Entities as go_entity;
+ghost use Rattle.go_rules.specs.GoTypes.Operands.{literal_operand};
 ghost use Rattle.operand_modes.specs.CheckerTables.Ready.{AreReady, Keeps};
 ghost use Rattle.operand_modes.specs.OperandAnswers.Located.{GivesAt};
 ghost use Rattle.name_steps.specs.Spelled.{IsSpelled};
 
-use go_tree::const_eval::Kind;
+use go_rules::const_eval::Kind;
 use operand_modes::checker_tables::Tables;
 use operand_modes::operand_answers::{Located, elsewhere};
 use operand_modes::single;

@@ -1,7 +1,7 @@
 //! What names and qualified names are as operands (Go specification, Operands; Qualified identifiers).
 
-ghost use Rattle.go_tree.specs.GoTypes.Entities.{exported, meaning};
-ghost use Rattle.go_tree.specs.GoTypes.Operands.{named_operand, named_place};
+ghost use Rattle.go_rules.specs.GoTypes.Entities.{exported, meaning};
+ghost use Rattle.go_rules.specs.GoTypes.Operands.{named_operand, named_place};
 ghost use Rattle.typed_names.specs.Scopes.{env_at};
 ghost use Rattle.operand_modes.specs.CheckerTables.Ready.{AreReady, Keeps};
 ghost use Rattle.operand_modes.specs.OperandAnswers.Known.{Stands};

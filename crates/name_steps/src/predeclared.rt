@@ -1,18 +1,18 @@
 //! What predeclared names are as operands (Go specification, Predeclared identifiers; Iota).
 
 ghost use Rattle.std.specs.Prelude.{◌≡◌, Option, Some, true, pos};
-ghost use Rattle.go_tree.specs.ConstEval.Exact.{represents};
-ghost use Rattle.go_tree.specs.GoTypes.Entities as go_entity;
-ghost use Rattle.go_tree.specs.GoTypes.Entities.{exact};
-ghost use Rattle.go_tree.specs.GoTypes.Operands as go;
-ghost use Rattle.go_tree.specs.GoTypes.Operands.{a_type, named_operand, value};
-ghost use Rattle.go_tree.specs.GoTypes.Types.{basic, untyped};
+ghost use Rattle.go_rules.specs.ConstEval.Exact.{represents};
+ghost use Rattle.go_rules.specs.GoTypes.Entities as go_entity;
+ghost use Rattle.go_rules.specs.GoTypes.Entities.{exact};
+ghost use Rattle.go_rules.specs.GoTypes.Operands as go;
+ghost use Rattle.go_rules.specs.GoTypes.Operands.{a_type, named_operand, value};
+ghost use Rattle.go_rules.specs.GoTypes.Types.{basic, untyped};
 ghost use Rattle.type_table.specs.OperandRules.Values.{is_untyped_kind};
 ghost use Rattle.universe_block.specs.Meanings.{entity_of};
 ghost use Rattle.operand_modes.specs.Operands.{GivesOperand};
 ghost use Rattle.operand_modes.specs.CheckerTables.Ready.{AreReady, Keeps};
 
-use go_tree::const_eval::{Const, Kind};
+use go_rules::const_eval::{Const, Kind};
 use operand_modes::checker_tables::Tables;
 use operand_modes::operand_answers::added;
 use operand_modes::{Operand, single};

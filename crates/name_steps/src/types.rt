@@ -2,10 +2,10 @@
 
 ghost use Rattle.std.specs.Prelude.{Some};
 ghost use Rattle.go_tree.specs.View.{type_of};
-ghost use Rattle.go_tree.specs.GoTypes.Answers.{given};
-ghost use Rattle.go_tree.specs.GoTypes.Entities as go_entity;
-ghost use Rattle.go_tree.specs.GoTypes.Operands.{a_type};
-ghost use Rattle.go_tree.specs.GoTypes.TypeNames.{type_meant};
+ghost use Rattle.go_rules.specs.GoTypes.Answers.{given};
+ghost use Rattle.go_rules.specs.GoTypes.Entities as go_entity;
+ghost use Rattle.go_rules.specs.GoTypes.Operands.{a_type};
+ghost use Rattle.go_rules.specs.GoTypes.TypeNames.{type_meant};
 ghost use Rattle.typed_names.specs.Scopes.{env_at};
 ghost use Rattle.operand_modes.specs.CheckerTables.Ready.{AreReady, Keeps};
 ghost use Rattle.operand_modes.specs.OperandAnswers.Known.{Stands};

@@ -1,6 +1,6 @@
 -- Local names as the code keeps them.
 use Rattle.std.proofs.Common.{◌≡◌, ℕ, Bool, true, false, ◌||◌, List, [], ◌∷◌, Option, Some, is_some, if◌then◌else◌, bytes_eq, refl, drop, map, length, suc, zero, ap}
-use Rattle.go_tree.specs.ScopeNames.Means.{means}
+use Rattle.go_rules.specs.ScopeNames.Means.{means}
 use Rattle.typed_names.specs.declared.entities.Entity.{Entity}
 use Rattle.typed_names.specs.Meanings.{Names}
 use Rattle.used_names.specs.Uses.{is_local}

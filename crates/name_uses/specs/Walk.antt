@@ -1,8 +1,8 @@
 -- A walk beside the places of all files, which it leaves as they are (Go specification, Blocks; Declarations and
 -- scope).
 use Rattle.std.specs.Prelude.{[], List, map}
-use Rattle.go_tree.specs.GoTypes.Entities.{Env}
-use Rattle.go_tree.specs.declared.const_eval.consts.Const.{Const}
+use Rattle.go_rules.specs.GoTypes.Entities.{Env}
+use Rattle.go_rules.specs.declared.const_eval.consts.Const.{Const}
 use Rattle.type_table.specs.TypeRelations.Environment.{Environment}
 use Rattle.typed_names.specs.declared.scopes.Scope.{Scope}
 use Rattle.typed_names.specs.Meanings.{Names}

@@ -3,9 +3,9 @@
 ghost use Rattle.std.specs.Prelude.{◌≡◌, [], is_some, IfOk};
 ghost use Rattle.std.specs.Option.{option_map};
 ghost use Rattle.go_tree.specs.View.{fields_of, name_at_of, type_of};
-ghost use Rattle.go_tree.specs.ScopeNames.FreeNames.{named_use};
-ghost use Rattle.go_tree.specs.ScopeNames.Means.{is_blank};
-ghost use Rattle.go_tree.specs.GoTypes.TypeNames.{type_meant};
+ghost use Rattle.go_rules.specs.ScopeNames.FreeNames.{named_use};
+ghost use Rattle.go_rules.specs.ScopeNames.Means.{is_blank};
+ghost use Rattle.go_rules.specs.GoTypes.TypeNames.{type_meant};
 ghost use Rattle.typed_names.specs.Known.{KnowsTypes};
 ghost use Rattle.typed_names.specs.Scopes.{env_at};
 ghost use Rattle.operand_modes.specs.CheckerTables.Ready.{AreReady, Keeps};

@@ -3,7 +3,7 @@
 ghost use Rattle.std.specs.Prelude.{◌≡◌, OnOk, map};
 ghost use Rattle.std.specs.Option.{option_map};
 ghost use Rattle.go_tree.specs.View.{fields_of, name_at_of, param_of, sig_of, type_of};
-ghost use Rattle.go_tree.specs.ScopeNames.FreeNames.{named_use};
+ghost use Rattle.go_rules.specs.ScopeNames.FreeNames.{named_use};
 ghost use Rattle.used_names.specs.Uses.{use_name};
 ghost use Rattle.used_names.specs.Walks.{after_fields, after_params, after_sig, after_type, after_type_option};
 ghost use Rattle.used_names.specs.Walks.{begin_params, begin_sig, declare_all, declare_option};

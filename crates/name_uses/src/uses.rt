@@ -3,7 +3,7 @@
 ghost use Rattle.std.specs.Prelude.{◌≡◌, [], length, is_some, IfOk, OnOk};
 ghost use Rattle.go_tree.specs.FileView.{receiver_of};
 ghost use Rattle.go_tree.specs.View.{type_of};
-ghost use Rattle.go_tree.specs.GoTypes.TypeNames.{type_meant};
+ghost use Rattle.go_rules.specs.GoTypes.TypeNames.{type_meant};
 ghost use Rattle.typed_names.specs.Known.{KnowsTypes};
 ghost use Rattle.typed_names.specs.Scopes.{env_at};
 ghost use Rattle.declared_types.specs.Steps.{KnowsPlaces};

@@ -1,6 +1,6 @@
 -- What the innermost block learns.
 use Rattle.std.proofs.Common.{◌≡◌, ◌∙◌, ℕ, false, List, [], ◌∷◌, ◌++◌, Option, Some, option_to_list, refl, sym, ap, cond}
-use Rattle.go_tree.specs.ScopeNames.Means.{is_blank}
+use Rattle.go_rules.specs.ScopeNames.Means.{is_blank}
 use Rattle.name_walks.specs.declared.walk.OpenBlock.{OpenBlock}
 use Rattle.name_walks.specs.Walk.{Walk, in_last, known_with, learn}
 

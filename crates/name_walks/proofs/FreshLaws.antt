@@ -13,10 +13,10 @@ use Rattle.std.proofs.lemmas.Slice.Eq.{bytes_eq-Decides}
 use Rattle.go_tree.specs.GoWords.Codes.{row_of}
 use Rattle.go_tree.specs.GoWords.Terminals.{Terminal, keywords, spellings}
 use Rattle.go_tree.specs.GoWords.Tokens.Pieces.{is_among, keyword_spellings}
-use Rattle.go_tree.specs.ScopeNames.Fresh.{candidate}
-use Rattle.go_tree.specs.declared.scope_names.names.FileNames.{FileNames}
-use Rattle.go_tree.specs.declared.scope_names.names.Entity.TheVariants.{Import, Package, Universe}
-use Rattle.go_tree.specs.ScopeNames.Means.{means, numbered, is_blank, predeclared, outermost}
+use Rattle.go_rules.specs.ScopeNames.Fresh.{candidate}
+use Rattle.go_rules.specs.declared.scope_names.names.FileNames.{FileNames}
+use Rattle.go_rules.specs.declared.scope_names.names.Entity.TheVariants.{Import, Package, Universe}
+use Rattle.go_rules.specs.ScopeNames.Means.{means, numbered, is_blank, predeclared, outermost}
 use Rattle.name_walks.specs.Reserved.{is_reserved, is_untaken}
 use Rattle.name_walks.proofs.SetLaws.{same_name}
 

@@ -1,5 +1,5 @@
 -- The scopes that a walk has gathered.
-use Rattle.go_tree.specs.ScopeNames.Scopes.{Scope}
+use Rattle.go_rules.specs.ScopeNames.Scopes.{Scope}
 use Rattle.name_walks.specs.declared.walk.LocalScope.{LocalScope}
 
 -- a gathered scope as a value

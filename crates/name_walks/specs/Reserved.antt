@@ -1,7 +1,7 @@
 -- Words that are no new names (Go specification, Keywords; Predeclared identifiers; Package initialization).
 use Rattle.std.specs.Prelude.{ℕ, Bool, not, ◌||◌, List, bytes_eq, codes}
 use Rattle.go_tree.specs.GoWords.Tokens.Pieces.{is_among, keyword_spellings}
-use Rattle.go_tree.specs.ScopeNames.Means.{predeclared}
+use Rattle.go_rules.specs.ScopeNames.Means.{predeclared}
 
 -- a keyword, a predeclared name, or `init`
 unfoldable pub is_reserved : List ℕ → Bool

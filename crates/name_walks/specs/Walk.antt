@@ -5,7 +5,7 @@ use Rattle.std.specs.Prelude.{take, slice_get, option_and_then, ◌-◌, if◌th
 use Rattle.go_tree.specs.declared.spans.Span.{Span}
 use Rattle.go_tree.specs.Tree.{NameAt}
 use Rattle.go_tree.specs.GoWords.Tokens.Pieces.{is_among}
-use Rattle.go_tree.specs.ScopeNames.Means.{is_blank}
+use Rattle.go_rules.specs.ScopeNames.Means.{is_blank}
 use Rattle.name_walks.specs.declared.walk.Wanted.{Wanted}
 use Rattle.name_walks.specs.declared.walk.Wanted.TheVariants.{Identifiers, Binders, Free, Scopes}
 use Rattle.name_walks.specs.declared.walk.Nesting.{Nesting}

@@ -3,12 +3,12 @@
 ghost use Rattle.std.specs.Prelude.{◌≡◌, IfOk, ◌||◌};
 ghost use Rattle.go_tree.specs.GoWords.Tokens.Pieces.{is_among, keyword_spellings};
 ghost use Rattle.name_walks.specs.Reserved.{is_reserved, is_untaken};
-ghost use Rattle.go_tree.specs.ScopeNames.Fresh.{candidate, IsFirst};
-ghost use Rattle.go_tree.specs.ScopeNames.Means.{predeclared};
+ghost use Rattle.go_rules.specs.ScopeNames.Fresh.{candidate, IsFirst};
+ghost use Rattle.go_rules.specs.ScopeNames.Means.{predeclared};
 
 use crate::sets::NameSet;
+use go_rules::scope_names::{FileNames, ImportList, NameList, meaning_outside};
 use go_tree::go_words::keyword;
-use go_tree::scope_names::{FileNames, ImportList, NameList, meaning_outside};
 use go_tree::{Name, NoMemory};
 use itoa::Buffer;
 use std::alloc::Global;

@@ -2,7 +2,7 @@
 
 ghost use Rattle.std.specs.Prelude.{◌≡◌, OnOk, IfOk, option_and_then};
 ghost use Rattle.go_tree.specs.View.{name_at_of};
-ghost use Rattle.go_tree.specs.ScopeNames.Means.{is_blank};
+ghost use Rattle.go_rules.specs.ScopeNames.Means.{is_blank};
 ghost use Rattle.name_walks.specs.Walk.{walk_of, start, finding, mention, used, bind, declare, enter, hold, end_in};
 ghost use Rattle.name_walks.specs.Walk.{innermost, learn, known_with, nesting, leave};
 

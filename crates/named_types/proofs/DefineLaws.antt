@@ -3,13 +3,13 @@ use Rattle.std.specs.Prelude.{◌≡◌, refl, ℕ, zero, suc, ◌<◌, ◌++◌
 use mathlib.Core.Path.{ap, ap₂, sym, ◌∙◌, subst}
 use Rattle.std.proofs.Common.{append_assoc}
 use Rattle.std.proofs.lemmas.List.{append-nil, length-map, map_push}
-use Rattle.go_tree.specs.GoTypes.Types.{GoType}
-use Rattle.go_tree.specs.GoTypes.Defined.{Defined, Method}
-use Rattle.go_tree.specs.GoTypes.Entities.{World}
-use Rattle.go_tree.specs.GoTypes.Programs.{Headed, Program}
-use Rattle.go_tree.specs.GoTypes.Collect.{DeclaredTypes, times, type_round, rounds, aliased_world, types_declared, typed_world}
-use Rattle.go_tree.specs.GoTypes.Table.{TypeNode, basic_node, named_node, pointer_node, slice_node, map_node, struct_node, tuple_node, untyped_node, nil_node, IsTable}
-use Rattle.go_tree.specs.GoTypes.TypeDeclarations.{underlying, under_within}
+use Rattle.go_rules.specs.GoTypes.Types.{GoType}
+use Rattle.go_rules.specs.GoTypes.Defined.{Defined, Method}
+use Rattle.go_rules.specs.GoTypes.Entities.{World}
+use Rattle.go_rules.specs.GoTypes.Programs.{Headed, Program}
+use Rattle.go_rules.specs.GoTypes.Collect.{DeclaredTypes, times, type_round, rounds, aliased_world, types_declared, typed_world}
+use Rattle.go_rules.specs.GoTypes.Table.{TypeNode, basic_node, named_node, pointer_node, slice_node, map_node, struct_node, tuple_node, untyped_node, nil_node, IsTable}
+use Rattle.go_rules.specs.GoTypes.TypeDeclarations.{underlying, under_within}
 use Rattle.type_table.specs.TypesAt.{type_by, type_at}
 use Rattle.type_table.proofs.TypesAtLaws.{get_within, type_at_row}
 use Rattle.type_table.specs.TypeRelations.Environment.{Environment, MethodRow, defined_at, defined_types, env_type, has_methods, home_of, is_named_type, method_at, methods_in, name_of, with_definition}

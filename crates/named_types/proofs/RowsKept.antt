@@ -1,7 +1,7 @@
 -- What is known of types and names stays known where the rows of the table stay.
 use Rattle.std.specs.Prelude.{◌≡◌, ℕ, ◌<◌, true, false, List, [], ◌∷◌, length}
 use mathlib.Core.Path.{sym, subst}
-use Rattle.go_tree.specs.GoTypes.Types.{is_untyped}
+use Rattle.go_rules.specs.GoTypes.Types.{is_untyped}
 use Rattle.type_table.specs.TypesAt.{type_at}
 use Rattle.type_table.specs.TypeRelations.Environment.{Environment, is_named_type}
 use Rattle.type_table.specs.declared.operand_rules.values.ValueType.{ValueType}

@@ -1,7 +1,7 @@
 -- Types that are defined, each by its underlying type (Go specification, Type definitions; Underlying types).
 use Rattle.std.specs.Prelude.{◌≡◌, ℕ, ◌++◌, List, map}
-use Rattle.go_tree.specs.GoTypes.Defined.{Defined}
-use Rattle.go_tree.specs.GoTypes.TypeDeclarations.{underlying}
+use Rattle.go_rules.specs.GoTypes.Defined.{Defined}
+use Rattle.go_rules.specs.GoTypes.TypeDeclarations.{underlying}
 use Rattle.type_table.specs.TypeRelations.Environment.{Environment, defined_types}
 use Rattle.defined_types.specs.declared.declared.DeclaredType.{DeclaredType}
 use Rattle.defined_types.specs.DeclaredTypes.{declared_of}

@@ -2,9 +2,9 @@
 
 ghost use Rattle.std.specs.Prelude.{◌≡◌, ◌<◌, [], List, map, length, true, false, OnErr, OnOk};
 ghost use Rattle.go_tree.specs.declared.spans.Span.{Span};
-ghost use Rattle.go_tree.specs.GoTypes.Programs.{Headed, Program};
-ghost use Rattle.go_tree.specs.GoTypes.Collect as go;
-ghost use Rattle.go_tree.specs.GoTypes.Collect.{typed_world};
+ghost use Rattle.go_rules.specs.GoTypes.Programs.{Headed, Program};
+ghost use Rattle.go_rules.specs.GoTypes.Collect as go;
+ghost use Rattle.go_rules.specs.GoTypes.Collect.{typed_world};
 ghost use Rattle.type_table.specs.TypeRelations.Environment.{defined_types, env_type, has_methods, is_named_type};
 ghost use Rattle.type_table.specs.TypeRelations.Environment.{with_definition};
 ghost use Rattle.typed_names.specs.declared.scopes.Scope.{Scope};

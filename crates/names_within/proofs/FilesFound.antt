@@ -3,9 +3,9 @@ use Rattle.std.proofs.Common.{◌≡◌, List, [], ◌∷◌, Option, Some, None
 use Rattle.go_tree.specs.declared.spans.Span.{Span}
 use Rattle.go_tree.specs.Tree.{NameAt, Expr}
 use Rattle.go_tree.specs.File.{ImportSpec, ImportDecl, TypeSpec, Receiver, Func, Decl, values, types, func, File}
-use Rattle.go_tree.specs.ScopeNames.FreeNames.{free_expr, name_then}
-use Rattle.go_tree.specs.ScopeNames.Identifiers.{name_option, import_specs_identifiers, imports_identifiers, type_specs_identifiers, receiver_identifiers, decl_identifiers, decls_identifiers, identifiers, stmts_identifiers}
-use Rattle.go_tree.specs.ScopeNames.Binders.{receiver_names, func_binders, stmts_binders}
+use Rattle.go_rules.specs.ScopeNames.FreeNames.{free_expr, name_then}
+use Rattle.go_rules.specs.ScopeNames.Identifiers.{name_option, import_specs_identifiers, imports_identifiers, type_specs_identifiers, receiver_identifiers, decl_identifiers, decls_identifiers, identifiers, stmts_identifiers}
+use Rattle.go_rules.specs.ScopeNames.Binders.{receiver_names, func_binders, stmts_binders}
 use Rattle.name_walks.specs.declared.walk.Wanted.TheVariants.{Identifiers, Binders, Free}
 use Rattle.name_walks.specs.Walk.{Walk, start, mention, enter, nesting}
 use Rattle.names_within.specs.TreeWalk.{mention_option, bind_option, begin_sig, after_type, after_sig, after_expr}

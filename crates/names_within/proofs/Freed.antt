@@ -5,7 +5,7 @@ use Rattle.std.proofs.lemmas.List.Folds.{list_any-append}
 use Rattle.go_tree.specs.declared.spans.Span.{Span}
 use Rattle.go_tree.specs.Tree.{NameAt, Param, Sig, RangeLeft, nothing, assigns, defines}
 use Rattle.go_tree.specs.GoWords.Tokens.Pieces.{is_among}
-use Rattle.go_tree.specs.ScopeNames.FreeNames.{unless_declared, names_of, name_then, params_names, sig_names, defined}
+use Rattle.go_rules.specs.ScopeNames.FreeNames.{unless_declared, names_of, name_then, params_names, sig_names, defined}
 use Rattle.name_walks.specs.declared.walk.Wanted.TheVariants.{Free}
 use Rattle.name_walks.specs.Walk.{Walk, finding, mention_in, use_in, bind_in, declare_in, mention, used, bind, declare, hold, learn, nesting, leave}
 use Rattle.names_within.specs.TreeWalk.{mention_option, bind_option, begin, begin_option, bind_all, declare_all, begin_all, hold_all, begin_params, begin_sig, begin_left}

@@ -2,9 +2,9 @@
 use Rattle.std.proofs.Common.{◌≡◌, ℕ, true, false, List, [], ◌∷◌, ◌++◌, Option, Some, None}
 use Rattle.go_tree.specs.declared.spans.Span.{Span}
 use Rattle.go_tree.specs.Tree.{NameAt, TypeExpr, named, pointer, slice_type, map_type, struct_type, Fields, no_fields, field, Param, Sig, Expr, ident, int_lit, rune_lit, str_lit, composite, selector, index, slice, call, func_lit, type_operand, unary, binary, star, Exprs, no_exprs, expr_and, ExprOption, no_expr, some_expr, Elems, no_elems, elem, Value, plain, braced, ValueOption, no_value, some_value, Stmt, const_decl, var_decl, empty, eval, step, assign, define, return_, break_, continue_, inner, if_, for_, range_, switch, defer, label, Stmts, no_stmts, stmt_and, StmtOption, no_stmt, some_stmt, BlockOption, no_block, some_block, RangeLeft, nothing, assigns, defines, Arms, no_arms, arm, Cases, no_cases, case, ValueSpecs, no_specs, spec}
-use Rattle.go_tree.specs.ScopeNames.Scopes.{expr_span}
-use Rattle.go_tree.specs.ScopeNames.FreeNames.{names_of}
-use Rattle.go_tree.specs.ScopeNames.Identifiers.{name_option, type_identifiers, fields_identifiers, type_option_identifiers, params_identifiers, sig_identifiers, expr_identifiers, exprs_identifiers, expr_option_identifiers, elems_identifiers, value_identifiers, value_option_identifiers, stmt_identifiers, stmts_identifiers, stmt_option_identifiers, block_option_identifiers, left_identifiers, arms_identifiers, cases_identifiers, specs_identifiers}
+use Rattle.go_rules.specs.ScopeNames.Scopes.{expr_span}
+use Rattle.go_rules.specs.ScopeNames.FreeNames.{names_of}
+use Rattle.go_rules.specs.ScopeNames.Identifiers.{name_option, type_identifiers, fields_identifiers, type_option_identifiers, params_identifiers, sig_identifiers, expr_identifiers, exprs_identifiers, expr_option_identifiers, elems_identifiers, value_identifiers, value_option_identifiers, stmt_identifiers, stmts_identifiers, stmt_option_identifiers, block_option_identifiers, left_identifiers, arms_identifiers, cases_identifiers, specs_identifiers}
 use Rattle.name_walks.specs.declared.walk.Wanted.TheVariants.{Identifiers}
 use Rattle.name_walks.specs.Walk.{Walk, mention, used, bind, enter, nesting}
 use Rattle.names_within.specs.TreeWalk.{mention_option, bind_option, bind_all, begin_all, after_named, after_type, after_fields, after_type_option, after_params, after_sig, begin_sig, after_expr, after_exprs, after_expr_option, after_elems, after_value, after_value_option, after_stmt, after_stmts, after_block, after_stmt_option, after_post, after_block_option, after_left, begin_left, after_arms, after_cases, after_specs}

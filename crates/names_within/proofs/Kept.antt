@@ -3,7 +3,7 @@ use Rattle.std.proofs.Common.{◌≡◌, ◌∙◌, ℕ, Bool, true, false, List
 use Rattle.go_tree.specs.declared.spans.Span.{Span}
 use Rattle.go_tree.specs.Tree.{NameAt, Param, Sig, RangeLeft, nothing, assigns, defines}
 use Rattle.go_tree.specs.File.{Receiver}
-use Rattle.go_tree.specs.ScopeNames.Means.{is_blank}
+use Rattle.go_rules.specs.ScopeNames.Means.{is_blank}
 use Rattle.name_walks.specs.declared.walk.Wanted.{Wanted}
 use Rattle.name_walks.specs.declared.walk.Wanted.TheVariants.{Identifiers, Binders, Free, Scopes}
 use Rattle.name_walks.specs.Walk.{Walk, declare_in, enter_in, hold_before, end_in, innermost, known_with, in_last, declare, enter, hold, learn}

@@ -4,9 +4,9 @@ use Rattle.go_tree.specs.declared.spans.Span.{Span}
 use Rattle.go_tree.specs.File.{File}
 use Rattle.go_tree.specs.GoWords.Tokens.Pieces.{is_among, keyword_spellings}
 use Rattle.name_walks.specs.Reserved.{is_reserved, is_untaken}
-use Rattle.go_tree.specs.ScopeNames.Fresh.{candidate, is_new, IsFirst, IsFresh}
-use Rattle.go_tree.specs.ScopeNames.Identifiers.{identifiers}
-use Rattle.go_tree.specs.ScopeNames.Means.{predeclared}
+use Rattle.go_rules.specs.ScopeNames.Fresh.{candidate, is_new, IsFirst, IsFresh}
+use Rattle.go_rules.specs.ScopeNames.Identifiers.{identifiers}
+use Rattle.go_rules.specs.ScopeNames.Means.{predeclared}
 
 pub or_false : (a : Bool) → (a || false) ≡ a
 or_false true = refl

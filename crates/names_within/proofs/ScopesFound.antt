@@ -14,8 +14,8 @@ use Rattle.go_tree.specs.declared.stmts.VarSpecList as vsl
 use Rattle.go_tree.specs.View.{const_specs_row, var_specs_row}
 use Rattle.go_tree.specs.FileView.{type_spec_of, func_of, decl_of}
 use Rattle.go_tree.specs.GoWords.Tokens.Pieces.{is_among}
-use Rattle.go_tree.specs.ScopeNames.FreeNames.{names_of}
-use Rattle.go_tree.specs.ScopeNames.Scopes.{Scope, not_blank, specs_declare, known_after, with_name, param_names, range_declares, sig_declares, scopes_of, expr_span, expr_scopes, exprs_scopes, expr_option_scopes, elems_scopes, value_scopes, value_option_scopes, stmt_scopes, stmts_scopes, stmt_option_scopes, block_option_scopes, left_scopes, arms_scopes, cases_scopes, specs_scopes, receiver_declares, func_declares, func_scopes, values_scopes, decl_scopes, decls_scopes}
+use Rattle.go_rules.specs.ScopeNames.FreeNames.{names_of}
+use Rattle.go_rules.specs.ScopeNames.Scopes.{Scope, not_blank, specs_declare, known_after, with_name, param_names, range_declares, sig_declares, scopes_of, expr_span, expr_scopes, exprs_scopes, expr_option_scopes, elems_scopes, value_scopes, value_option_scopes, stmt_scopes, stmts_scopes, stmt_option_scopes, block_option_scopes, left_scopes, arms_scopes, cases_scopes, specs_scopes, receiver_declares, func_declares, func_scopes, values_scopes, decl_scopes, decls_scopes}
 use Rattle.name_walks.specs.LocalScopes.{scope_of}
 use Rattle.name_walks.specs.declared.walk.Wanted.TheVariants.{Scopes}
 use Rattle.name_walks.specs.declared.walk.OpenBlock.{OpenBlock}

@@ -11,7 +11,7 @@ use Rattle.go_tree.specs.Tree.{return_, break_, continue_, inner, if_, for_, ran
 use Rattle.go_tree.specs.Tree.{no_stmts, stmt_and, StmtOption, no_stmt, some_stmt, BlockOption, no_block, some_block}
 use Rattle.go_tree.specs.Tree.{RangeLeft, nothing, assigns, defines, Arms, no_arms, arm, Cases, no_cases, case}
 use Rattle.go_tree.specs.Tree.{ValueSpecs, no_specs, spec}
-use Rattle.go_tree.specs.ScopeNames.Scopes.{expr_span}
+use Rattle.go_rules.specs.ScopeNames.Scopes.{expr_span}
 use Rattle.name_walks.specs.Walk.{Walk, mention, used, bind, declare, enter, hold, learn, nesting, leave}
 
 -- a name that is mentioned, if it is there

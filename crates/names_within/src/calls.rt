@@ -3,15 +3,15 @@
 ghost use Rattle.std.specs.Prelude.{◌≡◌, IfOk, [], map};
 ghost use Rattle.go_tree.specs.View.{expr_of};
 ghost use Rattle.go_tree.specs.FileView.{file_of, func_of};
-ghost use Rattle.go_tree.specs.ScopeNames.Binders.{func_binders};
-ghost use Rattle.go_tree.specs.ScopeNames.FreeNames.{free_expr};
-ghost use Rattle.go_tree.specs.ScopeNames.Scopes.{decls_scopes};
+ghost use Rattle.go_rules.specs.ScopeNames.Binders.{func_binders};
+ghost use Rattle.go_rules.specs.ScopeNames.FreeNames.{free_expr};
+ghost use Rattle.go_rules.specs.ScopeNames.Scopes.{decls_scopes};
 ghost use Rattle.name_walks.specs.EachOnce.{each_once};
 ghost use Rattle.name_walks.specs.LocalScopes.{scope_of};
 
 use crate::exprs::expr_names;
 use crate::files::{decls_names, func_names};
-use go_tree::scope_names::NameList;
+use go_rules::scope_names::NameList;
 use go_tree::{Expr, FileTree, FuncDecl, NoMemory};
 use name_walks::{LocalScope, NameWalk, Wanted, each_once};
 use std::alloc::Global;

@@ -3,7 +3,7 @@
 ghost use Rattle.std.specs.Prelude.{◌≡◌, OnOk};
 ghost use Rattle.go_tree.specs.View.{expr_of, exprs_of, boxed_expr_option_of, plain_expr_option_of, value_of};
 ghost use Rattle.go_tree.specs.View.{held_value_option_of, elem_of, elems_of};
-ghost use Rattle.go_tree.specs.ScopeNames.Scopes.{expr_span};
+ghost use Rattle.go_rules.specs.ScopeNames.Scopes.{expr_span};
 ghost use Rattle.name_walks.specs.Walk.{walk_of};
 ghost use Rattle.names_within.specs.TreeWalk.{after_expr, after_exprs, after_expr_option, after_value};
 ghost use Rattle.names_within.specs.TreeWalk.{after_value_option, after_elem, after_elems};

@@ -3,11 +3,11 @@
 ghost use Rattle.std.specs.Prelude.{◌≡◌, IfOk, ◌||◌, ℕ, List};
 ghost use Rattle.go_tree.specs.FileView.{file_of};
 ghost use Rattle.go_tree.specs.GoWords.Tokens.Pieces.{is_among};
-ghost use Rattle.go_tree.specs.ScopeNames.Fresh.{IsFresh};
-ghost use Rattle.go_tree.specs.ScopeNames.Identifiers.{identifiers};
+ghost use Rattle.go_rules.specs.ScopeNames.Fresh.{IsFresh};
+ghost use Rattle.go_rules.specs.ScopeNames.Identifiers.{identifiers};
 
 use crate::files::file_names;
-use go_tree::scope_names::NameList;
+use go_rules::scope_names::NameList;
 use go_tree::{FileTree, Name, NoMemory};
 use name_walks::{NameSet, NameWalk, Wanted, add_all, new_name};
 use std::alloc::Global;

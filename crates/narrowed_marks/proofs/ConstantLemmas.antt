@@ -5,7 +5,7 @@ use Rattle.std.specs.Option.{option_map}
 use Rattle.go_tree.specs.declared.spans.Span.{Span}
 use Rattle.go_tree.specs.Tree.{NameAt, Exprs, no_exprs, expr_and, Stmt, const_decl, var_decl, empty, eval, step, assign, define, return_, break_, continue_, inner, if_, for_, range_, switch, defer, label, ValueSpecs, no_specs, spec}
 use Rattle.go_tree.specs.File.{values}
-use Rattle.go_tree.specs.GoTypes.Answers.{meets}
+use Rattle.go_rules.specs.GoTypes.Answers.{meets}
 use Rattle.member_uses.specs.Laws.{is_constant, AllConstants}
 use Rattle.pkg_graph.specs.Package.{Package}
 use Rattle.run_rules.specs.Sites.{Inlinable, MarkRef, constant_in_spec, inlinable, inlinable_in, less, name_of, nth_constant}

@@ -5,8 +5,8 @@ use Rattle.std.specs.Prelude.{slice_get}
 use Rattle.std.specs.Option.{option_map}
 use Rattle.go_tree.specs.declared.spans.Span.{Span}
 use Rattle.go_tree.specs.File.{Func}
-use Rattle.go_tree.specs.GoTypes.Answers.{given, otherwise}
-use Rattle.go_tree.specs.GoTypes.MethodDeclarations.{receiver_type}
+use Rattle.go_rules.specs.GoTypes.Answers.{given, otherwise}
+use Rattle.go_rules.specs.GoTypes.MethodDeclarations.{receiver_type}
 use Rattle.pkg_graph.specs.Package.{Package}
 use Rattle.run_rules.specs.Marks.{with_type, own_name, marked_name}
 use Rattle.run_rules.specs.Programs.{world, headed_func}

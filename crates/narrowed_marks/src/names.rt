@@ -6,7 +6,7 @@ ghost use Rattle.go_tree.specs.declared.spans.Span.{Span};
 ghost use Rattle.go_tree.specs.Lists.{specs_from};
 ghost use Rattle.go_tree.specs.View.{const_spec_of, exprs_of, name_at_of};
 ghost use Rattle.go_tree.specs.FileView.{decl_of, type_spec_of};
-ghost use Rattle.go_tree.specs.GoTypes.Answers.{given, meets};
+ghost use Rattle.go_rules.specs.GoTypes.Answers.{given, meets};
 ghost use Rattle.member_uses.specs.Laws.{is_constant};
 ghost use Rattle.run_rules.specs.Sites.{Inlinable, aliased, constant_in_spec, inlinable_in, name_of, nth_constant};
 

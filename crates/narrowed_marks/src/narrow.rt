@@ -4,7 +4,7 @@ ghost use Rattle.std.specs.Prelude.{◌≡◌, [], All, IfOk, filter, map, optio
 ghost use Rattle.std.specs.List.{list_all};
 ghost use Rattle.std.specs.Option.{option_map};
 ghost use Rattle.go_tree.specs.FileView.{decl_of};
-ghost use Rattle.go_tree.specs.GoTypes.Answers.{given, meets, otherwise};
+ghost use Rattle.go_rules.specs.GoTypes.Answers.{given, meets, otherwise};
 ghost use Rattle.member_uses.specs.Laws.{is_constant};
 ghost use Rattle.pkg_graph.specs.Views.{package_view};
 ghost use Rattle.run_rules.specs.Marks.{full_name, home_path};

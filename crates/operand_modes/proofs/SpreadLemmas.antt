@@ -3,12 +3,12 @@ use Rattle.std.specs.Prelude.{◌≡◌, ℕ, zero, suc, ◌<◌, ◌≤◌, Lis
 use Rattle.std.proofs.Common.{◌+◌, get_or, drop, arith, add-one, append-nil}
 use Rattle.std.proofs.Math.Seq.{drop-cons}
 use mathlib.Core.Path.{ap, sym, ◌∙◌, subst}
-use Rattle.go_tree.specs.declared.const_eval.consts.Const.{Const}
-use Rattle.go_tree.specs.GoTypes.Answers.{both, given}
-use Rattle.go_tree.specs.GoTypes.Types.{GoType}
-use Rattle.go_tree.specs.GoTypes.Entities.{run}
-use Rattle.go_tree.specs.GoTypes.Operands as go
-use Rattle.go_tree.specs.GoTypes.Operands.{Typed, value, several, a_type, a_function, a_builtin, recovered, all_typed, spread, typed}
+use Rattle.go_rules.specs.declared.const_eval.consts.Const.{Const}
+use Rattle.go_rules.specs.GoTypes.Answers.{both, given}
+use Rattle.go_rules.specs.GoTypes.Types.{GoType}
+use Rattle.go_rules.specs.GoTypes.Entities.{run}
+use Rattle.go_rules.specs.GoTypes.Operands as go
+use Rattle.go_rules.specs.GoTypes.Operands.{Typed, value, several, a_type, a_function, a_builtin, recovered, all_typed, spread, typed}
 use Rattle.type_table.specs.declared.nodes.TypeId.{TypeId}
 use Rattle.type_table.specs.TypeRelations.Environment.{Environment, env_type}
 use Rattle.type_table.specs.declared.operand_rules.values.Value.{Value}

@@ -1,10 +1,10 @@
 -- What operands of the code are: types by their numbers, constants by theirs (Go specification, Expressions; Calls;
 -- Function types).
 use Rattle.std.specs.Prelude.{◌≡◌, ◌<◌, List, [], ◌∷◌, map, length, Option, Some, None, Result, Ok, Err}
-use Rattle.go_tree.specs.declared.const_eval.consts.Const.{Const}
-use Rattle.go_tree.specs.GoTypes.Types as type
-use Rattle.go_tree.specs.GoTypes.Operands as go
-use Rattle.go_tree.specs.GoTypes.Operands.{value, several, a_type, a_function, a_builtin, recovered}
+use Rattle.go_rules.specs.declared.const_eval.consts.Const.{Const}
+use Rattle.go_rules.specs.GoTypes.Types as type
+use Rattle.go_rules.specs.GoTypes.Operands as go
+use Rattle.go_rules.specs.GoTypes.Operands.{value, several, a_type, a_function, a_builtin, recovered}
 use Rattle.type_table.specs.declared.nodes.TypeId.{TypeId}
 use Rattle.type_table.specs.TypeRelations.Environment.{Environment, env_type}
 use Rattle.universe_block.specs.Meanings.{builtin_of}

@@ -2,8 +2,8 @@
 //! statements; Variable declarations).
 
 ghost use Rattle.std.specs.Prelude.{◌≡◌, ◌∷◌, [], map, IfOk};
-ghost use Rattle.go_tree.specs.GoTypes.Operands as go;
-ghost use Rattle.go_tree.specs.GoTypes.Statements as statement;
+ghost use Rattle.go_rules.specs.GoTypes.Operands as go;
+ghost use Rattle.go_rules.specs.GoTypes.Statements as statement;
 ghost use Rattle.type_table.specs.TypeRelations.Environment.{defined_types};
 ghost use Rattle.type_table.specs.OperandRules.Values.{IsType, runs};
 ghost use Rattle.operator_rules.specs.Parts.{HasParts};
@@ -15,8 +15,8 @@ ghost use Rattle.operand_modes.specs.Lists.{with_presence};
 use crate::lists::ValueList;
 use crate::modes::{Operand, single_value};
 use crate::spreads::values;
+use go_rules::const_eval::Kind;
 use go_tree::NoMemory;
-use go_tree::const_eval::Kind;
 use operator_rules::access_rules::Place;
 use std::alloc::Global;
 use type_table::operand_rules::{ConstTable, Content, Refusal, Value, ValueType};

@@ -1,7 +1,7 @@
 //! Where operands may stand (Go specification, Assignability; Representability).
 
 ghost use Rattle.std.specs.Prelude.{◌≡◌, ◌<◌, length};
-ghost use Rattle.go_tree.specs.GoTypes.Operands as go;
+ghost use Rattle.go_rules.specs.GoTypes.Operands as go;
 ghost use Rattle.type_table.specs.TypeRelations.Environment.{defined_types, env_type};
 ghost use Rattle.operand_modes.specs.Operands.{IsOperand, operand_at};
 

@@ -1,8 +1,8 @@
 //! What an expression is (Go specification, Expressions).
 
 ghost use Rattle.std.specs.Prelude.{◌≡◌, List, Option};
-ghost use Rattle.go_tree.specs.declared.const_eval.consts.Const.{Const};
-ghost use Rattle.go_tree.specs.GoTypes.Operands as go;
+ghost use Rattle.go_rules.specs.declared.const_eval.consts.Const.{Const};
+ghost use Rattle.go_rules.specs.GoTypes.Operands as go;
 ghost use Rattle.type_table.specs.TypeRelations.Environment.{Environment};
 ghost use Rattle.type_table.specs.OperandRules.Values.{Gives};
 ghost use Rattle.operand_modes.specs.Operands.{GivesOperand, single_of};

@@ -1,8 +1,8 @@
 //! What calls of functions give (Go specification, Calls).
 
 ghost use Rattle.std.specs.Prelude.{◌≡◌, ◌<◌, List, length};
-ghost use Rattle.go_tree.specs.declared.const_eval.consts.Const.{Const};
-ghost use Rattle.go_tree.specs.GoTypes.Operands as go;
+ghost use Rattle.go_rules.specs.declared.const_eval.consts.Const.{Const};
+ghost use Rattle.go_rules.specs.GoTypes.Operands as go;
 ghost use Rattle.operator_rules.specs.Parts.{HasParts};
 ghost use Rattle.operator_rules.specs.AccessRules.Functions.{AreTypes, types_at};
 ghost use Rattle.operand_modes.specs.Operands.{IsOperand, operand_at, tuple_at};

@@ -3,14 +3,14 @@ use Rattle.std.specs.Prelude.{◌≡◌, ℕ, zero, suc, ◌<◌, Bool, true, fa
 use Rattle.std.specs.List.{list_any}
 use Rattle.std.proofs.Common.{inl, inr, arith}
 use mathlib.Core.Path.{ap, sym, ◌∙◌, subst}
-use Rattle.go_tree.specs.GoTypes.Types.{is_untyped}
-use Rattle.go_tree.specs.GoTypes.Table.{NodeField, TypeNode, basic_node, named_node, pointer_node, slice_node, map_node, struct_node, tuple_node, untyped_node, nil_node}
+use Rattle.go_rules.specs.GoTypes.Types.{is_untyped}
+use Rattle.go_rules.specs.GoTypes.Table.{NodeField, TypeNode, basic_node, named_node, pointer_node, slice_node, map_node, struct_node, tuple_node, untyped_node, nil_node}
 use Rattle.type_table.specs.SameRows.{same_row}
 use Rattle.type_table.specs.Interned.{with_row}
 use Rattle.type_table.specs.TypeRelations.Environment.{Environment, env_type, with_type}
 use Rattle.operator_rules.specs.Kept.{TypesGrown}
 use Rattle.operator_rules.proofs.KeptLemmas.{interned_grown}
-use Rattle.go_tree.specs.declared.const_eval.kinds.Kind.{Kind}
+use Rattle.go_rules.specs.declared.const_eval.kinds.Kind.{Kind}
 use Rattle.operator_rules.specs.Parts.{AreParts, FieldParts, HasParts, IsPart, RowParts}
 use Rattle.operator_rules.specs.Growth.{NoRowsHaveParts, PartsStay}
 

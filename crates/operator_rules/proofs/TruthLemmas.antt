@@ -3,14 +3,14 @@ use Rattle.std.specs.Prelude.{◌≡◌, true, false, None, Result, refl}
 use mathlib.Core.Path.{ap}
 use Rattle.go_tree.specs.declared.operators.BinOp.{BinOp}
 use Rattle.go_tree.specs.declared.operators.BinOp.TheVariants.{Mul, Div, Rem, Shl, Shr, And, AndNot, Add, Sub, Or, Xor, Eq, Ne, Lt, Le, Gt, Ge, LogAnd, LogOr}
-use Rattle.go_tree.specs.declared.const_eval.kinds.Kind.TheVariants.{UntypedBool}
-use Rattle.go_tree.specs.declared.const_eval.consts.Const.{Const}
-use Rattle.go_tree.specs.declared.const_eval.consts.Const.TheVariants.{Whole, Truth, Bytes}
-use Rattle.go_tree.specs.declared.const_eval.consts.ConstError.{ConstError}
-use Rattle.go_tree.specs.ConstEval.Conditions.{binary_applies, fits_right}
-use Rattle.go_tree.specs.ConstEval.Exact.{Answers, represents}
-use Rattle.go_tree.specs.ConstEval.Operators.{binary_value}
-use Rattle.go_tree.specs.GoTypes.Operands.{constant_at}
+use Rattle.go_rules.specs.declared.const_eval.kinds.Kind.TheVariants.{UntypedBool}
+use Rattle.go_rules.specs.declared.const_eval.consts.Const.{Const}
+use Rattle.go_rules.specs.declared.const_eval.consts.Const.TheVariants.{Whole, Truth, Bytes}
+use Rattle.go_rules.specs.declared.const_eval.consts.ConstError.{ConstError}
+use Rattle.go_rules.specs.ConstEval.Conditions.{binary_applies, fits_right}
+use Rattle.go_rules.specs.ConstEval.Exact.{Answers, represents}
+use Rattle.go_rules.specs.ConstEval.Operators.{binary_value}
+use Rattle.go_rules.specs.GoTypes.Operands.{constant_at}
 use Rattle.operator_rules.specs.Truths.{alike, gives_truth, sort_of, truth_in, truth_option}
 
 -- constants that aren't alike give none

@@ -2,11 +2,11 @@
 use Rattle.std.specs.Prelude.{◌≡◌, ℕ, ◌<◌, Bool, true, false, ◌||◌, List, length, Option, Some, None, if◌then◌else◌, refl}
 use mathlib.Core.Path.{ap, ap₂}
 use Rattle.go_tree.specs.declared.operators.BinOp.{BinOp}
-use Rattle.go_tree.specs.GoTypes.Types.{GoType, basic, named_type, pointer_to, slice_of, map_of, struct_of, tuple_of, untyped, untyped_nil, is_nil, is_untyped}
-use Rattle.go_tree.specs.GoTypes.Defined.{Defined, comparable}
-use Rattle.go_tree.specs.GoTypes.Entities.{Content}
-use Rattle.go_tree.specs.GoTypes.Operands.{value, Typed, default_type}
-use Rattle.go_tree.specs.GoTypes.Operators.{compared_at, recover_compared}
+use Rattle.go_rules.specs.GoTypes.Types.{GoType, basic, named_type, pointer_to, slice_of, map_of, struct_of, tuple_of, untyped, untyped_nil, is_nil, is_untyped}
+use Rattle.go_rules.specs.GoTypes.Defined.{Defined, comparable}
+use Rattle.go_rules.specs.GoTypes.Entities.{Content}
+use Rattle.go_rules.specs.GoTypes.Operands.{value, Typed, default_type}
+use Rattle.go_rules.specs.GoTypes.Operators.{compared_at, recover_compared}
 use Rattle.std.proofs.Common.{arith}
 use Rattle.type_table.specs.TypeRelations.Environment.{Environment, defined_types, env_type}
 use Rattle.type_flags.specs.declared.grown.TypeFlags.{TypeFlags}

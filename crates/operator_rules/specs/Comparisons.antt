@@ -2,12 +2,12 @@
 -- operators).
 use Rattle.std.specs.Prelude.{Bool, ◌||◌, ◌&&◌, List, Option, Some, if◌then◌else◌}
 use Rattle.go_tree.specs.declared.operators.BinOp.{BinOp}
-use Rattle.go_tree.specs.GoTypes.Answers.{given, only_if}
-use Rattle.go_tree.specs.GoTypes.Types.{GoType, is_nil}
-use Rattle.go_tree.specs.GoTypes.Defined.{Defined}
-use Rattle.go_tree.specs.GoTypes.Relations.{assignable}
-use Rattle.go_tree.specs.GoTypes.Operands.{Typed, is_shift, default_type}
-use Rattle.go_tree.specs.GoTypes.Operators.{common_type, joins_comparison, comparison_applies}
+use Rattle.go_rules.specs.GoTypes.Answers.{given, only_if}
+use Rattle.go_rules.specs.GoTypes.Types.{GoType, is_nil}
+use Rattle.go_rules.specs.GoTypes.Defined.{Defined}
+use Rattle.go_rules.specs.GoTypes.Relations.{assignable}
+use Rattle.go_rules.specs.GoTypes.Operands.{Typed, is_shift, default_type}
+use Rattle.go_rules.specs.GoTypes.Operators.{common_type, joins_comparison, comparison_applies}
 
 module _ (ds : List Defined) where
   -- where one of the operands is untyped

@@ -1,6 +1,6 @@
 -- Types whose parts are types of values, after a type is added (Go specification, Types).
 use Rattle.std.specs.Prelude.{◌≡◌, []}
-use Rattle.go_tree.specs.GoTypes.Table.{TypeNode}
+use Rattle.go_rules.specs.GoTypes.Table.{TypeNode}
 use Rattle.type_table.specs.TypeRelations.Environment.{Environment, with_type}
 use Rattle.operator_rules.specs.Kept.{TypesGrown}
 use Rattle.operator_rules.specs.Parts.{HasParts, RowParts}

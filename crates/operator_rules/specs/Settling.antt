@@ -1,6 +1,6 @@
 -- Types by their numbers, where there are any (Go specification, Constants).
 use Rattle.std.specs.Prelude.{Option, Some, None}
-use Rattle.go_tree.specs.GoTypes.Types.{GoType}
+use Rattle.go_rules.specs.GoTypes.Types.{GoType}
 use Rattle.type_table.specs.declared.nodes.TypeId.{TypeId}
 use Rattle.type_table.specs.TypeRelations.Environment.{Environment, env_type}
 

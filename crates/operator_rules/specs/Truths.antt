@@ -2,12 +2,12 @@
 -- Logical operators; Constant expressions).
 use Rattle.std.specs.Prelude.{Bool, true, false, ◌||◌, Option, Some, None, Result, Ok}
 use Rattle.go_tree.specs.declared.operators.BinOp.{BinOp}
-use Rattle.go_tree.specs.declared.const_eval.kinds.Kind.{Kind}
-use Rattle.go_tree.specs.declared.const_eval.kinds.Kind.TheVariants as kind
-use Rattle.go_tree.specs.declared.const_eval.consts.Const.{Const}
-use Rattle.go_tree.specs.declared.const_eval.consts.Const.TheVariants.{Whole, Truth, Bytes}
-use Rattle.go_tree.specs.declared.const_eval.consts.ConstError.{ConstError}
-use Rattle.go_tree.specs.ConstEval.Operators.{is_comparison}
+use Rattle.go_rules.specs.declared.const_eval.kinds.Kind.{Kind}
+use Rattle.go_rules.specs.declared.const_eval.kinds.Kind.TheVariants as kind
+use Rattle.go_rules.specs.declared.const_eval.consts.Const.{Const}
+use Rattle.go_rules.specs.declared.const_eval.consts.Const.TheVariants.{Whole, Truth, Bytes}
+use Rattle.go_rules.specs.declared.const_eval.consts.ConstError.{ConstError}
+use Rattle.go_rules.specs.ConstEval.Operators.{is_comparison}
 use Rattle.type_table.specs.OperandRules.Operators.{is_logical}
 
 -- a comparison, `&&` or `||`

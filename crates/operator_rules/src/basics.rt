@@ -7,8 +7,8 @@ ghost use Rattle.operator_rules.specs.Kept.{TypesGrown};
 ghost use Rattle.operator_rules.specs.Parts.{HasParts};
 ghost use Rattle.type_table.specs.ValueTypes.ValueTypes.{HasValueTypes};
 
+use go_rules::const_eval::Kind;
 use go_tree::NoMemory;
-use go_tree::const_eval::Kind;
 use type_table::type_relations::Env;
 use type_table::{TypeId, TypeNode};
 

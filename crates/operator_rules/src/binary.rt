@@ -1,7 +1,7 @@
 //! Which rule a binary operator follows (Go specification, Operators).
 
-ghost use Rattle.go_tree.specs.GoTypes.Operators as go;
-ghost use Rattle.go_tree.specs.GoTypes.Operands.{value};
+ghost use Rattle.go_rules.specs.GoTypes.Operators as go;
+ghost use Rattle.go_rules.specs.GoTypes.Operands.{value};
 ghost use Rattle.type_table.specs.TypeRelations.Environment.{defined_types};
 ghost use Rattle.type_flags.specs.Grown.{AreFlags};
 ghost use Rattle.type_table.specs.OperandRules.Constants.{Grown};
@@ -11,8 +11,8 @@ ghost use Rattle.operator_rules.specs.BasicTypes.{AreBasic};
 use crate::basics::BasicTypes;
 use crate::comparisons::comparison;
 use crate::logical::logic;
+use go_rules::const_eval::Kind;
 use go_tree::BinOp;
-use go_tree::const_eval::Kind;
 use std::alloc::Global;
 use type_flags::TypeFlags;
 use type_table::operand_rules::{

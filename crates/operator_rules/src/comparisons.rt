@@ -1,10 +1,10 @@
 //! Comparisons (Go specification, Comparison operators).
 
 ghost use Rattle.std.specs.Prelude.{◌≡◌, ◌||◌, ◌&&◌, true, IfSome};
-ghost use Rattle.go_tree.specs.ConstEval.Operators.{is_comparison};
-ghost use Rattle.go_tree.specs.GoTypes.Operands.{is_shift};
-ghost use Rattle.go_tree.specs.GoTypes.Operators as go;
-ghost use Rattle.go_tree.specs.GoTypes.Types.{is_nil, is_untyped};
+ghost use Rattle.go_rules.specs.ConstEval.Operators.{is_comparison};
+ghost use Rattle.go_rules.specs.GoTypes.Operands.{is_shift};
+ghost use Rattle.go_rules.specs.GoTypes.Operators as go;
+ghost use Rattle.go_rules.specs.GoTypes.Types.{is_nil, is_untyped};
 ghost use Rattle.type_table.specs.TypeRelations.Environment.{defined_types, env_type};
 ghost use Rattle.type_flags.specs.Grown.{AreFlags};
 ghost use Rattle.type_table.specs.declared.operand_rules.values.ValueType.TheVariants.{Typed};
@@ -17,8 +17,8 @@ use crate::basics::BasicTypes;
 use crate::logical::applies;
 use crate::settling::default_type;
 use crate::truths::truth_value;
+use go_rules::const_eval::Kind;
 use go_tree::BinOp;
-use go_tree::const_eval::Kind;
 use std::alloc::Global;
 use type_flags::TypeFlags;
 use type_table::TypeId;

@@ -1,9 +1,9 @@
 //! `&&` and `||` (Go specification, Logical operators).
 
 ghost use Rattle.std.specs.Prelude.{◌≡◌, ◌&&◌, true};
-ghost use Rattle.go_tree.specs.ConstEval.Conditions as condition;
-ghost use Rattle.go_tree.specs.GoTypes.Operands.{kind_passes};
-ghost use Rattle.go_tree.specs.GoTypes.Operators as go;
+ghost use Rattle.go_rules.specs.ConstEval.Conditions as condition;
+ghost use Rattle.go_rules.specs.GoTypes.Operands.{kind_passes};
+ghost use Rattle.go_rules.specs.GoTypes.Operators as go;
 ghost use Rattle.type_table.specs.TypeRelations.Environment.{defined_types};
 ghost use Rattle.type_table.specs.OperandRules.Constants.{Grown};
 ghost use Rattle.type_table.specs.OperandRules.Operators.{is_logical};

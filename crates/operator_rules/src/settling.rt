@@ -2,7 +2,7 @@
 //! declarations).
 
 ghost use Rattle.std.specs.Prelude.{◌≡◌, IfSome};
-ghost use Rattle.go_tree.specs.GoTypes.Operands as go;
+ghost use Rattle.go_rules.specs.GoTypes.Operands as go;
 ghost use Rattle.type_table.specs.TypeRelations.Environment.{defined_types};
 ghost use Rattle.type_table.specs.declared.operand_rules.values.ValueType.TheVariants.{Typed};
 ghost use Rattle.type_table.specs.OperandRules.Values.{IsType, IsValue, type_of, typed_of};
@@ -10,7 +10,7 @@ ghost use Rattle.operator_rules.specs.BasicTypes.{AreBasic};
 ghost use Rattle.operator_rules.specs.Settling.{typed_option};
 
 use crate::basics::BasicTypes;
-use go_tree::const_eval::Kind;
+use go_rules::const_eval::Kind;
 use type_table::TypeId;
 use type_table::operand_rules::{ConstTable, Value, ValueType, fits};
 use type_table::type_relations::Env;

@@ -2,18 +2,18 @@
 //! Logical operators; Constant expressions).
 
 ghost use Rattle.std.specs.Prelude.{◌≡◌, true};
-ghost use Rattle.go_tree.specs.declared.const_eval.kinds.Kind.TheVariants.{UntypedBool};
-ghost use Rattle.go_tree.specs.ConstEval.Exact.{represents, is_truth_kind};
-ghost use Rattle.go_tree.specs.ConstEval.Operators.{binary_value};
-ghost use Rattle.go_tree.specs.GoTypes.Operands.{constant_at, kind_passes};
-ghost use Rattle.go_tree.specs.GoTypes.Operators as go;
+ghost use Rattle.go_rules.specs.declared.const_eval.kinds.Kind.TheVariants.{UntypedBool};
+ghost use Rattle.go_rules.specs.ConstEval.Exact.{represents, is_truth_kind};
+ghost use Rattle.go_rules.specs.ConstEval.Operators.{binary_value};
+ghost use Rattle.go_rules.specs.GoTypes.Operands.{constant_at, kind_passes};
+ghost use Rattle.go_rules.specs.GoTypes.Operators as go;
 ghost use Rattle.type_table.specs.TypeRelations.Environment.{defined_types};
 ghost use Rattle.type_table.specs.OperandRules.Constants.{Grown};
 ghost use Rattle.type_table.specs.OperandRules.Values.{Gives, IsKept, IsType, content_of, type_of};
 ghost use Rattle.operator_rules.specs.Truths.{alike, gives_truth, sort_of, truth_in, truth_option};
 
+use go_rules::const_eval::{Const, ConstError, Kind, binary};
 use go_tree::BinOp;
-use go_tree::const_eval::{Const, ConstError, Kind, binary};
 use std::alloc::Global;
 use type_table::operand_rules::{
     ConstTable, Content, Refusal, Value, ValueType, binary_applies, both_exact, folded,

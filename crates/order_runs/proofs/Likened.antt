@@ -4,12 +4,12 @@ use Rattle.std.specs.Prelude.{nat_eq, is_none}
 use Rattle.std.proofs.lemmas.Bool.Decides.{nat_tests}
 use Rattle.std.specs.List.{list_all, list_any}
 use Rattle.std.proofs.lemmas.Slice.Eq.{bytes_eq-Decides}
-use Rattle.go_tree.specs.ScopeNames.Means.{is_blank}
-use Rattle.go_tree.specs.GoTypes.Answers.{one_of}
-use Rattle.go_tree.specs.GoTypes.Entities.{World}
-use Rattle.go_tree.specs.GoTypes.Programs.{Import, SourceFile, Program, Headed, headed, block_names, import_sound}
-use Rattle.go_tree.specs.GoTypes.Collect.{types_declared, collected}
-use Rattle.go_tree.specs.GoTypes.WellTyped.{refused_unless, first_import, well_typed}
+use Rattle.go_rules.specs.ScopeNames.Means.{is_blank}
+use Rattle.go_rules.specs.GoTypes.Answers.{one_of}
+use Rattle.go_rules.specs.GoTypes.Entities.{World}
+use Rattle.go_rules.specs.GoTypes.Programs.{Import, SourceFile, Program, Headed, headed, block_names, import_sound}
+use Rattle.go_rules.specs.GoTypes.Collect.{types_declared, collected}
+use Rattle.go_rules.specs.GoTypes.WellTyped.{refused_unless, first_import, well_typed}
 use Rattle.typed_in_place.specs.ImportRule.{files_import, package_imports, imports_ok, declarations_ok}
 use Rattle.typed_in_place.specs.ProgramReplaced.{All, all_of_none, all_and}
 use Rattle.typed_in_place.proofs.Rising.{and_first, and_second, both_true}

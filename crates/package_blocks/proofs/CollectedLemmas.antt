@@ -9,13 +9,13 @@ use Rattle.pkg_graph.specs.Graph.{imports_of}
 use Rattle.pkg_graph.specs.Order.{is_placed}
 use Rattle.typed_names.proofs.NameLaws.{turned}
 use Rattle.go_tree.specs.declared.spans.Span.{Span}
-use Rattle.go_tree.specs.declared.const_eval.consts.Const.{Const}
-use Rattle.go_tree.specs.ScopeNames.Means.{Environment, is_blank, means}
-use Rattle.go_tree.specs.GoTypes.Answers.{is_among}
-use Rattle.go_tree.specs.GoTypes.Entities as go
-use Rattle.go_tree.specs.GoTypes.Declarations.{bind_each}
-use Rattle.go_tree.specs.GoTypes.Programs.{Header, Headed, SourceFile, Program, all_headers, file_block, header_names, headed, headed_file, headed_files, headed_package, is_main, block_names, names_in}
-use Rattle.go_tree.specs.GoTypes.Collect.{block_by, blocks_by, refused_world}
+use Rattle.go_rules.specs.declared.const_eval.consts.Const.{Const}
+use Rattle.go_rules.specs.ScopeNames.Means.{Environment, is_blank, means}
+use Rattle.go_rules.specs.GoTypes.Answers.{is_among}
+use Rattle.go_rules.specs.GoTypes.Entities as go
+use Rattle.go_rules.specs.GoTypes.Declarations.{bind_each}
+use Rattle.go_rules.specs.GoTypes.Programs.{Header, Headed, SourceFile, Program, all_headers, file_block, header_names, headed, headed_file, headed_files, headed_package, is_main, block_names, names_in}
+use Rattle.go_rules.specs.GoTypes.Collect.{block_by, blocks_by, refused_world}
 use Rattle.pkg_graph.specs.Package as pure
 use Rattle.pkg_graph.specs.Package.{packages_of}
 use Rattle.pkg_graph.specs.GraphLaws.{OrdersAreUnique}

@@ -22,9 +22,9 @@ use Rattle.go_tree.specs.declared.stmts.ConstSpecList.{ConstSpecList'}
 use Rattle.go_tree.specs.declared.stmts.VarSpec.{VarSpec}
 use Rattle.go_tree.specs.declared.stmts.VarDecl.{VarDecl, VarDecl', out-VarDecl}
 use Rattle.go_tree.specs.declared.stmts.VarSpecList.{VarSpecList'}
-use Rattle.go_tree.specs.ScopeNames.FreeNames.{names_of}
-use Rattle.go_tree.specs.GoTypes.Bodies.{no_values}
-use Rattle.go_tree.specs.GoTypes.Programs.{constants, variables, a_func, a_type_spec, at_member, header_names, constant_headers, headers, variable_headers}
+use Rattle.go_rules.specs.ScopeNames.FreeNames.{names_of}
+use Rattle.go_rules.specs.GoTypes.Bodies.{no_values}
+use Rattle.go_rules.specs.GoTypes.Programs.{constants, variables, a_func, a_type_spec, at_member, header_names, constant_headers, headers, variable_headers}
 use Rattle.package_blocks.specs.Names.{plain_names}
 use Rattle.package_blocks.specs.Headers.{constants_of, repeated_type, repeated_values, type_headers, variables_of}
 use Rattle.package_blocks.proofs.HeaderLemmas.{constants_step}

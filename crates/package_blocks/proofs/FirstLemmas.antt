@@ -6,11 +6,11 @@ use Rattle.std.proofs.lemmas.Bool.{true≢false}
 use Rattle.std.proofs.lemmas.Slice.Eq.{bytes_eq-Decides}
 use Rattle.std.proofs.lemmas.List.Folds.{list_any-append}
 use Rattle.go_tree.specs.declared.spans.Span.{Span}
-use Rattle.go_tree.specs.ScopeNames.Means.{Environment, is_blank}
-use Rattle.go_tree.specs.GoTypes.Answers.{is_among}
-use Rattle.go_tree.specs.GoTypes.Declarations.{names_once}
-use Rattle.go_tree.specs.GoTypes.Entities.{Entity}
-use Rattle.go_tree.specs.GoTypes.Programs.{Header, Headed, SourceFile, SourcePackage, Program, all_headers, file_block, header_names, header_sound, headed, headed_file, headed_files, headed_package, is_init, is_main, block_names, names_in}
+use Rattle.go_rules.specs.ScopeNames.Means.{Environment, is_blank}
+use Rattle.go_rules.specs.GoTypes.Answers.{is_among}
+use Rattle.go_rules.specs.GoTypes.Declarations.{names_once}
+use Rattle.go_rules.specs.GoTypes.Entities.{Entity}
+use Rattle.go_rules.specs.GoTypes.Programs.{Header, Headed, SourceFile, SourcePackage, Program, all_headers, file_block, header_names, header_sound, headed, headed_file, headed_files, headed_package, is_init, is_main, block_names, names_in}
 use Rattle.pkg_graph.specs.Package.{Package, SourceTree}
 use Rattle.run_rules.specs.Programs.{linked_file, linked_package, linked_packages}
 use Rattle.typed_in_place.specs.Declared.{FirstWith, this_one, a_later_one, HasNumber, this_package, a_later_package}

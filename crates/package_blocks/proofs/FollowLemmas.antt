@@ -2,10 +2,10 @@
 use Rattle.std.proofs.Common.{◌≡◌, ◌∙◌, ◌&&◌, ◌||◌, not, ℕ, Bool, true, false, cond, List, [], ◌∷◌, ◌++◌, refl, sym, subst, ap, ap₂, bytes_eq, append_assoc}
 use Rattle.std.specs.List.{list_all, list_any}
 use Rattle.std.proofs.lemmas.Slice.Eq.{bytes_eq-Decides}
-use Rattle.go_tree.specs.ScopeNames.Means.{is_blank}
-use Rattle.go_tree.specs.GoTypes.Answers.{distinct_by, is_among}
-use Rattle.go_tree.specs.GoTypes.Declarations.{names_once, not_blank}
-use Rattle.go_tree.specs.GoTypes.Programs.{is_init}
+use Rattle.go_rules.specs.ScopeNames.Means.{is_blank}
+use Rattle.go_rules.specs.GoTypes.Answers.{distinct_by, is_among}
+use Rattle.go_rules.specs.GoTypes.Declarations.{names_once, not_blank}
+use Rattle.go_rules.specs.GoTypes.Programs.{is_init}
 use Rattle.typed_names.specs.Meanings.{Names, block_at}
 use Rattle.typed_names.proofs.NameLaws.{turned}
 use Rattle.package_blocks.specs.Names.{all_follow, Declares, may_follow, may_stand, NamesFollow, NamesPassed}

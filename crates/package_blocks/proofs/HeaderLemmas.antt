@@ -4,11 +4,11 @@ use Rattle.std.specs.List.{list_all}
 use Rattle.go_tree.specs.declared.spans.Span.{Span}
 use Rattle.go_tree.specs.Tree.{NameAt, TypeExpr, Exprs, ValueSpecs, spec}
 use Rattle.go_tree.specs.File.{Decl}
-use Rattle.go_tree.specs.ScopeNames.Means.{is_blank}
-use Rattle.go_tree.specs.GoTypes.Answers.{is_among}
-use Rattle.go_tree.specs.GoTypes.Bodies.{no_values}
-use Rattle.go_tree.specs.GoTypes.Declarations.{names_once}
-use Rattle.go_tree.specs.GoTypes.Programs.{Header, constants, header_names, header_sound, names_in, all_headers, constant_headers, is_init}
+use Rattle.go_rules.specs.ScopeNames.Means.{is_blank}
+use Rattle.go_rules.specs.GoTypes.Answers.{is_among}
+use Rattle.go_rules.specs.GoTypes.Bodies.{no_values}
+use Rattle.go_rules.specs.GoTypes.Declarations.{names_once}
+use Rattle.go_rules.specs.GoTypes.Programs.{Header, constants, header_names, header_sound, names_in, all_headers, constant_headers, is_init}
 use Rattle.typed_names.specs.Meanings.{Names, block_at}
 use Rattle.package_blocks.specs.declared.headers.HeaderKind.{HeaderKind}
 use Rattle.package_blocks.specs.declared.headers.PackageHeader.{PackageHeader}

@@ -6,11 +6,11 @@ use Rattle.go_tree.specs.declared.spans.Span.{Span}
 use Rattle.go_tree.specs.declared.files.ImportSpec.{ImportSpec}
 use Rattle.go_tree.specs.declared.files.ImportDecl.{ImportDecl}
 use Rattle.go_tree.specs.FileView.{import_spec_of, import_decl_of}
-use Rattle.go_tree.specs.declared.const_eval.consts.Const.{Const}
-use Rattle.go_tree.specs.ScopeNames.Means.{is_blank, means, or_else, binding}
-use Rattle.go_tree.specs.GoTypes.Answers.{is_among}
-use Rattle.go_tree.specs.GoTypes.Entities as go
-use Rattle.go_tree.specs.GoTypes.Programs.{Import, file_block, import_entity, import_sound, is_init}
+use Rattle.go_rules.specs.declared.const_eval.consts.Const.{Const}
+use Rattle.go_rules.specs.ScopeNames.Means.{is_blank, means, or_else, binding}
+use Rattle.go_rules.specs.GoTypes.Answers.{is_among}
+use Rattle.go_rules.specs.GoTypes.Entities as go
+use Rattle.go_rules.specs.GoTypes.Programs.{Import, file_block, import_entity, import_sound, is_init}
 use Rattle.pkg_graph.specs.Package.{specs_in}
 use Rattle.pkg_graph.specs.declared.packages.Package.{Package}
 use Rattle.run_rules.specs.Programs.{linked_import}

@@ -2,7 +2,7 @@
 use Rattle.std.proofs.Common.{◌≡◌, ◌∙◌, ◌≤◌, ◌+◌, ℕ, zero, suc, nat_lt, Bool, true, false, cond, List, [], ◌∷◌, Option, Some, None, refl, sym, ap, map, length, get_or, arith, bytes_eq}
 use Rattle.std.specs.Prelude.{slice_get}
 use Rattle.std.proofs.lemmas.Bool.Decides.{nat_tests}
-use Rattle.go_tree.specs.ScopeNames.Means.{or_else}
+use Rattle.go_rules.specs.ScopeNames.Means.{or_else}
 use Rattle.pkg_graph.specs.Members.{package_name}
 use Rattle.pkg_graph.specs.declared.packages.Package.{Package}
 use Rattle.run_rules.specs.Programs.{number_from}

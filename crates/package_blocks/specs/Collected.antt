@@ -6,10 +6,10 @@ use Rattle.std.specs.List.{list_any}
 use Rattle.go_tree.specs.declared.spans.Span.{Span}
 use Rattle.go_tree.specs.File.{Decl}
 use Rattle.go_tree.specs.FileView.{decl_of}
-use Rattle.go_tree.specs.declared.const_eval.consts.Const.{Const}
-use Rattle.go_tree.specs.ScopeNames.Means.{means}
-use Rattle.go_tree.specs.GoTypes.Programs.{Headed, header_names, headed}
-use Rattle.go_tree.specs.GoTypes.Collect.{refused_world}
+use Rattle.go_rules.specs.declared.const_eval.consts.Const.{Const}
+use Rattle.go_rules.specs.ScopeNames.Means.{means}
+use Rattle.go_rules.specs.GoTypes.Programs.{Headed, header_names, headed}
+use Rattle.go_rules.specs.GoTypes.Collect.{refused_world}
 use Rattle.pkg_graph.specs.Package as pure
 use Rattle.pkg_graph.specs.Package.{packages_of}
 use Rattle.pkg_graph.specs.Order.{IsDependencyOrder}

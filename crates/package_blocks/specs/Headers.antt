@@ -12,9 +12,9 @@ use Rattle.go_tree.specs.Tree.{TypeExpr, Exprs, no_exprs}
 use Rattle.go_tree.specs.File.{Decl}
 use Rattle.go_tree.specs.View.{name_at_of, const_spec_of, var_spec_of}
 use Rattle.go_tree.specs.FileView.{type_spec_of, func_of}
-use Rattle.go_tree.specs.GoTypes.Programs.{Header, constants, variables, a_type_spec, a_func, Headed, header_names}
-use Rattle.go_tree.specs.GoTypes.Programs.{header_sound, names_in, all_headers, at_member, constant_headers}
-use Rattle.go_tree.specs.GoTypes.Programs.{variable_headers}
+use Rattle.go_rules.specs.GoTypes.Programs.{Header, constants, variables, a_type_spec, a_func, Headed, header_names}
+use Rattle.go_rules.specs.GoTypes.Programs.{header_sound, names_in, all_headers, at_member, constant_headers}
+use Rattle.go_rules.specs.GoTypes.Programs.{variable_headers}
 use Rattle.typed_names.specs.declared.scopes.Scope.{Scope}
 use Rattle.typed_names.specs.Meanings.{Names}
 use Rattle.declared_types.specs.Headers.{IsFileOf}

@@ -6,9 +6,9 @@ use Rattle.go_tree.specs.declared.spans.Span.{Span}
 use Rattle.go_tree.specs.declared.files.ImportSpec.{ImportSpec}
 use Rattle.go_tree.specs.declared.files.ImportDecl.{ImportDecl}
 use Rattle.go_tree.specs.FileView.{import_spec_of, import_decl_of}
-use Rattle.go_tree.specs.declared.const_eval.consts.Const.{Const}
-use Rattle.go_tree.specs.ScopeNames.Means.{means, or_else}
-use Rattle.go_tree.specs.GoTypes.Programs.{Import, file_block}
+use Rattle.go_rules.specs.declared.const_eval.consts.Const.{Const}
+use Rattle.go_rules.specs.ScopeNames.Means.{means, or_else}
+use Rattle.go_rules.specs.GoTypes.Programs.{Import, file_block}
 use Rattle.pkg_graph.specs.Package as pure
 use Rattle.pkg_graph.specs.Package.{specs_in}
 use Rattle.pkg_graph.specs.declared.packages.Package.{Package}

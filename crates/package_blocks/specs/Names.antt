@@ -3,9 +3,9 @@
 use Rattle.std.specs.Prelude.{◌≡◌, ℕ, Bool, true, not, ◌&&◌, ◌||◌, List, [], ◌∷◌, ◌++◌}
 use Rattle.std.specs.Prelude.{length, map, Option, Some, is_some, nat_eq, if◌then◌else◌}
 use Rattle.go_tree.specs.declared.texts.NameAt.{NameAt}
-use Rattle.go_tree.specs.ScopeNames.Means.{is_blank, means}
-use Rattle.go_tree.specs.GoTypes.Answers.{is_among}
-use Rattle.go_tree.specs.GoTypes.Programs.{is_init}
+use Rattle.go_rules.specs.ScopeNames.Means.{is_blank, means}
+use Rattle.go_rules.specs.GoTypes.Answers.{is_among}
+use Rattle.go_rules.specs.GoTypes.Programs.{is_init}
 use Rattle.type_table.specs.TypeRelations.Environment.{Environment}
 use Rattle.typed_names.specs.declared.entities.Entity.{Entity}
 use Rattle.typed_names.specs.declared.entities.Entity.TheVariants.{Refused}

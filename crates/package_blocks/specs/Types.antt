@@ -3,8 +3,8 @@ use Rattle.std.specs.Prelude.{ℕ, List, [], ◌∷◌, Option, Some, None}
 use Rattle.go_tree.specs.declared.spans.Span.{Span}
 use Rattle.go_tree.specs.File.{TypeSpec}
 use Rattle.go_tree.specs.FileView.{type_spec_of}
-use Rattle.go_tree.specs.GoTypes.Answers.{and_also, given, only_if}
-use Rattle.go_tree.specs.GoTypes.Programs.{spec_of}
+use Rattle.go_rules.specs.GoTypes.Answers.{and_also, given, only_if}
+use Rattle.go_rules.specs.GoTypes.Programs.{spec_of}
 use Rattle.declared_types.specs.declared.headers.TypeHeader.{TypeHeader}
 use Rattle.package_blocks.specs.declared.headers.PackageHeader.{PackageHeader}
 use Rattle.package_blocks.specs.Headers.{header_of}

@@ -4,8 +4,8 @@
 
 ghost use Rattle.std.specs.Prelude.{◌≡◌, ◌<◌, [], ◌∷◌, map, length, OnOk};
 ghost use Rattle.go_tree.specs.FileView.{decl_of, func_of};
-ghost use Rattle.go_tree.specs.GoTypes.Programs as go;
-ghost use Rattle.go_tree.specs.GoTypes.Programs.{header_names};
+ghost use Rattle.go_rules.specs.GoTypes.Programs as go;
+ghost use Rattle.go_rules.specs.GoTypes.Programs.{header_names};
 ghost use Rattle.package_blocks.specs.Headers.{Adds, header_of};
 ghost use Rattle.package_blocks.specs.Names.{plain_names};
 

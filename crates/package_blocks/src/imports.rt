@@ -3,11 +3,11 @@
 ghost use Rattle.std.specs.Prelude.{◌≡◌, ◌<◌, ◌^◌, [], ◌∷◌, List, length, IfOk, OnOk, ℕ};
 ghost use Rattle.std.specs.Prelude.{if◌then◌else◌, is_some, ◌||◌};
 ghost use Rattle.go_tree.specs.FileView.{import_spec_of};
-ghost use Rattle.go_tree.specs.GoTypes.Programs as go;
+ghost use Rattle.go_rules.specs.GoTypes.Programs as go;
 ghost use Rattle.pkg_graph.specs.Members.{import_name, package_name};
 ghost use Rattle.run_rules.specs.Programs.{package_number};
-ghost use Rattle.go_tree.specs.ScopeNames.Means as scope;
-ghost use Rattle.go_tree.specs.ScopeNames.Means.{means};
+ghost use Rattle.go_rules.specs.ScopeNames.Means as scope;
+ghost use Rattle.go_rules.specs.ScopeNames.Means.{means};
 ghost use Rattle.typed_names.specs.Meanings.{block_at};
 ghost use Rattle.package_blocks.specs.Imports.{AddsImports, AreNumbers, IsFileBlock, linked_decls, linked_specs, views};
 ghost use Rattle.package_blocks.specs.Imports.{AddsImport};

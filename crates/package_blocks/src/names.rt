@@ -1,8 +1,8 @@
 //! Names in package blocks (Go specification, Package block; Uniqueness of identifiers).
 
 ghost use Rattle.std.specs.Prelude.{◌≡◌, ◌<◌, ◌||◌, [], ◌∷◌, not, is_some, length, IfOk, OnOk};
-ghost use Rattle.go_tree.specs.ScopeNames.Means as scope;
-ghost use Rattle.go_tree.specs.GoTypes.Programs as go;
+ghost use Rattle.go_rules.specs.ScopeNames.Means as scope;
+ghost use Rattle.go_rules.specs.GoTypes.Programs as go;
 ghost use Rattle.typed_names.specs.Meanings.{block_at};
 ghost use Rattle.package_blocks.specs.Names.{Declares, NamesFollow, may_stand, plain_names};
 

@@ -2,7 +2,7 @@
 
 ghost use Rattle.std.specs.Prelude.{◌≡◌, ◌<◌, ◌^◌, [], ℕ, List, Some, None, length, IfOk, OnOk};
 ghost use Rattle.std.specs.Prelude.{bytes_eq, if◌then◌else◌};
-ghost use Rattle.go_tree.specs.ScopeNames.Means.{means, or_else};
+ghost use Rattle.go_rules.specs.ScopeNames.Means.{means, or_else};
 ghost use Rattle.package_blocks.specs.Imports.{AreNumbers};
 
 use crate::names::copy_of;

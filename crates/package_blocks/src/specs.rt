@@ -5,8 +5,8 @@ ghost use Rattle.std.specs.Prelude.{◌≡◌, ◌<◌, map, length, OnOk, if◌
 ghost use Rattle.go_tree.specs.FileView.{type_spec_of};
 ghost use Rattle.go_tree.specs.View.{const_decl_of, const_spec_of, var_decl_of};
 ghost use Rattle.go_tree.specs.File.{types, values};
-ghost use Rattle.go_tree.specs.GoTypes.Bodies.{no_values};
-ghost use Rattle.go_tree.specs.GoTypes.Programs as go;
+ghost use Rattle.go_rules.specs.GoTypes.Bodies.{no_values};
+ghost use Rattle.go_rules.specs.GoTypes.Programs as go;
 ghost use Rattle.package_blocks.specs.Headers.{Adds, repeated_type, repeated_values};
 
 use crate::decls::{add_header, add_named};

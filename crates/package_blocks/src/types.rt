@@ -1,9 +1,9 @@
 //! The headers of types (Go specification, Type declarations).
 
 ghost use Rattle.std.specs.Prelude.{◌≡◌, ◌++◌, [], List, map, IfOk, OnOk};
-ghost use Rattle.go_tree.specs.GoTypes.Answers.{and_also};
+ghost use Rattle.go_rules.specs.GoTypes.Answers.{and_also};
 ghost use Rattle.go_tree.specs.declared.spans.Span.{Span};
-ghost use Rattle.go_tree.specs.GoTypes.Programs.{headed};
+ghost use Rattle.go_rules.specs.GoTypes.Programs.{headed};
 ghost use Rattle.pkg_graph.specs.Package.{Package};
 ghost use Rattle.run_rules.specs.Programs.{linked};
 ghost use Rattle.typed_names.specs.declared.scopes.Scope.{Scope};

@@ -6,9 +6,9 @@ use Rattle.std.specs.Prelude.{None}
 use Rattle.go_tree.specs.declared.spans.Span.{Span}
 use Rattle.go_tree.specs.Tree.{NameAt, const_decl, var_decl, ValueSpecs, no_specs, spec}
 use Rattle.go_tree.specs.File.{ImportSpec, Receiver, Decl, values, types, func, File}
-use Rattle.go_tree.specs.declared.scope_names.names.FileNames.{FileNames}
-use Rattle.go_tree.specs.ScopeNames.Means.{Environment, binding, numbered}
-use Rattle.go_tree.specs.ScopeNames.Occurrences.{Occurrence, decls_uses}
+use Rattle.go_rules.specs.declared.scope_names.names.FileNames.{FileNames}
+use Rattle.go_rules.specs.ScopeNames.Means.{Environment, binding, numbered}
+use Rattle.go_rules.specs.ScopeNames.Occurrences.{Occurrence, decls_uses}
 use Rattle.pkg_graph.specs.Package.{SourceTree, Package, import_specs}
 
 -- what a use of a name means
@@ -85,7 +85,7 @@ module _ {S : Type 0} where
   abbrev pub outside : List (Package S) → ℕ → Package S → File S → Environment Target
   outside ps k p file =
       numbered imported 0 (map (import_name ps) (import_specs file))
-      ++ package_block k p ++ numbered predeclared 0 Rattle.go_tree.specs.ScopeNames.Means.predeclared
+      ++ package_block k p ++ numbered predeclared 0 Rattle.go_rules.specs.ScopeNames.Means.predeclared
 
 -- what the calls of scope_names are told of a file
 abbrev pub names_of_file : List (Package Span) → Package Span → File Span → FileNames

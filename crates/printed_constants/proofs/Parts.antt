@@ -4,8 +4,8 @@ use Rattle.go_tree.specs.declared.exprs.Rest.TheVariants.{Plain}
 use Rattle.go_tree.specs.Tree.{Param, Expr, selector, call, Exprs, no_exprs, expr_and, eval, Stmts, ValueSpecs}
 use Rattle.go_tree.specs.File.{Receiver, Func, Decl, File}
 use Rattle.pkg_graph.specs.Package.{Package}
-use Rattle.go_tree.specs.GoTypes.Typing.{parts, all_parts}
-use Rattle.go_tree.specs.ScopeNames.Scopes.{not_blank, param_names}
+use Rattle.go_rules.specs.GoTypes.Typing.{parts, all_parts}
+use Rattle.go_rules.specs.ScopeNames.Scopes.{not_blank, param_names}
 use Rattle.run_rules.specs.Surroundings.{Use, other, called, alone, Slot, a_slot, Place, Seen, seen, seen_stmt, alike, head_use, later_uses, arg_uses, value_use, inner_slot, in_slot, callee_place, comma_slot, after_stmt, at_stmt, in_constant}
 use Rattle.run_rules.specs.Places.{expr_seen, all_seen, stmt_seen, stmts_seen, params_seen, sig_seen}
 use Rattle.run_rules.specs.Programs.{top_place, body_place, with_receiver, constants_at_top, receiver_seen, decl_seen}

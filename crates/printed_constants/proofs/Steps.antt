@@ -7,8 +7,8 @@ use Rattle.go_tree.specs.declared.exprs.Rest.TheVariants.{Plain}
 use Rattle.go_tree.specs.Tree.{Param, Expr, ident, int_lit, selector, call, Exprs, no_exprs, eval, Stmts, ValueSpecs}
 use Rattle.go_tree.specs.File.{Receiver, Decl, File}
 use Rattle.pkg_graph.specs.Package.{SourceTree, Package}
-use Rattle.go_tree.specs.GoTypes.Answers.{otherwise}
-use Rattle.go_tree.specs.GoTypes.Typing.{parts, all_parts}
+use Rattle.go_rules.specs.GoTypes.Answers.{otherwise}
+use Rattle.go_rules.specs.GoTypes.Typing.{parts, all_parts}
 use Rattle.run_rules.specs.Surroundings.{Use, other, called, alone, a_slot, Place, alike, head_use, later_uses, arg_uses, value_use, inner_slot, in_slot, callee_place, comma_slot, after_stmt, at_stmt, in_constant}
 use Rattle.run_rules.specs.Programs.{top_place, body_place}
 use Rattle.run_rules.specs.Rewriting.{Changes, new_params, new_expr, new_all, new_stmts}

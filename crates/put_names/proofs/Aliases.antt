@@ -6,7 +6,7 @@ use Rattle.go_tree.specs.Tree.{NameAt, TypeExpr, named, Expr, ident, selector, E
 use Rattle.go_tree.specs.File.{TypeSpec, Decl, values, types, func}
 use Rattle.go_layout.specs.LayoutLaws.Formed.{FormedType}
 use Rattle.pkg_graph.specs.Package.{Package}
-use Rattle.go_tree.specs.GoTypes.Answers.{given}
+use Rattle.go_rules.specs.GoTypes.Answers.{given}
 use Rattle.run_rules.specs.FormTrees.{TypeForm, Form, as_expr, type_expr}
 use Rattle.run_rules.specs.Naming.{Names, unnamed, member_qualifier, qualified, qualified_or}
 use Rattle.run_rules.specs.Programs.{top_place}

@@ -8,7 +8,7 @@ use Rattle.go_layout.specs.LayoutLaws.Formed.{IsName}
 use Rattle.run_rules.specs.ImportRules.Needs.{serving, avoided}
 use Rattle.pkg_graph.specs.Package.{SourceTree, Package}
 use Rattle.pkg_graph.specs.Members.{Target}
-use Rattle.go_tree.specs.GoTypes.Answers.{given}
+use Rattle.go_rules.specs.GoTypes.Answers.{given}
 use Rattle.run_rules.specs.FormTrees.{FormKind, Form, as_expr, form_identifiers}
 use Rattle.run_rules.specs.Naming.{Names, unnamed, new_first, unnamed_in, Named, name_added, names_by, fresh_name, package_path, own_name, names_here, environment_here, added_import, named_package, named_packages}
 use Rattle.run_rules.specs.Obstacles.{Obstacle}

@@ -16,7 +16,7 @@ use Rattle.go_layout.specs.Parens.{needs_parens, header_within, closed_within}
 use Rattle.go_layout.specs.TreeLayout.{expr_layout}
 use Rattle.go_layout.specs.LayoutLaws.Formed.{IsName, FormedOperand}
 use Rattle.go_layout.specs.LayoutLaws.Laid.{is_indent}
-use Rattle.go_tree.specs.GoTypes.Answers.{meets}
+use Rattle.go_rules.specs.GoTypes.Answers.{meets}
 use Rattle.run_rules.specs.ImportRules.Removed.{line_start}
 use Rattle.run_rules.specs.Surroundings.{Slot, is_bracketed}
 use Rattle.run_rules.specs.FormTrees.{Form, as_expr}

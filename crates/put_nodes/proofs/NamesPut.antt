@@ -9,7 +9,7 @@ use Rattle.go_tree.specs.FileBare.{bare_file}
 use Rattle.go_layout.specs.Layouts.{Layout}
 use Rattle.go_layout.specs.Parens.{ends_in_integer}
 use Rattle.go_layout.specs.LayoutLaws.Formed.{is_call}
-use Rattle.go_tree.specs.ScopeNames.Scopes.{expr_span}
+use Rattle.go_rules.specs.ScopeNames.Scopes.{expr_span}
 use Rattle.run_rules.specs.Surroundings.{Use, Slot, Place}
 use Rattle.run_rules.specs.FormTrees.{as_expr}
 use Rattle.run_rules.specs.Inlining.{ReadsAs}

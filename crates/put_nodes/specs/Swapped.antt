@@ -4,8 +4,8 @@ use Rattle.std.specs.Prelude.{◌≡◌, ◌≤◌, ℕ, Bool, true, false, not,
 use Rattle.go_tree.specs.Tree.{Expr, ident}
 use Rattle.go_tree.specs.File.{TypeSpec, Decl, values, types, func}
 use Rattle.go_layout.specs.LayoutLaws.Formed.{is_call, FormedType, FormedStmt, FormedStmts}
-use Rattle.go_tree.specs.ScopeNames.Means.{is_blank}
-use Rattle.go_tree.specs.GoTypes.Entities.{is_declared_here}
+use Rattle.go_rules.specs.ScopeNames.Means.{is_blank}
+use Rattle.go_rules.specs.GoTypes.Entities.{is_declared_here}
 use Rattle.run_rules.specs.Surroundings.{Use, called, deferred_call, Slot, a_slot, Place, Seen, seen, seen_type}
 use Rattle.run_rules.specs.Surroundings.{seen_stmt}
 use Rattle.run_rules.specs.Respanned.{expr_with}

@@ -1,10 +1,10 @@
 //! Whether the header of a type is refused (Go specification, Type declarations; Uniqueness of identifiers).
 
 ghost use Rattle.std.specs.Prelude.{◌≡◌, List, map, IfOk};
-ghost use Rattle.go_tree.specs.declared.const_eval.consts.Const.{Const};
+ghost use Rattle.go_rules.specs.declared.const_eval.consts.Const.{Const};
 ghost use Rattle.go_tree.specs.declared.spans.Span.{Span};
 ghost use Rattle.go_tree.specs.FileView.{type_spec_of};
-ghost use Rattle.go_tree.specs.GoTypes.Programs.{Headed};
+ghost use Rattle.go_rules.specs.GoTypes.Programs.{Headed};
 ghost use Rattle.typed_names.specs.Meanings.{world_at};
 ghost use Rattle.type_table.specs.ValueTypes.ValueTypes.{HasValueTypes};
 ghost use Rattle.typed_names.specs.TypeExprs.Grown.{TypesGrown};

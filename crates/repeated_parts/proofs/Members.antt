@@ -6,7 +6,7 @@ use Rattle.go_tree.specs.declared.stmts.ConstSpec.{ConstSpec}
 use Rattle.go_tree.specs.declared.exprs.Expr as code
 use Rattle.go_tree.specs.Lists.{exprs_from, specs_from}
 use Rattle.go_tree.specs.View.{expr_of, exprs_of, type_of, const_spec_of}
-use Rattle.go_tree.specs.GoTypes.Bodies.{no_values}
+use Rattle.go_rules.specs.GoTypes.Bodies.{no_values}
 use Rattle.go_tree.specs.declared.spans.Span.{Span}
 use Rattle.repeated_parts.specs.LiteralTypes.Tables.{TypeNumbers}
 use Rattle.repeated_parts.specs.Flags.{Flags, is_repeated, flags_exprs, flags_type_option, flags_group}

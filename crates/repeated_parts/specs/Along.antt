@@ -2,7 +2,7 @@
 -- specification, Constant declarations; Operands; Calls; Types; Composite literals; Short variable declarations).
 use Rattle.std.specs.Prelude.{◌≡◌, ℕ, Bool, true, false, not, List, [], ◌∷◌, ◌++◌, map, Some}
 use Rattle.go_tree.specs.Tree.{NameAt, TypeExpr, Expr, ident, Stmt}
-use Rattle.go_tree.specs.GoTypes.Answers.{is_empty}
+use Rattle.go_rules.specs.GoTypes.Answers.{is_empty}
 use Rattle.run_rules.specs.Surroundings.{Use, stored, Place, Seen, seen, seen_type, seen_stmt, is_old}
 use Rattle.run_rules.specs.Sites.{an_expr, named_in}
 use Rattle.member_uses.specs.PossibleUses.Candidates.{Candidate, plain_part}

@@ -14,7 +14,7 @@ use Rattle.go_tree.specs.Tree.{stmt_and, StmtOption, no_stmt, some_stmt, BlockOp
 use Rattle.go_tree.specs.Tree.{nothing, assigns, defines, Arms, no_arms, arm, Cases, no_cases, case, ValueSpecs}
 use Rattle.go_tree.specs.Tree.{no_specs, spec}
 use Rattle.go_tree.specs.File.{TypeSpec, Receiver, Func, Decl, values, types, func}
-use Rattle.go_tree.specs.GoTypes.Bodies.{no_values}
+use Rattle.go_rules.specs.GoTypes.Bodies.{no_values}
 use Rattle.repeated_parts.specs.LiteralTypes.Tables.{TypeNumbers}
 use Rattle.repeated_parts.specs.LiteralTypes.Literals.{Known, before_braces, names_fields, in_elements, in_keys}
 

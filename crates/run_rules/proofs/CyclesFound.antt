@@ -2,7 +2,7 @@
 use Rattle.std.proofs.Common.{◌≡◌, ◌⊎◌, ◌↔◌, inl, inr, ℕ, zero, suc, ◌<◌, ◌≤◌, Bool, true, false, true≢false, ◌&&◌, ◌||◌, nat_eq, length, List, [], ◌∷◌, ◌++◌, Option, Some, None, if◌then◌else◌, refl, sym, subst, ◌∙◌, arith}
 use Rattle.std.proofs.lemmas.Bool.{eqb-true, eq-eqb, or_left, or_right, or_parts}
 use Rattle.pkg_graph.specs.Package.{Package}
-use Rattle.go_tree.specs.GoTypes.Answers.{meets}
+use Rattle.go_rules.specs.GoTypes.Answers.{meets}
 use Rattle.run_rules.specs.Sites.{MarkRef, same_mark, is_among_marks, Where, Site, where_is, inlinable, is_function, parts_of, sites_among}
 use Rattle.run_rules.specs.Cycles.{Chain, last_link, more_links, OnCycle, GivesWay, without_marks, function_marks, leads_to, LeadsTo, all_lead_to, reached, is_recursive}
 use Rattle.run_rules.proofs.UsesMarked.{AllUses, among-uses}

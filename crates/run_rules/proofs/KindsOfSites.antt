@@ -15,7 +15,7 @@ use Rattle.go_layout.proofs.Texts.{reading}
 use Rattle.run_rules.proofs.CaseTools.{read_at}
 use Rattle.std.specs.Prelude.{map, Option}
 use Rattle.run_rules.specs.ImportRules.Removed.{same_span}
-use Rattle.go_tree.specs.GoTypes.Answers.{given}
+use Rattle.go_rules.specs.GoTypes.Answers.{given}
 use Rattle.run_rules.specs.Sites.{Site, SiteKind, Operand, Statement, Return, RightSide, Deferred, Header, ConstName, TypeName, inlinable, kind_of, sites}
 
 abbrev kinds_module_f0 : File Span

@@ -7,9 +7,9 @@ use Rattle.std.proofs.lemmas.List.{append_cancel_left, length-append}
 use Rattle.std.proofs.lemmas.List.Folds.{list_any-append}
 use Rattle.std.proofs.lemmas.Fmt.{decimal_is_IsNumeral}
 use Rattle.go_tree.specs.File.{File}
-use Rattle.go_tree.specs.ScopeNames.Identifiers.{identifiers}
-use Rattle.go_tree.specs.ScopeNames.Means.{predeclared}
-use Rattle.go_tree.specs.ScopeNames.Fresh.{candidate, is_new, IsFirst, IsFresh}
+use Rattle.go_rules.specs.ScopeNames.Identifiers.{identifiers}
+use Rattle.go_rules.specs.ScopeNames.Means.{predeclared}
+use Rattle.go_rules.specs.ScopeNames.Fresh.{candidate, is_new, IsFirst, IsFresh}
 use Rattle.pkg_graph.specs.Package.{Package}
 use Rattle.run_rules.specs.declared.import_rules.new_import.Needed.{Needed}
 use Rattle.run_rules.specs.ImportRules.Needs.{serving, avoided, IsNeeded, there, new}

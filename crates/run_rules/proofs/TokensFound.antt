@@ -9,7 +9,7 @@ use Rattle.go_tree.specs.GoWords.Tokens.{TokensOf, tokens_from, comments_from, a
 use Rattle.go_tree.specs.GoWords.Tokens.Pieces.{PieceKind, Piece, CutsTo}
 use Rattle.directive_scan.specs.Pieces.{piece_of, Exact}
 use Rattle.directive_scan.proofs.PieceLemmas.{piece_exact}
-use Rattle.go_tree.specs.GoTypes.Answers.{given}
+use Rattle.go_rules.specs.GoTypes.Answers.{given}
 
 abbrev the_piece : PieceKind × ℕ → List ℕ → Piece
 the_piece x text = record { kind = x.0; word = take x.1 text }

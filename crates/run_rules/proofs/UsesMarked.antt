@@ -5,7 +5,7 @@ use Rattle.std.proofs.lemmas.Option.{same_Some}
 use Rattle.go_tree.specs.Tree.{TypeExpr, named, pointer, slice_type, map_type, struct_type, Expr, ident, selector, call}
 use Rattle.go_tree.specs.File.{Decl}
 use Rattle.pkg_graph.specs.Package.{SourceTree, Package}
-use Rattle.go_tree.specs.GoTypes.Answers.{given, meets}
+use Rattle.go_rules.specs.GoTypes.Answers.{given, meets}
 use Rattle.run_rules.specs.Surroundings.{Use, other, Place, Seen, seen, seen_type, seen_stmt}
 use Rattle.run_rules.specs.Programs.{numbered, in_dependency_order, decl_seen}
 use Rattle.run_rules.specs.Sites.{MarkRef, is_among_marks, Where, Inlinable, a_constant, an_alias, a_function, Part, an_expr, a_type_part, Site, named_in, is_function, is_free_function, not_function, inlinable, name_mark, qualifier, member_of, qualified_mark, is_this_method, find_marked_method, method_home, selected_method, marked, marked_as, called_mark, expr_mark, type_mark, site_by, type_sites, site_here, sites_among, decls_sites, files_sites, packages_sites, sites}

@@ -12,17 +12,17 @@ use Rattle.go_tree.specs.Tree.{break_, continue_, inner, if_, for_, range_, swit
 use Rattle.go_tree.specs.Tree.{stmt_and, StmtOption, no_stmt, some_stmt, BlockOption, no_block, some_block, RangeLeft}
 use Rattle.go_tree.specs.Tree.{nothing, assigns, defines, Arms, no_arms, arm, Cases, no_cases, case, ValueSpecs}
 use Rattle.go_tree.specs.Tree.{no_specs, spec}
-use Rattle.go_tree.specs.ScopeNames.Means.{is_blank}
+use Rattle.go_rules.specs.ScopeNames.Means.{is_blank}
 use Rattle.order_hazards.specs.declared.facts.Item.{Item}
 use Rattle.order_hazards.specs.declared.facts.Item.TheVariants.{Param, Read, Fail, Write, Stop}
-use Rattle.go_tree.specs.GoTypes.Answers.{given, meets}
-use Rattle.go_tree.specs.GoTypes.Types.{GoType}
-use Rattle.go_tree.specs.GoTypes.Defined.{under}
-use Rattle.go_tree.specs.GoTypes.Entities.{Cap, Len, Entity, Env, meaning, defined_in}
-use Rattle.go_tree.specs.GoTypes.TypeNames.{type_meant}
-use Rattle.go_tree.specs.GoTypes.Operands.{Operand, a_type, a_builtin}
-use Rattle.go_tree.specs.GoTypes.Literals.{is_struct, key_type, inner_type, literal_type}
-use Rattle.go_tree.specs.GoTypes.Typing.{parts}
+use Rattle.go_rules.specs.GoTypes.Answers.{given, meets}
+use Rattle.go_rules.specs.GoTypes.Types.{GoType}
+use Rattle.go_rules.specs.GoTypes.Defined.{under}
+use Rattle.go_rules.specs.GoTypes.Entities.{Cap, Len, Entity, Env, meaning, defined_in}
+use Rattle.go_rules.specs.GoTypes.TypeNames.{type_meant}
+use Rattle.go_rules.specs.GoTypes.Operands.{Operand, a_type, a_builtin}
+use Rattle.go_rules.specs.GoTypes.Literals.{is_struct, key_type, inner_type, literal_type}
+use Rattle.go_rules.specs.GoTypes.Typing.{parts}
 use Rattle.run_rules.specs.Surroundings.{Place, is_logic, local_at, after_stmt, after_first, block, ranged, in_literal}
 use Rattle.run_rules.specs.Surroundings.{after_variables}
 use Rattle.run_rules.specs.Classes.{is_variable, is_constant, is_map, is_text, is_string, is_bytes, is_byte_list}

@@ -8,9 +8,9 @@ use Rattle.go_tree.specs.declared.operators.UnOp.TheVariants.{Address}
 use Rattle.go_tree.specs.Tree.{NameAt, TypeExpr, Param, Expr, ident, int_lit, rune_lit, str_lit, selector, call, unary}
 use Rattle.go_tree.specs.Tree.{star, Exprs, no_exprs, expr_and}
 use Rattle.go_tree.specs.File.{Func}
-use Rattle.go_tree.specs.ScopeNames.FreeNames.{names_of, free_expr, free_type}
-use Rattle.go_tree.specs.ScopeNames.Means.{is_blank, binding}
-use Rattle.go_tree.specs.ScopeNames.Scopes.{not_blank, param_names}
+use Rattle.go_rules.specs.ScopeNames.FreeNames.{names_of, free_expr, free_type}
+use Rattle.go_rules.specs.ScopeNames.Means.{is_blank, binding}
+use Rattle.go_rules.specs.ScopeNames.Scopes.{not_blank, param_names}
 use Rattle.pkg_graph.specs.Package.{Package}
 use Rattle.order_hazards.specs.declared.facts.Item.{Item}
 use Rattle.order_hazards.specs.declared.facts.Item.TheVariants.{Write}
@@ -18,15 +18,15 @@ use Rattle.order_hazards.specs.declared.facts.ParamRow.{ParamRow}
 use Rattle.order_hazards.specs.Items.{is_write}
 use Rattle.param_choice.specs.declared.table.CallTable.{CallTable}
 use Rattle.param_choice.specs.Chosen.{has}
-use Rattle.go_tree.specs.GoTypes.Answers.{given, meets, otherwise, is_among}
-use Rattle.go_tree.specs.GoTypes.Types.{GoType, FuncType, untyped_nil, base_of, is_untyped}
-use Rattle.go_tree.specs.GoTypes.Identical.{identical}
-use Rattle.go_tree.specs.GoTypes.Defined.{methods}
-use Rattle.go_tree.specs.GoTypes.Entities.{Recover, run, Entity, builtin, Env, Binds, meaning, defined_in}
-use Rattle.go_tree.specs.GoTypes.Operands.{Operand, several, Typed, typed}
-use Rattle.go_tree.specs.GoTypes.Primary.{find_method}
-use Rattle.go_tree.specs.GoTypes.Typing.{parts, all_parts, stmts}
-use Rattle.go_tree.specs.GoTypes.Recorded.{recorded_stmts, hardens}
+use Rattle.go_rules.specs.GoTypes.Answers.{given, meets, otherwise, is_among}
+use Rattle.go_rules.specs.GoTypes.Types.{GoType, FuncType, untyped_nil, base_of, is_untyped}
+use Rattle.go_rules.specs.GoTypes.Identical.{identical}
+use Rattle.go_rules.specs.GoTypes.Defined.{methods}
+use Rattle.go_rules.specs.GoTypes.Entities.{Recover, run, Entity, builtin, Env, Binds, meaning, defined_in}
+use Rattle.go_rules.specs.GoTypes.Operands.{Operand, several, Typed, typed}
+use Rattle.go_rules.specs.GoTypes.Primary.{find_method}
+use Rattle.go_rules.specs.GoTypes.Typing.{parts, all_parts, stmts}
+use Rattle.go_rules.specs.GoTypes.Recorded.{recorded_stmts, hardens}
 use Rattle.run_rules.specs.Surroundings.{Use, stored, updated, addressed, other, Place, Seen, seen, seen_type}
 use Rattle.run_rules.specs.Surroundings.{seen_stmt, local_at}
 use Rattle.run_rules.specs.Places.{expr_seen, stmts_seen}
@@ -36,7 +36,7 @@ use Rattle.run_rules.specs.Choice.{best}
 use Rattle.run_rules.specs.Conversions.{chosen_entity}
 use Rattle.run_rules.specs.Programs.{numbered, params_of, param_types, type_of_func, body_place}
 use Rattle.run_rules.specs.Sites.{Where, is_deferred}
-use Rattle.go_tree.specs.GoTypes.Bodies.{is_body}
+use Rattle.go_rules.specs.GoTypes.Bodies.{is_body}
 
 -- the blank identifier
 abbrev pub blank : List ℕ

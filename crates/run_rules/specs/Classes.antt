@@ -9,23 +9,23 @@ use Rattle.go_tree.specs.declared.operators.BinOp.TheVariants.{Div, Rem, Shl, Sh
 use Rattle.go_tree.specs.Tree.{Expr, ident, int_lit, rune_lit, str_lit, composite, selector, index, slice, call}
 use Rattle.go_tree.specs.Tree.{func_lit, type_operand, unary, binary, star, Exprs, no_exprs, expr_and, Elems, no_elems}
 use Rattle.go_tree.specs.Tree.{elem, Value, plain, braced}
-use Rattle.go_tree.specs.declared.const_eval.kinds.Kind.{Kind}
-use Rattle.go_tree.specs.declared.const_eval.kinds.Kind.TheVariants as kind
-use Rattle.go_tree.specs.ConstEval.Exact.{is_text_kind}
-use Rattle.go_tree.specs.ScopeNames.FreeNames.{names_of}
+use Rattle.go_rules.specs.declared.const_eval.kinds.Kind.{Kind}
+use Rattle.go_rules.specs.declared.const_eval.kinds.Kind.TheVariants as kind
+use Rattle.go_rules.specs.ConstEval.Exact.{is_text_kind}
+use Rattle.go_rules.specs.ScopeNames.FreeNames.{names_of}
 use Rattle.order_hazards.specs.declared.facts.Class.{Class}
 use Rattle.order_hazards.specs.declared.facts.Class.TheVariants.{Steady, Looks, Acts}
-use Rattle.go_tree.specs.GoTypes.Answers.{given, meets, is_among}
-use Rattle.go_tree.specs.GoTypes.Types.{GoType, base_of, element_of, map_parts, basic_kind, same_kind}
-use Rattle.go_tree.specs.GoTypes.Defined.{under, methods}
-use Rattle.go_tree.specs.GoTypes.Entities.{Cap, Len, exact, Entity, variable, Env, meaning, defined_in}
-use Rattle.go_tree.specs.GoTypes.TypeNames.{type_meant}
-use Rattle.go_tree.specs.GoTypes.Operands.{Operand, value, a_type, a_builtin, typed, kind_passes}
-use Rattle.go_tree.specs.GoTypes.Primary.{find_method}
-use Rattle.go_tree.specs.GoTypes.Literals.{is_struct}
-use Rattle.go_tree.specs.GoTypes.Typing.{parts}
+use Rattle.go_rules.specs.GoTypes.Answers.{given, meets, is_among}
+use Rattle.go_rules.specs.GoTypes.Types.{GoType, base_of, element_of, map_parts, basic_kind, same_kind}
+use Rattle.go_rules.specs.GoTypes.Defined.{under, methods}
+use Rattle.go_rules.specs.GoTypes.Entities.{Cap, Len, exact, Entity, variable, Env, meaning, defined_in}
+use Rattle.go_rules.specs.GoTypes.TypeNames.{type_meant}
+use Rattle.go_rules.specs.GoTypes.Operands.{Operand, value, a_type, a_builtin, typed, kind_passes}
+use Rattle.go_rules.specs.GoTypes.Primary.{find_method}
+use Rattle.go_rules.specs.GoTypes.Literals.{is_struct}
+use Rattle.go_rules.specs.GoTypes.Typing.{parts}
 use Rattle.run_rules.specs.Surroundings.{Place, Seen, seen, addressed, called, local_at}
-use Rattle.go_tree.specs.GoTypes.Statements.{package_before}
+use Rattle.go_rules.specs.GoTypes.Statements.{package_before}
 
 -- the later of two classes
 abbrev pub worse : Class → Class → Class

@@ -5,12 +5,12 @@
 -- constant, where the type is `bool`.
 use Rattle.std.specs.Prelude.{Bool, true, false, not, ◌&&◌, ◌||◌, [], ◌∷◌, Option, Some, None}
 use Rattle.std.specs.Prelude.{if◌then◌else◌}
-use Rattle.go_tree.specs.declared.const_eval.kinds.Kind.TheVariants as kind
-use Rattle.go_tree.specs.GoTypes.Answers.{meets}
-use Rattle.go_tree.specs.GoTypes.Types.{GoType, basic, is_nil, is_untyped, untyped_kind, same_kind}
-use Rattle.go_tree.specs.GoTypes.Identical.{identical}
-use Rattle.go_tree.specs.GoTypes.Entities.{run, exact, shift, elsewhere, Entity, variable, stand_in}
-use Rattle.go_tree.specs.GoTypes.Operands.{Typed, default_type}
+use Rattle.go_rules.specs.declared.const_eval.kinds.Kind.TheVariants as kind
+use Rattle.go_rules.specs.GoTypes.Answers.{meets}
+use Rattle.go_rules.specs.GoTypes.Types.{GoType, basic, is_nil, is_untyped, untyped_kind, same_kind}
+use Rattle.go_rules.specs.GoTypes.Identical.{identical}
+use Rattle.go_rules.specs.GoTypes.Entities.{run, exact, shift, elsewhere, Entity, variable, stand_in}
+use Rattle.go_rules.specs.GoTypes.Operands.{Typed, default_type}
 use Rattle.run_rules.specs.Surroundings.{Use, into, beside, whole, returned}
 
 -- the type of the other operand

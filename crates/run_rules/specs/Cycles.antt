@@ -3,7 +3,7 @@
 use Rattle.std.specs.Prelude.{◌≡◌, ℕ, zero, suc, ◌⊎◌, Bool, true, List, [], ◌∷◌, ◌++◌, length}
 use Rattle.std.specs.Prelude.{Some, None, if◌then◌else◌}
 use Rattle.pkg_graph.specs.Package.{Package}
-use Rattle.go_tree.specs.GoTypes.Answers.{meets}
+use Rattle.go_rules.specs.GoTypes.Answers.{meets}
 use Rattle.run_rules.specs.Sites.{MarkRef, is_among_marks, Site, where_is, inlinable, is_function, parts_of}
 use Rattle.run_rules.specs.Sites.{sites_among}
 

@@ -4,11 +4,11 @@ use Rattle.std.specs.Prelude.{ℕ, Bool, true, false, ◌&&◌, List, [], ◌∷
 use Rattle.go_tree.specs.declared.exprs.Rest.TheVariants.{Plain}
 use Rattle.go_tree.specs.Tree.{NameAt, TypeExpr, named, pointer, Expr, ident, selector, call, type_operand, star}
 use Rattle.go_tree.specs.Tree.{no_exprs, expr_and, Stmt, eval, return_, Stmts, no_stmts, stmt_and}
-use Rattle.go_tree.specs.ScopeNames.Identifiers.{expr_identifiers, stmts_identifiers, type_identifiers}
+use Rattle.go_rules.specs.ScopeNames.Identifiers.{expr_identifiers, stmts_identifiers, type_identifiers}
 use Rattle.pkg_graph.specs.Package.{Package}
-use Rattle.go_tree.specs.GoTypes.Answers.{given}
-use Rattle.go_tree.specs.GoTypes.Types.{GoType}
-use Rattle.go_tree.specs.GoTypes.Identical.{identical}
+use Rattle.go_rules.specs.GoTypes.Answers.{given}
+use Rattle.go_rules.specs.GoTypes.Types.{GoType}
+use Rattle.go_rules.specs.GoTypes.Identical.{identical}
 use Rattle.run_rules.specs.Surroundings.{Use, returned, alone, Place}
 use Rattle.run_rules.specs.Rewriting.{Changes}
 use Rattle.run_rules.specs.Programs.{top_place}

@@ -6,18 +6,18 @@ use Rattle.std.specs.List.{count_by, list_any, list_all}
 use Rattle.go_tree.specs.declared.exprs.Rest.TheVariants.{Plain}
 use Rattle.go_tree.specs.Tree.{NameAt, TypeExpr, Param, Expr, ident, selector, call, func_lit, Exprs, no_exprs}
 use Rattle.go_tree.specs.Tree.{expr_and, Stmt, eval, assign, define, inner, return_, label, Stmts, stmt_and}
-use Rattle.go_tree.specs.declared.const_eval.consts.Const.{Const}
-use Rattle.go_tree.specs.ScopeNames.FreeNames.{params_names, free_expr}
-use Rattle.go_tree.specs.ScopeNames.Scopes.{expr_span}
+use Rattle.go_rules.specs.declared.const_eval.consts.Const.{Const}
+use Rattle.go_rules.specs.ScopeNames.FreeNames.{params_names, free_expr}
+use Rattle.go_rules.specs.ScopeNames.Scopes.{expr_span}
 use Rattle.pkg_graph.specs.Package.{Package}
 use Rattle.param_choice.specs.Chosen.{has}
-use Rattle.go_tree.specs.GoTypes.Answers.{given, meets, is_among, is_empty}
-use Rattle.go_tree.specs.GoTypes.Types.{GoType}
-use Rattle.go_tree.specs.GoTypes.Entities.{exact, elsewhere, Entity, variable, stand_in, Env}
-use Rattle.go_tree.specs.GoTypes.Operands.{Operand, several, Typed, typed}
-use Rattle.go_tree.specs.GoTypes.Primary.{stands_alone}
-use Rattle.go_tree.specs.GoTypes.Typing.{parts, stmt, is_call}
-use Rattle.go_tree.specs.GoTypes.Recorded.{recorded_stmt, hardens}
+use Rattle.go_rules.specs.GoTypes.Answers.{given, meets, is_among, is_empty}
+use Rattle.go_rules.specs.GoTypes.Types.{GoType}
+use Rattle.go_rules.specs.GoTypes.Entities.{exact, elsewhere, Entity, variable, stand_in, Env}
+use Rattle.go_rules.specs.GoTypes.Operands.{Operand, several, Typed, typed}
+use Rattle.go_rules.specs.GoTypes.Primary.{stands_alone}
+use Rattle.go_rules.specs.GoTypes.Typing.{parts, stmt, is_call}
+use Rattle.go_rules.specs.GoTypes.Recorded.{recorded_stmt, hardens}
 use Rattle.run_rules.specs.Surroundings.{Use, whole, returned, deferred_call, other, Place, Seen, seen, seen_stmt}
 use Rattle.run_rules.specs.Surroundings.{Around, local_at}
 use Rattle.run_rules.specs.Rewriting.{Changes, new_expr, new_stmt, new_stmts, new_params}
@@ -28,7 +28,7 @@ use Rattle.run_rules.specs.Calls.{Given, Call, blank, param_name, declared_place
 use Rattle.run_rules.specs.Calls.{start, func_type_is, all_params, body_seen, spread_call, args, given_params}
 use Rattle.run_rules.specs.Calls.{arg_typed, start_with, bound_params}
 use Rattle.run_rules.specs.Naming.{Names, type_there}
-use Rattle.go_tree.specs.GoTypes.Bodies.{has_names}
+use Rattle.go_rules.specs.GoTypes.Bodies.{has_names}
 use Rattle.run_rules.specs.FormTrees.{FormKind, ConstForm, TypeForm, ExprForm, BlockForm, TailForm, LiteralForm, Form}
 use Rattle.run_rules.specs.FormTrees.{as_expr, as_dropped, as_block, hole, is_statement, in_list, returned_types}
 use Rattle.run_rules.specs.FormTrees.{all_identical, only_one, conversion, a_name, one_expr, top, keep_span, keep_type}

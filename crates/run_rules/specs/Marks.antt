@@ -12,11 +12,11 @@ use Rattle.pkg_graph.specs.Members.{decl_names, names_of_file}
 use Rattle.directive_scan.specs.declared.mark_types.Mark.{Mark}
 use Rattle.directive_scan.specs.declared.mark_types.BadMark.{BadMark}
 use Rattle.directive_scan.specs.Marked.{good_marks, bad_marks}
-use Rattle.go_tree.specs.GoTypes.Answers.{given, otherwise}
+use Rattle.go_rules.specs.GoTypes.Answers.{given, otherwise}
 use Rattle.run_rules.specs.Programs.{numbered, world, headed_func}
 use Rattle.run_rules.specs.Sites.{MarkRef, Where, Inlinable, a_function, where_is, inlinable, name_of}
 use Rattle.run_rules.specs.Texts.{FileText}
-use Rattle.go_tree.specs.GoTypes.MethodDeclarations.{receiver_type}
+use Rattle.go_rules.specs.GoTypes.MethodDeclarations.{receiver_type}
 
 -- ---- full names: the import path, a dot and the name; for a method the type's name and a dot before it
 

@@ -11,12 +11,12 @@ use Rattle.go_tree.specs.Tree.{ValueOption, no_value, some_value}
 use Rattle.pkg_graph.specs.Package.{Package}
 use Rattle.pkg_graph.specs.Members.{Target, imported, member, predeclared}
 use Rattle.pkg_graph.specs.ModuleFiles.Internal.{may_import}
-use Rattle.go_tree.specs.GoTypes.Answers.{given, one_of, is_among, is_empty}
-use Rattle.go_tree.specs.GoTypes.Types.{GoType, GoFields, no_go_fields, go_field, fields_of}
-use Rattle.go_tree.specs.GoTypes.Defined.{under}
-use Rattle.go_tree.specs.GoTypes.Entities.{Env, is_exported, defined_in}
-use Rattle.go_tree.specs.GoTypes.TypeNames.{type_meant}
-use Rattle.go_tree.specs.GoTypes.Literals.{key_type, inner_type, literal_type, field_key}
+use Rattle.go_rules.specs.GoTypes.Answers.{given, one_of, is_among, is_empty}
+use Rattle.go_rules.specs.GoTypes.Types.{GoType, GoFields, no_go_fields, go_field, fields_of}
+use Rattle.go_rules.specs.GoTypes.Defined.{under}
+use Rattle.go_rules.specs.GoTypes.Entities.{Env, is_exported, defined_in}
+use Rattle.go_rules.specs.GoTypes.TypeNames.{type_meant}
+use Rattle.go_rules.specs.GoTypes.Literals.{key_type, inner_type, literal_type, field_key}
 use Rattle.run_rules.specs.Surroundings.{Place, Seen, seen, seen_type, seen_stmt}
 use Rattle.run_rules.specs.Sites.{Where, same_target, mark_of, outer_meaning, qualifier}
 use Rattle.run_rules.specs.Naming.{package_path}

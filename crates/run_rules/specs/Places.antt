@@ -12,13 +12,13 @@ use Rattle.go_tree.specs.Tree.{label, Stmts, no_stmts, stmt_and, StmtOption, no_
 use Rattle.go_tree.specs.Tree.{some_block, RangeLeft, nothing, assigns, defines, Arms, no_arms, arm, Cases, no_cases}
 use Rattle.go_tree.specs.Tree.{case, ValueSpecs, no_specs, spec}
 use Rattle.go_tree.specs.GoWords.Terminals.{level_of}
-use Rattle.go_tree.specs.GoTypes.Answers.{given, meets}
-use Rattle.go_tree.specs.GoTypes.Types.{GoType}
-use Rattle.go_tree.specs.GoTypes.Defined.{under}
-use Rattle.go_tree.specs.GoTypes.Entities.{defined_in}
-use Rattle.go_tree.specs.GoTypes.TypeNames.{type_meant}
-use Rattle.go_tree.specs.GoTypes.Literals.{is_struct, literal_type}
-use Rattle.go_tree.specs.GoTypes.Typing.{parts, all_parts}
+use Rattle.go_rules.specs.GoTypes.Answers.{given, meets}
+use Rattle.go_rules.specs.GoTypes.Types.{GoType}
+use Rattle.go_rules.specs.GoTypes.Defined.{under}
+use Rattle.go_rules.specs.GoTypes.Entities.{defined_in}
+use Rattle.go_rules.specs.GoTypes.TypeNames.{type_meant}
+use Rattle.go_rules.specs.GoTypes.Literals.{is_struct, literal_type}
+use Rattle.go_rules.specs.GoTypes.Typing.{parts, all_parts}
 use Rattle.run_rules.specs.Surroundings.{Use, whole, stored, updated, called, deferred_call, alone, other, a_slot}
 use Rattle.run_rules.specs.Surroundings.{Place, Seen, seen, seen_type, seen_stmt, alike, into_type, head_use}
 use Rattle.run_rules.specs.Surroundings.{later_uses, arg_uses, unary_use, operand_use, first_operand_use, right_uses}
@@ -27,8 +27,8 @@ use Rattle.run_rules.specs.Surroundings.{in_slot, callee_place, comma_slot, elem
 use Rattle.run_rules.specs.Surroundings.{looping, switching, in_heading, at_stmt, plain_slot, ranged, in_literal}
 use Rattle.run_rules.specs.Surroundings.{repeated_by, in_constant, after_constants, before_repeats, after_variables}
 use Rattle.run_rules.specs.Surroundings.{is_old}
-use Rattle.go_tree.specs.GoTypes.Bodies.{labelled}
-use Rattle.go_tree.specs.GoTypes.Declarations.{Repeated, nothing_to_repeat}
+use Rattle.go_rules.specs.GoTypes.Bodies.{labelled}
+use Rattle.go_rules.specs.GoTypes.Declarations.{Repeated, nothing_to_repeat}
 
 module _ {S : Type 0} where
   -- a written type

@@ -7,25 +7,25 @@ use Rattle.std.specs.Prelude.{map, length, Option, Some, None, if◌then◌else�
 use Rattle.std.specs.List.{list_any, list_all}
 use Rattle.go_tree.specs.Tree.{NameAt, named, pointer, Param, const_decl, var_decl, ValueSpecs, no_specs, spec}
 use Rattle.go_tree.specs.File.{ImportSpec, TypeSpec, Receiver, Func, Decl, values, types, func, File}
-use Rattle.go_tree.specs.ScopeNames.Means.{Environment}
-use Rattle.go_tree.specs.ScopeNames.Scopes.{not_blank, param_names}
+use Rattle.go_rules.specs.ScopeNames.Means.{Environment}
+use Rattle.go_rules.specs.ScopeNames.Scopes.{not_blank, param_names}
 use Rattle.pkg_graph.specs.ModuleFiles.Pieces.{comes_before}
 use Rattle.pkg_graph.specs.Package.{SourceTree, Package, import_specs}
 use Rattle.pkg_graph.specs.Graph.{imports_of}
 use Rattle.pkg_graph.specs.Order.{is_placed}
 use Rattle.pkg_graph.specs.Members.{import_name}
-use Rattle.go_tree.specs.GoTypes.Answers.{otherwise}
-use Rattle.go_tree.specs.GoTypes.Types.{GoType, FuncType, named_type, pointer_to}
-use Rattle.go_tree.specs.GoTypes.Entities.{Entity, World, Env}
-use Rattle.go_tree.specs.GoTypes.TypeNames.{func_type}
-use Rattle.go_tree.specs.GoTypes.Programs.{Import, SourceFile, SourcePackage, Program, a_func, Headed, block_names}
-use Rattle.go_tree.specs.GoTypes.Programs.{file_block, file_env}
-use Rattle.go_tree.specs.GoTypes.Collect.{collected}
-use Rattle.go_tree.specs.GoTypes.WellTyped.{body_env}
+use Rattle.go_rules.specs.GoTypes.Answers.{otherwise}
+use Rattle.go_rules.specs.GoTypes.Types.{GoType, FuncType, named_type, pointer_to}
+use Rattle.go_rules.specs.GoTypes.Entities.{Entity, World, Env}
+use Rattle.go_rules.specs.GoTypes.TypeNames.{func_type}
+use Rattle.go_rules.specs.GoTypes.Programs.{Import, SourceFile, SourcePackage, Program, a_func, Headed, block_names}
+use Rattle.go_rules.specs.GoTypes.Programs.{file_block, file_env}
+use Rattle.go_rules.specs.GoTypes.Collect.{collected}
+use Rattle.go_rules.specs.GoTypes.WellTyped.{body_env}
 use Rattle.run_rules.specs.Surroundings.{Place, Seen, seen_type, a_slot, in_constant, value_use, alike}
 use Rattle.run_rules.specs.Places.{written_seen, sig_seen, all_seen, stmts_seen}
-use Rattle.go_tree.specs.GoTypes.Bodies.{Ctx, body_ctx}
-use Rattle.go_tree.specs.GoTypes.MethodDeclarations.{receiver_type}
+use Rattle.go_rules.specs.GoTypes.Bodies.{Ctx, body_ctx}
+use Rattle.go_rules.specs.GoTypes.MethodDeclarations.{receiver_type}
 
 -- items with their numbers, from a number on
 abbrev pub numbered_from : {A : Type 0} → ℕ → List A → List (ℕ × A)

@@ -5,11 +5,11 @@ use Rattle.std.specs.Prelude.{None, if◌then◌else◌, is_none}
 use Rattle.std.specs.List.{list_any}
 use Rattle.go_tree.specs.Tree.{TypeExpr, Param, Expr, eval, return_, no_exprs, expr_and}
 use Rattle.go_tree.specs.File.{Func}
-use Rattle.go_tree.specs.ScopeNames.Binders.{func_binders}
-use Rattle.go_tree.specs.ScopeNames.Scopes.{expr_span}
+use Rattle.go_rules.specs.ScopeNames.Binders.{func_binders}
+use Rattle.go_rules.specs.ScopeNames.Scopes.{expr_span}
 use Rattle.pkg_graph.specs.Package.{Package}
 use Rattle.param_choice.specs.Chosen.{has}
-use Rattle.go_tree.specs.GoTypes.Answers.{given, meets, one_of}
+use Rattle.go_rules.specs.GoTypes.Answers.{given, meets, one_of}
 use Rattle.run_rules.specs.Surroundings.{other, Place, Seen, seen, seen_type, seen_stmt}
 use Rattle.run_rules.specs.Places.{expr_seen, stmts_seen}
 use Rattle.run_rules.specs.Rewriting.{new_expr}

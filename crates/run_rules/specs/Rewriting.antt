@@ -14,13 +14,13 @@ use Rattle.go_tree.specs.Tree.{label, Stmts, no_stmts, stmt_and, StmtOption, no_
 use Rattle.go_tree.specs.Tree.{some_block, RangeLeft, nothing, assigns, defines, Arms, no_arms, arm, Cases, no_cases}
 use Rattle.go_tree.specs.Tree.{case, ValueSpecs, no_specs, spec}
 use Rattle.go_tree.specs.GoWords.Terminals.{level_of}
-use Rattle.go_tree.specs.GoTypes.Answers.{given, meets}
-use Rattle.go_tree.specs.GoTypes.Types.{GoType}
-use Rattle.go_tree.specs.GoTypes.Defined.{under}
-use Rattle.go_tree.specs.GoTypes.Entities.{defined_in}
-use Rattle.go_tree.specs.GoTypes.TypeNames.{type_meant}
-use Rattle.go_tree.specs.GoTypes.Literals.{is_struct, literal_type}
-use Rattle.go_tree.specs.GoTypes.Typing.{parts, all_parts}
+use Rattle.go_rules.specs.GoTypes.Answers.{given, meets}
+use Rattle.go_rules.specs.GoTypes.Types.{GoType}
+use Rattle.go_rules.specs.GoTypes.Defined.{under}
+use Rattle.go_rules.specs.GoTypes.Entities.{defined_in}
+use Rattle.go_rules.specs.GoTypes.TypeNames.{type_meant}
+use Rattle.go_rules.specs.GoTypes.Literals.{is_struct, literal_type}
+use Rattle.go_rules.specs.GoTypes.Typing.{parts, all_parts}
 use Rattle.run_rules.specs.Surroundings.{Use, whole, stored, updated, called, deferred_call, alone, other, a_slot}
 use Rattle.run_rules.specs.Surroundings.{Place, alike, into_type, head_use, later_uses, arg_uses, unary_use}
 use Rattle.run_rules.specs.Surroundings.{operand_use, first_operand_use, right_uses, every_use, value_use, return_uses}
@@ -28,11 +28,11 @@ use Rattle.run_rules.specs.Surroundings.{elem_use, key_use, inner_slot, last_slo
 use Rattle.run_rules.specs.Surroundings.{elem_closed, after_stmt, after_first, block, looping, switching, in_heading}
 use Rattle.run_rules.specs.Surroundings.{at_stmt, plain_slot, ranged, in_literal, repeated_by, in_constant}
 use Rattle.run_rules.specs.Surroundings.{after_constants, before_repeats, after_variables}
-use Rattle.go_tree.specs.GoTypes.Answers.{otherwise}
+use Rattle.go_rules.specs.GoTypes.Answers.{otherwise}
 use Rattle.run_rules.specs.Places.{after_arms}
 use Rattle.run_rules.specs.Respanned.{value_with}
-use Rattle.go_tree.specs.GoTypes.Bodies.{labelled}
-use Rattle.go_tree.specs.GoTypes.Declarations.{Repeated, nothing_to_repeat}
+use Rattle.go_rules.specs.GoTypes.Bodies.{labelled}
+use Rattle.go_rules.specs.GoTypes.Declarations.{Repeated, nothing_to_repeat}
 
 -- what takes the place of an expression, of a written type and of a statement; and the new span
 pub record Changes (S : Type 0) : Type 0 where

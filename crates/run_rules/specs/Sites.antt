@@ -9,19 +9,19 @@ use Rattle.go_tree.specs.Tree.{NameAt, TypeExpr, named, pointer, slice_type, map
 use Rattle.go_tree.specs.Tree.{field, Expr, ident, selector, call, Exprs, no_exprs, expr_and, Stmt, const_decl}
 use Rattle.go_tree.specs.Tree.{var_decl, assign, define, ValueSpecs, no_specs, spec}
 use Rattle.go_tree.specs.File.{TypeSpec, Func, Decl, values, types, func}
-use Rattle.go_tree.specs.ScopeNames.Means.{Environment, means}
-use Rattle.go_tree.specs.ScopeNames.Scopes.{expr_span}
+use Rattle.go_rules.specs.ScopeNames.Means.{Environment, means}
+use Rattle.go_rules.specs.ScopeNames.Scopes.{expr_span}
 use Rattle.pkg_graph.specs.Package.{SourceTree, Package, import_specs}
 use Rattle.pkg_graph.specs.Members.{Target, imported, member, predeclared, outside}
-use Rattle.go_tree.specs.GoTypes.Answers.{given, meets, otherwise}
-use Rattle.go_tree.specs.GoTypes.Types.{base_of, type_name_of}
-use Rattle.go_tree.specs.GoTypes.Entities.{Env, defined_in}
-use Rattle.go_tree.specs.GoTypes.Primary.{field_type}
+use Rattle.go_rules.specs.GoTypes.Answers.{given, meets, otherwise}
+use Rattle.go_rules.specs.GoTypes.Types.{base_of, type_name_of}
+use Rattle.go_rules.specs.GoTypes.Entities.{Env, defined_in}
+use Rattle.go_rules.specs.GoTypes.Primary.{field_type}
 use Rattle.run_rules.specs.Surroundings.{Use, deferred_call, alone, returned, other, Place, Seen, seen, seen_type}
 use Rattle.run_rules.specs.Surroundings.{seen_stmt, is_local}
 use Rattle.run_rules.specs.Classes.{type_at}
 use Rattle.run_rules.specs.Programs.{numbered, in_dependency_order, package_number, world, headed_func, decl_seen}
-use Rattle.go_tree.specs.GoTypes.MethodDeclarations.{receiver_type}
+use Rattle.go_rules.specs.GoTypes.MethodDeclarations.{receiver_type}
 
 -- A marked declaration: its package, its file, its declaration and its name, each by its number. A step changes none of
 -- these.

@@ -14,7 +14,7 @@ use Rattle.run_rules.specs.declared.import_rules.new_import.NewImport.{NewImport
 use Rattle.run_rules.specs.ImportRules.Removed.{same_span}
 use Rattle.run_rules.specs.ImportRules.Settled.{settled}
 use Rattle.pkg_graph.specs.Package.{Package, import_specs}
-use Rattle.go_tree.specs.GoTypes.Answers.{given, meets, otherwise, one_of}
+use Rattle.go_rules.specs.GoTypes.Answers.{given, meets, otherwise, one_of}
 use Rattle.run_rules.specs.Surroundings.{Slot, Place, Seen, seen, seen_type, seen_stmt, in_constant, value_use, alike}
 use Rattle.run_rules.specs.Rewriting.{Changes, new_stmts, new_sig, new_written, new_all}
 use Rattle.run_rules.specs.Programs.{numbered, top_place, body_place, decl_seen}

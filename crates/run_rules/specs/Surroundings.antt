@@ -10,24 +10,24 @@ use Rattle.go_tree.specs.Tree.{NameAt, TypeExpr, Sig, Expr, func_lit, Exprs, no_
 use Rattle.go_tree.specs.Tree.{ValueOption, no_value, some_value, Stmt, StmtOption, no_stmt, some_stmt, RangeLeft}
 use Rattle.go_tree.specs.Tree.{defines, ValueSpecs, no_specs, spec}
 use Rattle.go_layout.specs.Parens.{needs_parens, is_integer, runs_into, header_within, closed_within}
-use Rattle.go_tree.specs.ScopeNames.FreeNames.{names_of, declared, declared_option, defined}
-use Rattle.go_tree.specs.ScopeNames.Scopes as scopes
-use Rattle.go_tree.specs.ScopeNames.Scopes.{not_blank, sig_declares}
-use Rattle.go_tree.specs.ScopeNames.Means.{is_blank}
-use Rattle.go_tree.specs.GoTypes.Answers.{given, meets, is_among}
-use Rattle.go_tree.specs.GoTypes.Types.{GoType, GoFields, no_go_fields, go_field, element_of, map_parts, fields_of}
-use Rattle.go_tree.specs.GoTypes.Types.{is_untyped}
-use Rattle.go_tree.specs.GoTypes.Defined.{under}
-use Rattle.go_tree.specs.GoTypes.Entities.{Builtin, Append, Delete, Panic, Print, Println, run, Env, Binds, defined_in}
-use Rattle.go_tree.specs.GoTypes.Entities.{extend, in_block, is_declared_here}
-use Rattle.go_tree.specs.GoTypes.TypeNames.{type_meant, func_type, written_type}
-use Rattle.go_tree.specs.GoTypes.Operands.{Operand, value, several, a_function, a_builtin, Typed, typed}
-use Rattle.go_tree.specs.GoTypes.Primary.{find_field}
-use Rattle.go_tree.specs.GoTypes.Literals.{key_type, inner_type, field_key}
-use Rattle.go_tree.specs.GoTypes.Statements.{is_blank_name, right_values}
-use Rattle.go_tree.specs.GoTypes.Typing.{parts, all_parts, places, declares, declares_first, range_declares, binds_of}
-use Rattle.go_tree.specs.GoTypes.Bodies.{Ctx, in_loop, in_switch, body_ctx, no_values, literal_env}
-use Rattle.go_tree.specs.GoTypes.Declarations.{new_constants, new_variables, Repeated}
+use Rattle.go_rules.specs.ScopeNames.FreeNames.{names_of, declared, declared_option, defined}
+use Rattle.go_rules.specs.ScopeNames.Scopes as scopes
+use Rattle.go_rules.specs.ScopeNames.Scopes.{not_blank, sig_declares}
+use Rattle.go_rules.specs.ScopeNames.Means.{is_blank}
+use Rattle.go_rules.specs.GoTypes.Answers.{given, meets, is_among}
+use Rattle.go_rules.specs.GoTypes.Types.{GoType, GoFields, no_go_fields, go_field, element_of, map_parts, fields_of}
+use Rattle.go_rules.specs.GoTypes.Types.{is_untyped}
+use Rattle.go_rules.specs.GoTypes.Defined.{under}
+use Rattle.go_rules.specs.GoTypes.Entities.{Builtin, Append, Delete, Panic, Print, Println, run, Env, Binds, defined_in}
+use Rattle.go_rules.specs.GoTypes.Entities.{extend, in_block, is_declared_here}
+use Rattle.go_rules.specs.GoTypes.TypeNames.{type_meant, func_type, written_type}
+use Rattle.go_rules.specs.GoTypes.Operands.{Operand, value, several, a_function, a_builtin, Typed, typed}
+use Rattle.go_rules.specs.GoTypes.Primary.{find_field}
+use Rattle.go_rules.specs.GoTypes.Literals.{key_type, inner_type, field_key}
+use Rattle.go_rules.specs.GoTypes.Statements.{is_blank_name, right_values}
+use Rattle.go_rules.specs.GoTypes.Typing.{parts, all_parts, places, declares, declares_first, range_declares, binds_of}
+use Rattle.go_rules.specs.GoTypes.Bodies.{Ctx, in_loop, in_switch, body_ctx, no_values, literal_env}
+use Rattle.go_rules.specs.GoTypes.Declarations.{new_constants, new_variables, Repeated}
 
 -- What a place asks of the expression in it.
 pub data Use : Type 0 where

@@ -13,7 +13,7 @@ use Rattle.go_layout.specs.TreeLayout.{expr_layout, stmt_layout, block_layout}
 use Rattle.go_layout.specs.Parens.{header_within, closed_within}
 use Rattle.text_edits.specs.declared.edit.Edit.{Edit}
 use Rattle.run_rules.specs.ImportRules.Removed.{line_start}
-use Rattle.go_tree.specs.GoTypes.Answers.{one_of}
+use Rattle.go_rules.specs.GoTypes.Answers.{one_of}
 use Rattle.run_rules.specs.Surroundings.{Slot, is_bracketed}
 use Rattle.run_rules.specs.Calls.{blank}
 use Rattle.run_rules.specs.FormTrees.{Form, as_expr, as_dropped, as_block, as_type}

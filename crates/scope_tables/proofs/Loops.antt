@@ -5,15 +5,15 @@ use Rattle.std.proofs.lemmas.List.{drop_all}
 use Rattle.go_tree.specs.declared.spans.Span.{Span}
 use Rattle.go_tree.specs.File.{File}
 use Rattle.name_walks.specs.LocalScopes.{scope_of}
-use Rattle.go_tree.specs.declared.scope_names.names.FileNames.{FileNames}
-use Rattle.go_tree.specs.declared.scope_names.names.ImportName.{ImportName}
-use Rattle.go_tree.specs.declared.scope_names.names.Entity.TheVariants.{Import, Package}
-use Rattle.go_tree.specs.ScopeNames.Scopes.{decls_scopes}
+use Rattle.go_rules.specs.declared.scope_names.names.FileNames.{FileNames}
+use Rattle.go_rules.specs.declared.scope_names.names.ImportName.{ImportName}
+use Rattle.go_rules.specs.declared.scope_names.names.Entity.TheVariants.{Import, Package}
+use Rattle.go_rules.specs.ScopeNames.Scopes.{decls_scopes}
 use Rattle.scope_tables.specs.Table.{outside_in, IsBlockTable, IsTableOf}
 use Rattle.scope_tables.specs.declared.blocks.BlockTable.{BlockTable}
 use Rattle.name_walks.specs.declared.walk.LocalScope.{LocalScope}
-use Rattle.go_tree.specs.declared.scope_names.names.Entity.{Entity}
-use Rattle.go_tree.specs.ScopeNames.Means.{or_else, means, numbered, binding}
+use Rattle.go_rules.specs.declared.scope_names.names.Entity.{Entity}
+use Rattle.go_rules.specs.ScopeNames.Means.{or_else, means, numbered, binding}
 use Rattle.scope_tables.specs.declared.rows.Rows.{Rows}
 use Rattle.scope_tables.specs.Building.{locals_of, outside_of, extent_at, extents_named, KeepsLocals, KeepsOutside, AddsLocal, Claims}
 use Rattle.scope_tables.proofs.TableLaws.{grouped, or_none, first_of, table_is}

@@ -4,8 +4,8 @@ use Rattle.std.proofs.lemmas.Bool.{true≢false}
 use Rattle.std.proofs.lemmas.List.{length-append}
 use Rattle.name_walks.specs.EachOnce.{with_name}
 use Rattle.name_walks.specs.declared.walk.LocalScope.{LocalScope}
-use Rattle.go_tree.specs.declared.scope_names.names.Entity.{Entity}
-use Rattle.go_tree.specs.ScopeNames.Means.{or_else, means, is_blank, binding}
+use Rattle.go_rules.specs.declared.scope_names.names.Entity.{Entity}
+use Rattle.go_rules.specs.ScopeNames.Means.{or_else, means, is_blank, binding}
 use Rattle.scope_tables.specs.declared.rows.Row.{Row}
 use Rattle.scope_tables.specs.declared.rows.Rows.{Rows}
 use Rattle.scope_tables.specs.Table.{found_in, locals_in, outside_in}

@@ -5,12 +5,12 @@ use Rattle.go_tree.specs.declared.spans.Span.{Span}
 use Rattle.go_tree.specs.File.{File}
 use Rattle.name_walks.specs.declared.walk.LocalScope.{LocalScope}
 use Rattle.name_walks.specs.LocalScopes.{scope_of}
-use Rattle.go_tree.specs.declared.scope_names.names.Entity.{Entity}
-use Rattle.go_tree.specs.declared.scope_names.names.Entity.TheVariants.{Local, Import, Package, Universe}
-use Rattle.go_tree.specs.declared.scope_names.names.FileNames.{FileNames}
-use Rattle.go_tree.specs.declared.scope_names.names.ImportName.{ImportName}
-use Rattle.go_tree.specs.ScopeNames.Means.{Environment, or_else, means, numbered, predeclared, outermost}
-use Rattle.go_tree.specs.ScopeNames.Scopes.{Scope, decls_scopes, holds_at, locals_at, meaning_at, spec_of, declaration_of}
+use Rattle.go_rules.specs.declared.scope_names.names.Entity.{Entity}
+use Rattle.go_rules.specs.declared.scope_names.names.Entity.TheVariants.{Local, Import, Package, Universe}
+use Rattle.go_rules.specs.declared.scope_names.names.FileNames.{FileNames}
+use Rattle.go_rules.specs.declared.scope_names.names.ImportName.{ImportName}
+use Rattle.go_rules.specs.ScopeNames.Means.{Environment, or_else, means, numbered, predeclared, outermost}
+use Rattle.go_rules.specs.ScopeNames.Scopes.{Scope, decls_scopes, holds_at, locals_at, meaning_at, spec_of, declaration_of}
 use Rattle.scope_tables.specs.NamedScopes.{Extent, innermost}
 use Rattle.scope_tables.specs.Table.{Table, locals_in, declared_in, meaning_in, span_of, IsTableOf}
 use Rattle.scope_tables.specs.Building.{extents_named, extent_at}

@@ -3,8 +3,8 @@ use Rattle.std.specs.Prelude.{◌≡◌, ℕ, List, [], ◌∷◌, ◌++◌, Opt
 use Rattle.std.specs.Prelude.{length}
 use Rattle.std.specs.List.{position_or_len}
 use Rattle.name_walks.specs.declared.walk.LocalScope.{LocalScope}
-use Rattle.go_tree.specs.declared.scope_names.names.Entity.{Entity}
-use Rattle.go_tree.specs.ScopeNames.Means.{or_else, means, binding}
+use Rattle.go_rules.specs.declared.scope_names.names.Entity.{Entity}
+use Rattle.go_rules.specs.ScopeNames.Means.{or_else, means, binding}
 use Rattle.scope_tables.specs.NamedScopes.{Extent}
 use Rattle.scope_tables.specs.Table.{locals_in, outside_in}
 use Rattle.scope_tables.specs.declared.rows.Rows.{Rows}

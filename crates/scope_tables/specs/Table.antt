@@ -3,11 +3,11 @@ use Rattle.std.specs.Prelude.{◌≡◌, ℕ, List, [], ◌∷◌, Option, Some,
 use Rattle.std.specs.Prelude.{slice_get, option_map, option_and_then}
 use Rattle.go_tree.specs.declared.spans.Span.{Span}
 use Rattle.go_tree.specs.File.{File}
-use Rattle.go_tree.specs.declared.scope_names.names.Entity.{Entity}
-use Rattle.go_tree.specs.declared.scope_names.names.Entity.TheVariants.{Local, Import, Package, Universe}
-use Rattle.go_tree.specs.declared.scope_names.names.FileNames.{FileNames}
-use Rattle.go_tree.specs.ScopeNames.Means.{or_else, means, numbered, predeclared}
-use Rattle.go_tree.specs.ScopeNames.Scopes.{meaning_at, captured_at}
+use Rattle.go_rules.specs.declared.scope_names.names.Entity.{Entity}
+use Rattle.go_rules.specs.declared.scope_names.names.Entity.TheVariants.{Local, Import, Package, Universe}
+use Rattle.go_rules.specs.declared.scope_names.names.FileNames.{FileNames}
+use Rattle.go_rules.specs.ScopeNames.Means.{or_else, means, numbered, predeclared}
+use Rattle.go_rules.specs.ScopeNames.Scopes.{meaning_at, captured_at}
 use Rattle.scope_tables.specs.NamedScopes.{Extent, innermost}
 use Rattle.scope_tables.specs.declared.blocks.BlockTable.{BlockTable}
 use Rattle.scope_tables.specs.declared.rows.Row.{Row}

@@ -4,7 +4,7 @@ ghost use Rattle.std.specs.Prelude.{◌≡◌, ◌<◌, ◌^◌, length, IfOk};
 ghost use Rattle.scope_tables.specs.Table.{IsBlockTable, member_in};
 
 use crate::rows::{Rows, claim_members, outside_at};
-use go_tree::scope_names::Entity;
+use go_rules::scope_names::Entity;
 use go_tree::{Name, NoMemory};
 use std::alloc::Global;
 

@@ -7,7 +7,7 @@ ghost use Rattle.scope_tables.specs.Table.{IsBlockTable, IsTableOf, table_of};
 use crate::blocks::BlockTable;
 use crate::rows::{Rows, claim_imports, declare_all};
 use crate::table::Scopes;
-use go_tree::scope_names::{FileNames, ImportName};
+use go_rules::scope_names::{FileNames, ImportName};
 use go_tree::{FileTree, NoMemory, Span};
 use names_within::local_scopes;
 use std::alloc::Global;

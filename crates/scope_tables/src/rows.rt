@@ -2,14 +2,14 @@
 
 ghost use Rattle.std.specs.Prelude.{◌≡◌, ◌<◌, ◌^◌, ◌++◌, ◌∷◌, [], ℕ, List, Option, Some};
 ghost use Rattle.std.specs.Prelude.{None, if◌then◌else◌, bytes_eq, length, map, slice_get, OnOk, IfOk};
-ghost use Rattle.go_tree.specs.declared.scope_names.names.Entity.TheVariants.{Import, Package};
-ghost use Rattle.go_tree.specs.ScopeNames.Means.{or_else, means, numbered, is_blank};
+ghost use Rattle.go_rules.specs.declared.scope_names.names.Entity.TheVariants.{Import, Package};
+ghost use Rattle.go_rules.specs.ScopeNames.Means.{or_else, means, numbered, is_blank};
 ghost use Rattle.scope_tables.specs.Table.{locals_in, outside_in, part_of};
 ghost use Rattle.scope_tables.specs.Building.{IsEven, locals_of, outside_of, KeepsLocals, KeepsOutside, AddsLocal};
 ghost use Rattle.scope_tables.specs.Building.{Claims, extents_named, extent_at, position_of};
 
 use crate::named::NamedScopes;
-use go_tree::scope_names::{Entity, ImportName};
+use go_rules::scope_names::{Entity, ImportName};
 use go_tree::{Name, NoMemory, Span};
 use name_walks::{LocalScope, NameSet};
 use std::alloc::Global;

@@ -1,15 +1,15 @@
 //! What a name means at a place of a file.
 
 ghost use Rattle.std.specs.Prelude.{◌≡◌, ℕ, List, [], Option, None, option_map, slice_get};
-ghost use Rattle.go_tree.specs.declared.scope_names.names.Entity.TheVariants.{Local};
-ghost use Rattle.go_tree.specs.ScopeNames.Means.{or_else};
+ghost use Rattle.go_rules.specs.declared.scope_names.names.Entity.TheVariants.{Local};
+ghost use Rattle.go_rules.specs.ScopeNames.Means.{or_else};
 ghost use Rattle.scope_tables.specs.NamedScopes.{innermost};
 ghost use Rattle.scope_tables.specs.Table.{captured_in, declared_in, locals_in, meaning_in, outside_in};
 ghost use Rattle.scope_tables.specs.Table.{part_of, table_of};
 
 use crate::blocks::BlockTable;
 use crate::rows::{Row, Rows, outside_at};
-use go_tree::scope_names::{Entity, predeclared};
+use go_rules::scope_names::{Entity, predeclared};
 use go_tree::{Name, Span};
 use name_walks::NameSet;
 

@@ -1,7 +1,7 @@
 //! Functions as operands, whose types are added to the tables (Go specification, Function types).
 
 ghost use Rattle.std.specs.Prelude.{length, Some};
-ghost use Rattle.go_tree.specs.GoTypes.Operands.{a_function};
+ghost use Rattle.go_rules.specs.GoTypes.Operands.{a_function};
 ghost use Rattle.type_table.specs.Rows.{IdsBelow};
 ghost use Rattle.func_types.specs.Answers.{AreTypesOf, func_of, types_at};
 ghost use Rattle.operand_modes.specs.Operands.{GivesOperand};

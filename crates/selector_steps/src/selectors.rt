@@ -1,12 +1,12 @@
 //! Selectors (Go specification, Selectors).
 
 ghost use Rattle.std.specs.Prelude.{◌≡◌, Option, Some};
-ghost use Rattle.go_tree.specs.GoTypes.Answers.{given};
-ghost use Rattle.go_tree.specs.GoTypes.Entities as go_entity;
-ghost use Rattle.go_tree.specs.GoTypes.Operands as go_operand;
-ghost use Rattle.go_tree.specs.GoTypes.Entities.{run};
-ghost use Rattle.go_tree.specs.GoTypes.Operands.{place_by, value, with_value};
-ghost use Rattle.go_tree.specs.GoTypes.Primary as go;
+ghost use Rattle.go_rules.specs.GoTypes.Answers.{given};
+ghost use Rattle.go_rules.specs.GoTypes.Entities as go_entity;
+ghost use Rattle.go_rules.specs.GoTypes.Operands as go_operand;
+ghost use Rattle.go_rules.specs.GoTypes.Entities.{run};
+ghost use Rattle.go_rules.specs.GoTypes.Operands.{place_by, value, with_value};
+ghost use Rattle.go_rules.specs.GoTypes.Primary as go;
 ghost use Rattle.type_table.specs.TypeRelations.Environment.{defined_types, env_type};
 ghost use Rattle.type_table.specs.declared.operand_rules.values.ValueType.TheVariants.{Typed};
 ghost use Rattle.type_table.specs.OperandRules.Values.{IsType, IsValue, type_of, typed_of};

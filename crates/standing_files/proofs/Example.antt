@@ -9,7 +9,7 @@ use Rattle.go_tree.specs.declared.exprs.Rest.TheVariants.{Plain}
 use Rattle.go_tree.specs.declared.operators.BinOp.TheVariants.{Add}
 use Rattle.go_tree.specs.Tree.{NameAt, TypeExpr, named, Sig, Expr, ident, int_lit, selector, call, func_lit, binary, no_exprs, expr_and, const_decl, var_decl, Stmt, eval, assign, return_, Stmts, no_stmts, stmt_and, no_specs, spec}
 use Rattle.go_tree.specs.File.{Func, values, types, func, File}
-use Rattle.go_tree.specs.GoTypes.WellTyped.{well_typed}
+use Rattle.go_rules.specs.GoTypes.WellTyped.{well_typed}
 use Rattle.pkg_graph.specs.Package.{SourceTree, Package}
 use Rattle.go_translation.specs.Packages as translated
 use Rattle.run_rules.specs.ImportRules.Removed.{same_span}

@@ -2,9 +2,9 @@
 use Rattle.std.proofs.Common.{◌≡◌, refl, ap, ◌∙◌, ℕ, true, List, [], ◌∷◌, ◌++◌, Some}
 use Rattle.std.specs.Prelude.{slice_get}
 use Rattle.go_tree.specs.declared.spans.Span.{Span}
-use Rattle.go_tree.specs.GoTypes.Programs.{Headed, SourcePackage, Program, headed}
-use Rattle.go_tree.specs.GoTypes.Collect.{declared_by, types_declared, valued_world, collected}
-use Rattle.go_tree.specs.GoTypes.WellTyped.{well_typed}
+use Rattle.go_rules.specs.GoTypes.Programs.{Headed, SourcePackage, Program, headed}
+use Rattle.go_rules.specs.GoTypes.Collect.{declared_by, types_declared, valued_world, collected}
+use Rattle.go_rules.specs.GoTypes.WellTyped.{well_typed}
 use Rattle.pkg_graph.specs.Package.{Package}
 use Rattle.run_rules.specs.Programs.{in_dependency_order, linked_file, linked}
 use Rattle.run_rules.specs.Sites.{MarkRef, Where, where_is}

@@ -2,13 +2,13 @@
 use Rattle.std.proofs.Common.{◌≡◌, refl, sym, ap, ◌∙◌, ℕ, suc, Bool, true, false, not, ◌&&◌, ◌||◌, List, [], ◌∷◌, ◌++◌, Option, Some, None, is_some}
 use Rattle.std.specs.List.{list_all}
 use Rattle.go_tree.specs.File.{Receiver}
-use Rattle.go_tree.specs.ScopeNames.Means.{Environment, is_blank}
-use Rattle.go_tree.specs.GoTypes.Answers.{is_among, only_if}
-use Rattle.go_tree.specs.GoTypes.Declarations.{names_once}
-use Rattle.go_tree.specs.GoTypes.Entities.{Entity, World, Binds}
-use Rattle.go_tree.specs.GoTypes.Programs.{Header, constants, variables, a_type_spec, a_func, Headed, SourceFile, SourcePackage, Program, headed, headed_file, headed_files, headed_package, all_headers, header_names, header_sound, names_in, file_block, block_names, is_init, is_main}
-use Rattle.go_tree.specs.GoTypes.Collect.{DeclaredTypes, good_entity, function_declared, declared_by, types_declared, valued_world, collected}
-use Rattle.go_tree.specs.GoTypes.WellTyped.{is_method, well_typed}
+use Rattle.go_rules.specs.ScopeNames.Means.{Environment, is_blank}
+use Rattle.go_rules.specs.GoTypes.Answers.{is_among, only_if}
+use Rattle.go_rules.specs.GoTypes.Declarations.{names_once}
+use Rattle.go_rules.specs.GoTypes.Entities.{Entity, World, Binds}
+use Rattle.go_rules.specs.GoTypes.Programs.{Header, constants, variables, a_type_spec, a_func, Headed, SourceFile, SourcePackage, Program, headed, headed_file, headed_files, headed_package, all_headers, header_names, header_sound, names_in, file_block, block_names, is_init, is_main}
+use Rattle.go_rules.specs.GoTypes.Collect.{DeclaredTypes, good_entity, function_declared, declared_by, types_declared, valued_world, collected}
+use Rattle.go_rules.specs.GoTypes.WellTyped.{is_method, well_typed}
 use Rattle.typed_in_place.specs.ProgramReplaced.{All, all_of_none, all_and}
 use Rattle.typed_in_place.proofs.Headers.{declared_in}
 use Rattle.constant_steps.specs.Alone.{PackageAt, this_package, a_later_package}

@@ -7,7 +7,7 @@ use Rattle.pkg_graph.specs.ModuleFiles.Pieces.{comes_before}
 use Rattle.pkg_graph.specs.Package.{SourceTree, Package}
 use Rattle.pkg_graph.specs.Graph.{imports_of}
 use Rattle.pkg_graph.specs.Order.{is_placed}
-use Rattle.go_tree.specs.GoTypes.Programs.{Program}
+use Rattle.go_rules.specs.GoTypes.Programs.{Program}
 use Rattle.run_rules.specs.Programs.{numbered, is_ready, lesser, least_ready, ordered_after, linked_package, linked_packages, linked}
 use Rattle.typed_in_place.proofs.SameWorlds.AtHome.{nat_same}
 use Rattle.constant_steps.specs.WrittenLiteral.LinkedNames.{NoneNumbered}

@@ -2,16 +2,16 @@
 use Rattle.std.proofs.Common.{◌≡◌, ◌∙◌, ◌&&◌, ◌++◌, ℕ, Bool, true, false, List, [], ◌∷◌, Option, Some, None, refl, sym, ap, ap₂, subst}
 use Rattle.std.proofs.lemmas.Option.{none-some}
 use Rattle.go_tree.specs.Tree.{Expr, ident, int_lit, rune_lit, str_lit, composite, selector, index, slice, call, func_lit, type_operand, unary, binary, star, Exprs, no_exprs, expr_and, ExprOption, no_expr, some_expr}
-use Rattle.go_tree.specs.declared.const_eval.consts.Const.{Const}
-use Rattle.go_tree.specs.GoTypes.Answers.{both, given, only_if}
-use Rattle.go_tree.specs.GoTypes.Types.{GoType}
-use Rattle.go_tree.specs.GoTypes.Defined.{under}
-use Rattle.go_tree.specs.GoTypes.Bodies.{body_binds, body_ctx, is_body}
-use Rattle.go_tree.specs.GoTypes.Declarations.{Declared, bind_all, constant_entity, constants_declared, may_declare, new_constants}
-use Rattle.go_tree.specs.GoTypes.Entities.{Env, defined_in, exact, extend, in_block}
-use Rattle.go_tree.specs.GoTypes.Operands.{Operand, all_typed, typed, value}
-use Rattle.go_tree.specs.GoTypes.TypeNames.{func_type, type_meant}
-use Rattle.go_tree.specs.GoTypes.Typing.{all_parts, bound, elements, parts, place, stmts, used, used_all, used_option}
+use Rattle.go_rules.specs.declared.const_eval.consts.Const.{Const}
+use Rattle.go_rules.specs.GoTypes.Answers.{both, given, only_if}
+use Rattle.go_rules.specs.GoTypes.Types.{GoType}
+use Rattle.go_rules.specs.GoTypes.Defined.{under}
+use Rattle.go_rules.specs.GoTypes.Bodies.{body_binds, body_ctx, is_body}
+use Rattle.go_rules.specs.GoTypes.Declarations.{Declared, bind_all, constant_entity, constants_declared, may_declare, new_constants}
+use Rattle.go_rules.specs.GoTypes.Entities.{Env, defined_in, exact, extend, in_block}
+use Rattle.go_rules.specs.GoTypes.Operands.{Operand, all_typed, typed, value}
+use Rattle.go_rules.specs.GoTypes.TypeNames.{func_type, type_meant}
+use Rattle.go_rules.specs.GoTypes.Typing.{all_parts, bound, elements, parts, place, stmts, used, used_all, used_option}
 use Rattle.typed_in_place.proofs.Bodiless.{Unfixed, fixed, fixed_in}
 use Rattle.typed_in_place.proofs.SameUses.{from_both}
 use Rattle.value_rounds.proofs.HeadersStay.Unfixed.{SomeUnfixed, a_later_operand, args_unfixed, bind_unfixed, built_unfixed, callee_unfixed, index_unfixed, left_unfixed, right_unfixed, selected_unfixed, sliced_unfixed, star_unfixed, this_operand, unary_unfixed}

@@ -9,14 +9,14 @@ use Rattle.go_tree.specs.declared.stmts.ConstSpec as source
 use Rattle.go_tree.specs.Lists.{specs_from}
 use Rattle.go_tree.specs.Tree.{NameAt, TypeExpr, Exprs, no_exprs, expr_and, ValueSpecs, no_specs, spec}
 use Rattle.go_tree.specs.View.{const_spec_of}
-use Rattle.go_tree.specs.ScopeNames.FreeNames.{free_type_option, names_of}
-use Rattle.go_tree.specs.GoTypes.Answers.{both, given, only_if, without}
-use Rattle.go_tree.specs.GoTypes.Types.{GoType}
-use Rattle.go_tree.specs.GoTypes.Declarations.{Declared, Repeated, all_used, and_then, beyond, bind_all, bind_each, bound_names, constant_entity, constants_declared, may_declare, names_once, new_constants, not_blank, nothing_to_repeat}
-use Rattle.go_tree.specs.GoTypes.Entities.{Binds, Env, defined_in, extend, is_declared_here, refused}
-use Rattle.go_tree.specs.GoTypes.Operands.{Operand, all_typed}
-use Rattle.go_tree.specs.GoTypes.TypeNames.{written_type}
-use Rattle.go_tree.specs.GoTypes.Typing.{declares_constants, used_all, used_constants}
+use Rattle.go_rules.specs.ScopeNames.FreeNames.{free_type_option, names_of}
+use Rattle.go_rules.specs.GoTypes.Answers.{both, given, only_if, without}
+use Rattle.go_rules.specs.GoTypes.Types.{GoType}
+use Rattle.go_rules.specs.GoTypes.Declarations.{Declared, Repeated, all_used, and_then, beyond, bind_all, bind_each, bound_names, constant_entity, constants_declared, may_declare, names_once, new_constants, not_blank, nothing_to_repeat}
+use Rattle.go_rules.specs.GoTypes.Entities.{Binds, Env, defined_in, extend, is_declared_here, refused}
+use Rattle.go_rules.specs.GoTypes.Operands.{Operand, all_typed}
+use Rattle.go_rules.specs.GoTypes.TypeNames.{written_type}
+use Rattle.go_rules.specs.GoTypes.Typing.{declares_constants, used_all, used_constants}
 use Rattle.typed_names.specs.declared.scopes.Scope.{Scope}
 use Rattle.typed_names.specs.Meanings.{Names}
 use Rattle.operand_modes.specs.declared.checker_tables.tables.Tables.{Tables}

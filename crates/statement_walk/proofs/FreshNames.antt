@@ -3,13 +3,13 @@ use Rattle.std.proofs.Common.{◌≡◌, ◌∙◌, ◌++◌, ◌&&◌, ◌||◌
 use Rattle.std.specs.List.{list_all, list_any}
 use Rattle.std.proofs.lemmas.Option.{none-some}
 use Rattle.std.proofs.lemmas.Slice.Eq.{bytes_eq-Decides}
-use Rattle.go_tree.specs.ScopeNames.Means.{is_blank}
-use Rattle.go_tree.specs.GoTypes.Answers.{both, distinct_by, given, is_among, is_empty, only_if}
-use Rattle.go_tree.specs.GoTypes.Types.{GoType}
-use Rattle.go_tree.specs.GoTypes.Defined.{Defined}
-use Rattle.go_tree.specs.GoTypes.Declarations.{Declared, assigns_to, bind_all, bind_each, bound_names, defined_by, may_declare, names_once, new_by_define, new_variables, not_blank, some_declared, variable_entity, variables_declared}
-use Rattle.go_tree.specs.GoTypes.Entities.{Binds, Entity, Env, defined_in, is_declared_here, meaning, variable}
-use Rattle.go_tree.specs.GoTypes.Operands.{Typed}
+use Rattle.go_rules.specs.ScopeNames.Means.{is_blank}
+use Rattle.go_rules.specs.GoTypes.Answers.{both, distinct_by, given, is_among, is_empty, only_if}
+use Rattle.go_rules.specs.GoTypes.Types.{GoType}
+use Rattle.go_rules.specs.GoTypes.Defined.{Defined}
+use Rattle.go_rules.specs.GoTypes.Declarations.{Declared, assigns_to, bind_all, bind_each, bound_names, defined_by, may_declare, names_once, new_by_define, new_variables, not_blank, some_declared, variable_entity, variables_declared}
+use Rattle.go_rules.specs.GoTypes.Entities.{Binds, Entity, Env, defined_in, is_declared_here, meaning, variable}
+use Rattle.go_rules.specs.GoTypes.Operands.{Typed}
 use Rattle.type_table.proofs.OperandRules.OpenedLemmas.{some_same}
 use Rattle.jump_rules.specs.declared.used_locals.pending.PendingName.{PendingName}
 use Rattle.jump_rules.specs.UsedLocals.Laws.{AreNew}

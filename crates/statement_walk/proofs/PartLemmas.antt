@@ -3,12 +3,12 @@ use Rattle.std.proofs.Common.{◌≡◌, ◌∙◌, ◌++◌, ◌&&◌, ◌||◌
 use Rattle.std.proofs.lemmas.Slice.Eq.{bytes_eq-Decides}
 use Rattle.std.proofs.lemmas.List.{map-append}
 use Rattle.std.specs.List.{list_all}
-use Rattle.go_tree.specs.declared.const_eval.consts.Const.{Const}
-use Rattle.go_tree.specs.ScopeNames.Means.{is_blank}
-use Rattle.go_tree.specs.GoTypes.Answers.{is_among, only_if}
-use Rattle.go_tree.specs.GoTypes.Declarations.{Declared, all_used, beyond, bound_names, not_blank}
-use Rattle.go_tree.specs.GoTypes.Entities as go
-use Rattle.go_tree.specs.GoTypes.Entities.{Binds, Env, extend, is_declared_here}
+use Rattle.go_rules.specs.declared.const_eval.consts.Const.{Const}
+use Rattle.go_rules.specs.ScopeNames.Means.{is_blank}
+use Rattle.go_rules.specs.GoTypes.Answers.{is_among, only_if}
+use Rattle.go_rules.specs.GoTypes.Declarations.{Declared, all_used, beyond, bound_names, not_blank}
+use Rattle.go_rules.specs.GoTypes.Entities as go
+use Rattle.go_rules.specs.GoTypes.Entities.{Binds, Env, extend, is_declared_here}
 use Rattle.type_table.specs.TypeRelations.Environment.{Environment}
 use Rattle.typed_names.specs.declared.scopes.Scope.{Scope}
 use Rattle.typed_names.specs.declared.entities.Entity.{Entity}
@@ -24,7 +24,7 @@ use Rattle.jump_rules.specs.UsedLocals.Walked.{IsWalked}
 use Rattle.jump_rules.proofs.UsedLocals.ScopeLaws.{blanks_skipped, parts_declare}
 use Rattle.go_tree.specs.declared.spans.Span.{Span}
 use Rattle.go_tree.specs.Tree.{Exprs}
-use Rattle.go_tree.specs.GoTypes.Typing.{used_all}
+use Rattle.go_rules.specs.GoTypes.Typing.{used_all}
 use Rattle.type_table.specs.declared.operand_rules.values.Refusal.{Refusal}
 use Rattle.type_table.specs.declared.operand_rules.values.Refusal.TheVariants.{NotTyped, NoMemory}
 use Rattle.control_steps.proofs.LocalBlocks.PlaceLemmas.{places_are_environments}

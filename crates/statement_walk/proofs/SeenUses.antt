@@ -2,16 +2,16 @@
 use Rattle.std.proofs.Common.{◌≡◌, ◌∙◌, ◌++◌, ℕ, List, [], ◌∷◌, Option, Some, cond, refl, ap, ap₂}
 use Rattle.go_tree.specs.declared.spans.Span.{Span}
 use Rattle.go_tree.specs.Tree.{Param, Sig, Expr, ident, int_lit, rune_lit, str_lit, composite, selector, index, slice, call, func_lit, type_operand, unary, binary, star, Exprs, no_exprs, expr_and, ExprOption, no_expr, some_expr, Elems, no_elems, elem, Value, plain, braced, ValueOption, no_value, some_value}
-use Rattle.go_tree.specs.ScopeNames.FreeNames.{free_params, free_type, sig_names}
-use Rattle.go_tree.specs.GoTypes.Answers.{both, given, meets, without}
-use Rattle.go_tree.specs.GoTypes.Types.{GoType}
-use Rattle.go_tree.specs.GoTypes.Defined.{under}
-use Rattle.go_tree.specs.GoTypes.Entities.{Env, defined_in, extend, in_block}
-use Rattle.go_tree.specs.GoTypes.Literals.{inner_type, is_struct, key_type, literal_type}
-use Rattle.go_tree.specs.GoTypes.TypeNames.{func_type, params_meant, type_meant}
-use Rattle.go_tree.specs.GoTypes.Typing.{used, used_all, used_elems, used_key, used_option, used_stmts, used_value}
-use Rattle.go_tree.specs.GoTypes.Bodies.{body_binds}
-use Rattle.go_tree.specs.GoTypes.Declarations.{binds_or}
+use Rattle.go_rules.specs.ScopeNames.FreeNames.{free_params, free_type, sig_names}
+use Rattle.go_rules.specs.GoTypes.Answers.{both, given, meets, without}
+use Rattle.go_rules.specs.GoTypes.Types.{GoType}
+use Rattle.go_rules.specs.GoTypes.Defined.{under}
+use Rattle.go_rules.specs.GoTypes.Entities.{Env, defined_in, extend, in_block}
+use Rattle.go_rules.specs.GoTypes.Literals.{inner_type, is_struct, key_type, literal_type}
+use Rattle.go_rules.specs.GoTypes.TypeNames.{func_type, params_meant, type_meant}
+use Rattle.go_rules.specs.GoTypes.Typing.{used, used_all, used_elems, used_key, used_option, used_stmts, used_value}
+use Rattle.go_rules.specs.GoTypes.Bodies.{body_binds}
+use Rattle.go_rules.specs.GoTypes.Declarations.{binds_or}
 use Rattle.control_steps.specs.LocalBlocks.Places.{in_block_of}
 use Rattle.control_steps.proofs.LocalBlocks.SeenNames.{type_seen}
 

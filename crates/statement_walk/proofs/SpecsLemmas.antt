@@ -8,11 +8,11 @@ use Rattle.go_tree.specs.declared.stmts.VarSpec as source
 use Rattle.go_tree.specs.Lists.{specs_from}
 use Rattle.go_tree.specs.Tree.{ValueSpecs, no_specs, spec}
 use Rattle.go_tree.specs.View.{var_spec_of}
-use Rattle.go_tree.specs.ScopeNames.FreeNames.{free_type_option, names_of}
-use Rattle.go_tree.specs.GoTypes.Answers.{given, is_among, only_if, without}
-use Rattle.go_tree.specs.GoTypes.Declarations.{Declared, all_used, and_then, beyond, binds_of, bound_names, no_names, unused_after}
-use Rattle.go_tree.specs.GoTypes.Entities.{Binds, Entity, Env, extend, is_declared_here}
-use Rattle.go_tree.specs.GoTypes.Typing.{declares_variables, used_all, used_variables}
+use Rattle.go_rules.specs.ScopeNames.FreeNames.{free_type_option, names_of}
+use Rattle.go_rules.specs.GoTypes.Answers.{given, is_among, only_if, without}
+use Rattle.go_rules.specs.GoTypes.Declarations.{Declared, all_used, and_then, beyond, binds_of, bound_names, no_names, unused_after}
+use Rattle.go_rules.specs.GoTypes.Entities.{Binds, Entity, Env, extend, is_declared_here}
+use Rattle.go_rules.specs.GoTypes.Typing.{declares_variables, used_all, used_variables}
 use Rattle.typed_names.specs.declared.scopes.Scope.{Scope}
 use Rattle.typed_names.specs.Meanings.{Names}
 use Rattle.operand_modes.specs.declared.checker_tables.tables.Tables.{Tables}

@@ -1,15 +1,15 @@
 -- Expressions in which each literal is a basic one, as in each constant expression, and the names that they use (Go
 -- specification, Operands; Constant expressions; Declarations and scope).
 use Rattle.std.specs.Prelude.{◌≡◌, Bool, true, false, ◌&&◌, Some}
-use Rattle.go_tree.specs.declared.const_eval.consts.Const.{Const}
+use Rattle.go_rules.specs.declared.const_eval.consts.Const.{Const}
 use Rattle.go_tree.specs.declared.spans.Span.{Span}
 use Rattle.go_tree.specs.Tree.{Expr, ident, int_lit, rune_lit, str_lit, composite, selector, index, slice, call}
 use Rattle.go_tree.specs.Tree.{func_lit, type_operand, unary, binary, star, Exprs, no_exprs, expr_and, ExprOption}
 use Rattle.go_tree.specs.Tree.{no_expr, some_expr}
-use Rattle.go_tree.specs.GoTypes.Types.{GoType}
-use Rattle.go_tree.specs.GoTypes.Entities.{Env, exact}
-use Rattle.go_tree.specs.GoTypes.Operands.{value}
-use Rattle.go_tree.specs.GoTypes.Typing.{parts, used}
+use Rattle.go_rules.specs.GoTypes.Types.{GoType}
+use Rattle.go_rules.specs.GoTypes.Entities.{Env, exact}
+use Rattle.go_rules.specs.GoTypes.Operands.{value}
+use Rattle.go_rules.specs.GoTypes.Typing.{parts, used}
 
 module _ {S : Type 0} where
   abbrev mutual

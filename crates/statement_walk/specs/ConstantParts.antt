@@ -5,10 +5,10 @@ use Rattle.std.specs.Borrow.{Bor}
 use Rattle.go_tree.specs.declared.spans.Span.{Span}
 use Rattle.go_tree.specs.declared.stmts.ConstSpec.{ConstSpec}
 use Rattle.go_tree.specs.Tree.{ValueSpecs}
-use Rattle.go_tree.specs.GoTypes.Answers.{given}
-use Rattle.go_tree.specs.GoTypes.Declarations.{Declared, Repeated, and_then, beyond, nothing_to_repeat}
-use Rattle.go_tree.specs.GoTypes.Entities.{Binds, Env, extend}
-use Rattle.go_tree.specs.GoTypes.Typing.{declares_constants, used_constants}
+use Rattle.go_rules.specs.GoTypes.Answers.{given}
+use Rattle.go_rules.specs.GoTypes.Declarations.{Declared, Repeated, and_then, beyond, nothing_to_repeat}
+use Rattle.go_rules.specs.GoTypes.Entities.{Binds, Env, extend}
+use Rattle.go_rules.specs.GoTypes.Typing.{declares_constants, used_constants}
 use Rattle.typed_names.specs.declared.scopes.Scope.{Scope}
 use Rattle.typed_names.specs.Meanings.{Names}
 use Rattle.operand_modes.specs.declared.checker_tables.tables.Tables.{Tables}

@@ -4,10 +4,10 @@ use Rattle.std.specs.Prelude.{◌≡◌, ℕ, Bool, true, not, List, ◌++◌, O
 use Rattle.std.specs.List.{list_all}
 use Rattle.go_tree.specs.declared.spans.Span.{Span}
 use Rattle.go_tree.specs.Tree.{ValueSpecs}
-use Rattle.go_tree.specs.GoTypes.Answers.{given, only_if}
-use Rattle.go_tree.specs.GoTypes.Declarations.{Declared, all_used, and_then, beyond, bound_names, unused_after}
-use Rattle.go_tree.specs.GoTypes.Entities.{Env, extend, is_declared_here}
-use Rattle.go_tree.specs.GoTypes.Typing.{declares_variables, used_variables}
+use Rattle.go_rules.specs.GoTypes.Answers.{given, only_if}
+use Rattle.go_rules.specs.GoTypes.Declarations.{Declared, all_used, and_then, beyond, bound_names, unused_after}
+use Rattle.go_rules.specs.GoTypes.Entities.{Env, extend, is_declared_here}
+use Rattle.go_rules.specs.GoTypes.Typing.{declares_variables, used_variables}
 use Rattle.typed_names.specs.declared.scopes.Scope.{Scope}
 use Rattle.typed_names.specs.Meanings.{Names}
 use Rattle.type_table.specs.declared.operand_rules.values.Refusal.{Refusal}

@@ -2,10 +2,10 @@
 //! declarations).
 
 ghost use Rattle.std.specs.Prelude.{◌≡◌, List, OnOk, map, true};
-ghost use Rattle.go_tree.specs.declared.const_eval.consts.Const.{Const};
+ghost use Rattle.go_rules.specs.declared.const_eval.consts.Const.{Const};
 ghost use Rattle.go_tree.specs.View.{name_at_of};
-ghost use Rattle.go_tree.specs.GoTypes.Declarations.{bound_names};
-ghost use Rattle.go_tree.specs.ScopeNames.FreeNames.{names_of};
+ghost use Rattle.go_rules.specs.GoTypes.Declarations.{bound_names};
+ghost use Rattle.go_rules.specs.ScopeNames.FreeNames.{names_of};
 ghost use Rattle.type_table.specs.TypeRelations.Environment.{Environment};
 ghost use Rattle.typed_names.specs.Meanings.{entity_option};
 ghost use Rattle.assignment_steps.specs.DefineSteps.Defined.{bind_if, news_at};

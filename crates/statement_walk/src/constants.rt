@@ -4,10 +4,10 @@
 ghost use Rattle.std.specs.Prelude.{◌≡◌, ◌++◌, [], map};
 ghost use Rattle.std.specs.Option.{option_map};
 ghost use Rattle.go_tree.specs.View.{const_specs_of, exprs_of, name_at_of, type_of};
-ghost use Rattle.go_tree.specs.GoTypes.Declarations as go_declaration;
-ghost use Rattle.go_tree.specs.GoTypes.Entities.{Env};
-ghost use Rattle.go_tree.specs.GoTypes.Typing as go;
-ghost use Rattle.go_tree.specs.ScopeNames.FreeNames.{free_type_option, names_of};
+ghost use Rattle.go_rules.specs.GoTypes.Declarations as go_declaration;
+ghost use Rattle.go_rules.specs.GoTypes.Entities.{Env};
+ghost use Rattle.go_rules.specs.GoTypes.Typing as go;
+ghost use Rattle.go_rules.specs.ScopeNames.FreeNames.{free_type_option, names_of};
 ghost use Rattle.operand_modes.specs.CheckerTables.Ready.{Keeps};
 ghost use Rattle.operand_modes.specs.OperandAnswers.Known.{Stands};
 ghost use Rattle.control_steps.specs.LocalBlocks.Places.{IsPlace, IsWithin};

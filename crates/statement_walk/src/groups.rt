@@ -2,8 +2,8 @@
 
 ghost use Rattle.std.specs.Prelude.{◌≡◌};
 ghost use Rattle.go_tree.specs.View.{var_specs_of};
-ghost use Rattle.go_tree.specs.GoTypes.Entities.{Env};
-ghost use Rattle.go_tree.specs.GoTypes.Typing as go;
+ghost use Rattle.go_rules.specs.GoTypes.Entities.{Env};
+ghost use Rattle.go_rules.specs.GoTypes.Typing as go;
 ghost use Rattle.operand_modes.specs.CheckerTables.Ready.{Keeps};
 ghost use Rattle.operand_modes.specs.OperandAnswers.Known.{Stands};
 ghost use Rattle.control_steps.specs.LocalBlocks.Places.{IsPlace, IsWithin};

@@ -4,10 +4,10 @@
 ghost use Rattle.std.specs.Prelude.{◌≡◌, ◌++◌, [], IfSome, OnOk};
 ghost use Rattle.go_tree.specs.View.{boxed_expr_option_of, elems_of, expr_of, exprs_of, held_value_option_of, type_of};
 ghost use Rattle.go_tree.specs.View.{value_of};
-ghost use Rattle.go_tree.specs.GoTypes.Answers.{given};
-ghost use Rattle.go_tree.specs.GoTypes.Literals as go_literal;
-ghost use Rattle.go_tree.specs.GoTypes.TypeNames as type_name;
-ghost use Rattle.go_tree.specs.ScopeNames.FreeNames.{free_type};
+ghost use Rattle.go_rules.specs.GoTypes.Answers.{given};
+ghost use Rattle.go_rules.specs.GoTypes.Literals as go_literal;
+ghost use Rattle.go_rules.specs.GoTypes.TypeNames as type_name;
+ghost use Rattle.go_rules.specs.ScopeNames.FreeNames.{free_type};
 ghost use Rattle.type_table.specs.TypeRelations.Environment.{defined_types};
 ghost use Rattle.type_table.specs.declared.operand_rules.values.ValueType.TheVariants.{Typed};
 ghost use Rattle.type_table.specs.OperandRules.Values.{IsType};

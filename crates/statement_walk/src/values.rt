@@ -3,9 +3,9 @@
 
 ghost use Rattle.std.specs.Prelude.{List, ℕ};
 ghost use Rattle.go_tree.specs.View.{exprs_of};
-ghost use Rattle.go_tree.specs.GoTypes.Entities.{Env};
-ghost use Rattle.go_tree.specs.GoTypes.Statements as go_statement;
-ghost use Rattle.go_tree.specs.GoTypes.Typing as go;
+ghost use Rattle.go_rules.specs.GoTypes.Entities.{Env};
+ghost use Rattle.go_rules.specs.GoTypes.Statements as go_statement;
+ghost use Rattle.go_rules.specs.GoTypes.Typing as go;
 ghost use Rattle.typed_names.specs.Scopes.{env_at};
 ghost use Rattle.operand_modes.specs.CheckerTables.Ready.{Keeps};
 ghost use Rattle.operand_modes.specs.OperandAnswers.Known.{Stands};

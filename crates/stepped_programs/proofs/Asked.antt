@@ -20,7 +20,7 @@ use Rattle.order_runs.proofs.CycleRuns.OrderedSteps.Ranked.{orders-ranked}
 use Rattle.file_tables.specs.DependencyOrder.Links.{AreNamed}
 use Rattle.file_tables.specs.ReplacedFiles.Replaced.{with_tree_of}
 use Rattle.file_tables.proofs.DependencyOrder.Paths.{viewed_paths}
-use Rattle.go_tree.specs.GoTypes.Agreement.{In, head, tail}
+use Rattle.go_rules.specs.GoTypes.Agreement.{In, head, tail}
 use Rattle.stepped_programs.proofs.LoadedPrograms.AsRead.{order_with}
 use Rattle.stepped_programs.proofs.LoadedPrograms.Images.{image_at, at_image}
 use Rattle.next_file.specs.declared.file.NewFile.{NewFile}

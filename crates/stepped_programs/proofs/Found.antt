@@ -8,7 +8,7 @@ use Rattle.go_tree.specs.declared.spans.Span.{Span}
 use Rattle.go_tree.specs.Tree.{Expr}
 use Rattle.go_tree.specs.File.{Decl}
 use Rattle.go_tree.specs.FileView.{file_of}
-use Rattle.go_tree.specs.declared.scope_names.names.FileNames.{FileNames}
+use Rattle.go_rules.specs.declared.scope_names.names.FileNames.{FileNames}
 use Rattle.pkg_graph.specs.Members.{Target, package_block}
 use Rattle.pkg_graph.specs.Reads.{Source}
 use Rattle.constant_steps.specs.PlaceMeanings.Parts.{AllScoped}

@@ -12,7 +12,7 @@ use Rattle.pkg_graph.specs.Reads.{Source}
 use Rattle.pkg_graph.specs.Views.{package_view, source_of}
 use Rattle.pkg_graph.specs.declared.packages.Package as code
 use Rattle.pkg_graph.specs.declared.packages.SourceTree as code_tree
-use Rattle.go_tree.specs.GoTypes.Answers.{given}
+use Rattle.go_rules.specs.GoTypes.Answers.{given}
 use Rattle.stepped_programs.proofs.LoadedPrograms.Images.{image_at, at_image}
 use Rattle.repeated_parts.specs.UseSearch.MarkValues.Tables.{decl_at}
 use Rattle.member_uses.specs.PossibleUses.Laws.{PartsAreAmongAll}

@@ -9,7 +9,7 @@ use Rattle.pkg_graph.specs.ModuleFiles.PathLists.{AreDistinct}
 use Rattle.pkg_graph.specs.Views.{package_view}
 use Rattle.pkg_graph.specs.declared.packages.Package.{Package}
 use Rattle.pkg_graph.specs.declared.packages.SourceTree.{SourceTree}
-use Rattle.go_tree.specs.GoTypes.Answers.{given}
+use Rattle.go_rules.specs.GoTypes.Answers.{given}
 use Rattle.run_rules.specs.Programs.{dependency_order}
 use Rattle.run_rules.specs.Steps.{change_nth}
 use Rattle.file_names.specs.Imports.{FindsPackages}

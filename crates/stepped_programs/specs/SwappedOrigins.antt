@@ -5,7 +5,7 @@ use Rattle.std.specs.Prelude.{Option, Some, None, if◌then◌else◌, slice_get
 use Rattle.go_tree.specs.declared.spans.Span.{Span}
 use Rattle.go_tree.specs.Tree.{selector}
 use Rattle.run_rules.specs.ImportRules.Removed.{same_span}
-use Rattle.go_tree.specs.GoTypes.Answers.{meets}
+use Rattle.go_rules.specs.GoTypes.Answers.{meets}
 use Rattle.run_rules.specs.Sites.{Part, an_expr}
 use Rattle.member_uses.specs.PossibleUses.Candidates.{Candidate}
 use Rattle.programs.specs.OriginsOfUses.Origins.{named_span}

@@ -3,10 +3,10 @@ use Rattle.std.proofs.Common.{ℕ, zero, suc, Bool, true, false, if◌then◌els
 use Rattle.std.specs.Prelude.{slice_get}
 use Rattle.go_tree.specs.Tree.{NameAt}
 use Rattle.go_tree.specs.File.{Decl}
-use Rattle.go_tree.specs.ScopeNames.Means.{Environment, is_blank, binding}
+use Rattle.go_rules.specs.ScopeNames.Means.{Environment, is_blank, binding}
 use Rattle.pkg_graph.specs.Package.{SourceTree, Package}
 use Rattle.pkg_graph.specs.Members.{Target, member, block_names, items_from, decls_from, files_from, package_block}
-use Rattle.go_tree.specs.GoTypes.Answers.{given}
+use Rattle.go_rules.specs.GoTypes.Answers.{given}
 
 -- it is one, or there is none
 pub data IfMember : Option Target → Type 0 where

@@ -3,7 +3,7 @@ use Rattle.std.proofs.Common.{◌≡◌, refl, sym, subst, ℕ, suc, ◌+◌, tr
 use Rattle.std.specs.Prelude.{slice_get}
 use Rattle.go_tree.specs.File.{Func, Decl, func}
 use Rattle.pkg_graph.specs.Package.{Package}
-use Rattle.go_tree.specs.GoTypes.WellTyped.{well_typed}
+use Rattle.go_rules.specs.GoTypes.WellTyped.{well_typed}
 use Rattle.run_rules.specs.Surroundings.{Seen}
 use Rattle.run_rules.specs.Programs.{linked, world, headed_func, decl_seen}
 use Rattle.run_rules.specs.Respanned.{file_with}

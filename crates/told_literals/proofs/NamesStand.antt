@@ -5,17 +5,17 @@ use Rattle.std.specs.Prelude.{is_some}
 use Rattle.std.proofs.lemmas.Bool.{true≢false}
 use Rattle.std.proofs.lemmas.Option.{none-some}
 use Rattle.go_tree.specs.declared.spans.Span.{Span}
-use Rattle.go_tree.specs.declared.scope_names.names.Entity as table
-use Rattle.go_tree.specs.declared.scope_names.names.Entity.TheVariants as table_of
+use Rattle.go_rules.specs.declared.scope_names.names.Entity as table
+use Rattle.go_rules.specs.declared.scope_names.names.Entity.TheVariants as table_of
 use Rattle.go_tree.specs.Tree.{TypeExpr, named, pointer, slice_type, map_type, struct_type}
-use Rattle.go_tree.specs.ScopeNames.Means.{Environment, means}
+use Rattle.go_rules.specs.ScopeNames.Means.{Environment, means}
 use Rattle.scope_tables.specs.Table.{meaning_in}
 use Rattle.pkg_graph.specs.Package.{Package, import_specs}
 use Rattle.pkg_graph.specs.Members.{Target, local, imported, member, predeclared, package_block}
-use Rattle.go_tree.specs.GoTypes.Answers.{given}
-use Rattle.go_tree.specs.GoTypes.Types.{GoType}
-use Rattle.go_tree.specs.GoTypes.Entities.{Entity, variable, constant, stand_in, type_name, function, package_name, builtin, nil_name, iota_name, refused, World, meaning, exported, is_exported, package_of, type_of_name, block_of}
-use Rattle.go_tree.proofs.GoTypes.Agreeing.{from_given}
+use Rattle.go_rules.specs.GoTypes.Answers.{given}
+use Rattle.go_rules.specs.GoTypes.Types.{GoType}
+use Rattle.go_rules.specs.GoTypes.Entities.{Entity, variable, constant, stand_in, type_name, function, package_name, builtin, nil_name, iota_name, refused, World, meaning, exported, is_exported, package_of, type_of_name, block_of}
+use Rattle.go_rules.proofs.GoTypes.Agreeing.{from_given}
 use Rattle.form_meaning.specs.FormInPlace.Places.{is_member}
 use Rattle.run_rules.specs.Surroundings.{Place, is_local}
 use Rattle.run_rules.specs.Programs.{package_number, world, top_env}

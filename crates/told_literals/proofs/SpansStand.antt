@@ -3,9 +3,9 @@ use Rattle.std.proofs.Common.{◌≡◌, ◌∙◌, sym, true, List, Some}
 use Rattle.std.specs.Prelude.{slice_get}
 use Rattle.go_tree.specs.declared.spans.Span.{Span}
 use Rattle.pkg_graph.specs.Package.{Package}
-use Rattle.go_tree.specs.GoTypes.Programs.{Program, Headed, headed}
-use Rattle.go_tree.specs.GoTypes.Collect.{declared_by, types_declared, valued_world, collected}
-use Rattle.go_tree.specs.GoTypes.WellTyped.{well_typed}
+use Rattle.go_rules.specs.GoTypes.Programs.{Program, Headed, headed}
+use Rattle.go_rules.specs.GoTypes.Collect.{declared_by, types_declared, valued_world, collected}
+use Rattle.go_rules.specs.GoTypes.WellTyped.{well_typed}
 use Rattle.typed_in_place.specs.ProgramsAlike.{DeclareAlike}
 use Rattle.typed_in_place.proofs.SpansAside.{values_spans_aside}
 use Rattle.typed_in_place.proofs.SamePrograms.{same_types_declared, same_valued, same_collected}

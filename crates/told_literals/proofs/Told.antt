@@ -5,7 +5,7 @@ use Rattle.std.specs.Prelude.{slice_get, map}
 use Rattle.go_tree.specs.declared.spans.Span.{Span}
 use Rattle.go_tree.specs.Tree.{NameAt, Expr, ident, int_lit, rune_lit, str_lit, composite, selector, index, slice, call, func_lit, type_operand, unary, binary, star}
 use Rattle.pkg_graph.specs.Package.{Package, import_specs}
-use Rattle.go_tree.specs.GoTypes.Entities.{World, Env}
+use Rattle.go_rules.specs.GoTypes.Entities.{World, Env}
 use Rattle.run_rules.specs.Surroundings.{Use, Place, Seen, seen, seen_type, seen_stmt}
 use Rattle.run_rules.specs.Programs.{package_number, world, top_env}
 use Rattle.run_rules.specs.Sites.{Where, named_in}

@@ -1,7 +1,7 @@
 -- The law of files of well-typed packages and right tables of declared types. It is the contract of a function of this
 -- crate (Go specification, Type declarations; Qualified identifiers; Composite literals).
 use Rattle.std.specs.Prelude.{◌≡◌, true, List}
-use Rattle.go_tree.specs.GoTypes.WellTyped.{well_typed}
+use Rattle.go_rules.specs.GoTypes.WellTyped.{well_typed}
 use Rattle.pkg_graph.specs.Package.{Package}
 use Rattle.run_rules.specs.Programs.{linked, world}
 use Rattle.run_rules.specs.Respanned.{file_with}

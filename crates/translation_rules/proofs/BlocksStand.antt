@@ -6,21 +6,21 @@ use Rattle.std.proofs.Common.{arith}
 use Rattle.std.proofs.lemmas.Slice.Eq.{bytes_eq-Decides}
 use Rattle.go_tree.specs.Tree.{NameAt, TypeExpr, Exprs}
 use Rattle.go_tree.specs.File.{Receiver, Func as Function}
-use Rattle.go_tree.specs.ScopeNames.Means.{means, is_blank, binding}
-use Rattle.go_tree.specs.ScopeNames.FreeNames.{names_of}
-use Rattle.go_tree.specs.GoTypes.Answers.{given, only_if, both}
-use Rattle.go_tree.specs.GoTypes.Types.{GoType}
-use Rattle.go_tree.specs.GoTypes.Entities.{Entity, variable, constant, stand_in, type_name, function, package_name, builtin, nil_name, iota_name, refused, universe, World, Env, Binds, block_of, exported, is_exported}
-use Rattle.go_tree.specs.GoTypes.TypeNames.{func_type, written_type}
-use Rattle.go_tree.specs.GoTypes.Operands.{Operand, all_typed}
-use Rattle.go_tree.specs.GoTypes.Declarations.{bind_all, bind_each, variable_entity, constant_entity}
-use Rattle.go_tree.specs.GoTypes.Bodies.{body_binds, no_values}
-use Rattle.go_tree.specs.GoTypes.Bodiless.{all_bodiless}
-use Rattle.go_tree.specs.GoTypes.Initial.{all_initial}
-use Rattle.go_tree.specs.GoTypes.Typing.{all_parts}
-use Rattle.go_tree.specs.GoTypes.Programs.{Program, Import, import_entity, import_sound, file_block, constants, variables, a_type_spec, a_func, Header, Headed, spec_of, headed, header_names}
-use Rattle.go_tree.specs.GoTypes.Collect.{env_of, collected, valued_world, types_declared, DeclaredTypes, declared_by, package_constants, package_variables, func_declared, function_declared, may_be_main, good_entity, is_good_type, type_entity, spec_type, binds_or_refused, block_by, blocks_by}
-use Rattle.go_tree.proofs.GoTypes.Agreeing.{from_given}
+use Rattle.go_rules.specs.ScopeNames.Means.{means, is_blank, binding}
+use Rattle.go_rules.specs.ScopeNames.FreeNames.{names_of}
+use Rattle.go_rules.specs.GoTypes.Answers.{given, only_if, both}
+use Rattle.go_rules.specs.GoTypes.Types.{GoType}
+use Rattle.go_rules.specs.GoTypes.Entities.{Entity, variable, constant, stand_in, type_name, function, package_name, builtin, nil_name, iota_name, refused, universe, World, Env, Binds, block_of, exported, is_exported}
+use Rattle.go_rules.specs.GoTypes.TypeNames.{func_type, written_type}
+use Rattle.go_rules.specs.GoTypes.Operands.{Operand, all_typed}
+use Rattle.go_rules.specs.GoTypes.Declarations.{bind_all, bind_each, variable_entity, constant_entity}
+use Rattle.go_rules.specs.GoTypes.Bodies.{body_binds, no_values}
+use Rattle.go_rules.specs.GoTypes.Bodiless.{all_bodiless}
+use Rattle.go_rules.specs.GoTypes.Initial.{all_initial}
+use Rattle.go_rules.specs.GoTypes.Typing.{all_parts}
+use Rattle.go_rules.specs.GoTypes.Programs.{Program, Import, import_entity, import_sound, file_block, constants, variables, a_type_spec, a_func, Header, Headed, spec_of, headed, header_names}
+use Rattle.go_rules.specs.GoTypes.Collect.{env_of, collected, valued_world, types_declared, DeclaredTypes, declared_by, package_constants, package_variables, func_declared, function_declared, may_be_main, good_entity, is_good_type, type_entity, spec_type, binds_or_refused, block_by, blocks_by}
+use Rattle.go_rules.proofs.GoTypes.Agreeing.{from_given}
 use Rattle.typed_in_place.proofs.Collected.{valued_settled}
 use Rattle.go_kernel.specs.Kernel.{Name}
 use Rattle.go_kernel.specs.Scope.{has}

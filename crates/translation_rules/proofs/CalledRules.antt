@@ -2,19 +2,19 @@
 use Rattle.std.specs.Prelude.{◌≡◌, refl, ℕ, Bool, true, false, not, ◌&&◌, ◌||◌, List, [], ◌∷◌, Option, Some, None, if◌then◌else◌, pos}
 use mathlib.Core.Path.{subst}
 use Rattle.std.proofs.Common.{arith}
-use Rattle.go_tree.specs.GoTypes.Answers.{given, only_if}
-use Rattle.go_tree.specs.GoTypes.Types.{GoType, basic, untyped, untyped_nil, named_type, pointer_to, slice_of, map_of, struct_of, tuple_of, base_of}
-use Rattle.go_tree.specs.GoTypes.Defined.{Defined, Method, methods}
-use Rattle.go_tree.specs.GoTypes.Entities.{Builtin, Append, Cap, Copy, Delete, Len, Make, New, Panic, Print, Println, Recover, Place as StandsAt, run, exact, Entity, variable, constant, stand_in, type_name, function, package_name, builtin, nil_name, iota_name, refused, Env, is_exported}
-use Rattle.go_tree.specs.GoTypes.Operands.{Operand, value, several, a_type, a_function, a_builtin, recovered, Typed, plain_value, named_operand}
-use Rattle.go_tree.specs.GoTypes.Primary.{sees, home_of, find_method, is_addressable, selected, field_type, method_of, method_value, builtin_call, call_of}
+use Rattle.go_rules.specs.GoTypes.Answers.{given, only_if}
+use Rattle.go_rules.specs.GoTypes.Types.{GoType, basic, untyped, untyped_nil, named_type, pointer_to, slice_of, map_of, struct_of, tuple_of, base_of}
+use Rattle.go_rules.specs.GoTypes.Defined.{Defined, Method, methods}
+use Rattle.go_rules.specs.GoTypes.Entities.{Builtin, Append, Cap, Copy, Delete, Len, Make, New, Panic, Print, Println, Recover, Place as StandsAt, run, exact, Entity, variable, constant, stand_in, type_name, function, package_name, builtin, nil_name, iota_name, refused, Env, is_exported}
+use Rattle.go_rules.specs.GoTypes.Operands.{Operand, value, several, a_type, a_function, a_builtin, recovered, Typed, plain_value, named_operand}
+use Rattle.go_rules.specs.GoTypes.Primary.{sees, home_of, find_method, is_addressable, selected, field_type, method_of, method_value, builtin_call, call_of}
 use Rattle.go_kernel.specs.Kernel as k
 use Rattle.go_kernel.specs.Kernel.{ImportPath, Term, Both, Prim}
-use Rattle.go_tree.specs.declared.const_eval.kinds.Kind.TheVariants as kind
-use Rattle.go_tree.specs.declared.const_eval.consts.Const.TheVariants.{Whole}
+use Rattle.go_rules.specs.declared.const_eval.kinds.Kind.TheVariants as kind
+use Rattle.go_rules.specs.declared.const_eval.consts.Const.TheVariants.{Whole}
 use Rattle.go_translation.specs.Here.{Here, defined_here}
 use Rattle.go_translation.specs.Operators.{own_type, type_or}
-use Rattle.go_tree.specs.GoTypes.Relations.{is_whole_number}
+use Rattle.go_rules.specs.GoTypes.Relations.{is_whole_number}
 use Rattle.go_translation.specs.Calls.{is_slice, is_nil_value, is_untyped_constant, conversion_op, conversion_term, first_operand, builtin_term, Callee, to_function, to_literal, to_type, to_builtin, to_nothing, function_named, named_callee, method_on, method_callee, call_term, defer_term}
 use Rattle.go_translation.specs.Values.{kind_at}
 use Rattle.go_translation.proofs.ScopesOf.{some_same, from_only}

@@ -2,13 +2,13 @@
 use Rattle.std.specs.Prelude.{◌≡◌, refl, Bool, true, false, List, [], ◌∷◌, Some, if◌then◌else◌}
 use Rattle.go_tree.specs.Tree.{NameAt, Sig, Expr, Stmt}
 use Rattle.go_tree.specs.File.{Func as Function}
-use Rattle.go_tree.specs.GoTypes.Types.{FuncType}
-use Rattle.go_tree.specs.GoTypes.Entities.{World, Binds}
-use Rattle.go_tree.specs.GoTypes.Operands.{Operand}
-use Rattle.go_tree.specs.GoTypes.Jumps.{is_loop, is_breakable}
-use Rattle.go_tree.specs.GoTypes.Bodies.{Ctx, body_binds, labelled}
-use Rattle.go_tree.specs.GoTypes.Typing.{parts}
-use Rattle.go_tree.specs.GoTypes.Programs.{Headed}
+use Rattle.go_rules.specs.GoTypes.Types.{FuncType}
+use Rattle.go_rules.specs.GoTypes.Entities.{World, Binds}
+use Rattle.go_rules.specs.GoTypes.Operands.{Operand}
+use Rattle.go_rules.specs.GoTypes.Jumps.{is_loop, is_breakable}
+use Rattle.go_rules.specs.GoTypes.Bodies.{Ctx, body_binds, labelled}
+use Rattle.go_rules.specs.GoTypes.Typing.{parts}
+use Rattle.go_rules.specs.GoTypes.Programs.{Headed}
 use Rattle.go_kernel.specs.Kernel.{Name}
 use Rattle.go_translation.specs.Mentions.{Way, Mention, mentions}
 use Rattle.go_translation.specs.Here.{Here, in_inner, declaring, at_body}

@@ -4,22 +4,22 @@ use Rattle.std.specs.Prelude.{◌≡◌, refl, ℕ, true, false, ◌||◌, List,
 use mathlib.Core.Path.{ap, sym, ◌∙◌, subst}
 use Rattle.std.proofs.Common.{arith}
 use Rattle.go_tree.specs.Tree.{Expr, ident, int_lit, rune_lit, str_lit, composite, selector, index, slice, call, func_lit, type_operand, unary, binary, star, NameAt}
-use Rattle.go_tree.specs.declared.const_eval.kinds.Kind.TheVariants as kind
-use Rattle.go_tree.specs.ConstEval.Exact.{number, text}
-use Rattle.go_tree.specs.ConstEval.Literals.{integer_value, literal_value}
+use Rattle.go_rules.specs.declared.const_eval.kinds.Kind.TheVariants as kind
+use Rattle.go_rules.specs.ConstEval.Exact.{number, text}
+use Rattle.go_rules.specs.ConstEval.Literals.{integer_value, literal_value}
 use Rattle.go_tree.specs.GoWords.Texts.{text_value}
-use Rattle.go_tree.specs.GoTypes.Answers.{given}
-use Rattle.go_tree.specs.GoTypes.Types.{FuncType, GoType, basic, untyped}
-use Rattle.go_tree.specs.GoTypes.Defined.{Defined, under}
-use Rattle.go_tree.specs.GoTypes.Entities.{Binds, meaning, exported, extend, in_block}
-use Rattle.go_tree.specs.GoTypes.TypeNames.{type_meant, func_type}
-use Rattle.go_tree.specs.GoTypes.Operands.{with_value, place_by, Operand, a_type, a_function, typed, named_operand, named_place, spread}
-use Rattle.go_tree.specs.GoTypes.Operators.{unary_of, binary_of, star_of, has_address}
-use Rattle.go_tree.specs.GoTypes.Primary.{is_addressable, selected, selected_place, index_of, index_place, call_of, sliced}
-use Rattle.go_tree.specs.GoTypes.Literals.{built}
-use Rattle.go_tree.specs.GoTypes.Bodies.{body_binds}
-use Rattle.go_tree.specs.GoTypes.Typing.{parts, all_parts, bound, elements, place, package_before}
-use Rattle.go_tree.proofs.GoTypes.Agreeing.{from_given}
+use Rattle.go_rules.specs.GoTypes.Answers.{given}
+use Rattle.go_rules.specs.GoTypes.Types.{FuncType, GoType, basic, untyped}
+use Rattle.go_rules.specs.GoTypes.Defined.{Defined, under}
+use Rattle.go_rules.specs.GoTypes.Entities.{Binds, meaning, exported, extend, in_block}
+use Rattle.go_rules.specs.GoTypes.TypeNames.{type_meant, func_type}
+use Rattle.go_rules.specs.GoTypes.Operands.{with_value, place_by, Operand, a_type, a_function, typed, named_operand, named_place, spread}
+use Rattle.go_rules.specs.GoTypes.Operators.{unary_of, binary_of, star_of, has_address}
+use Rattle.go_rules.specs.GoTypes.Primary.{is_addressable, selected, selected_place, index_of, index_place, call_of, sliced}
+use Rattle.go_rules.specs.GoTypes.Literals.{built}
+use Rattle.go_rules.specs.GoTypes.Bodies.{body_binds}
+use Rattle.go_rules.specs.GoTypes.Typing.{parts, all_parts, bound, elements, place, package_before}
+use Rattle.go_rules.proofs.GoTypes.Agreeing.{from_given}
 use Rattle.go_kernel.specs.Kernel as k
 use Rattle.go_kernel.specs.Kernel.{ImportPath, Alloc, Term, Local, Both, Prim, no_func}
 use Rattle.go_translation.specs.Values.{path_of, zero_of, typed_of, constant_term}

@@ -3,15 +3,15 @@ use Rattle.std.specs.Prelude.{◌≡◌, refl, ℕ, suc, Bool, true, false, ◌&
 use mathlib.Core.Path.{ap, sym, ◌∙◌, subst}
 use Rattle.std.proofs.Common.{arith}
 use Rattle.go_tree.specs.Tree.{NameAt, Expr, ident, int_lit, rune_lit, str_lit, composite, selector, index, slice, call, func_lit, type_operand, unary, binary, star}
-use Rattle.go_tree.specs.GoTypes.Answers.{given}
-use Rattle.go_tree.specs.GoTypes.Types.{GoType, GoFields, no_go_fields, go_field}
-use Rattle.go_tree.specs.GoTypes.Defined.{Defined, methods}
-use Rattle.go_tree.specs.GoTypes.Types.{base_of}
-use Rattle.go_tree.specs.GoTypes.Entities.{Content, run, exported}
-use Rattle.go_tree.specs.GoTypes.Operands.{Operand, value, a_type, a_function, a_builtin, several, recovered, Typed, typed, plain_value, with_value, named_operand}
-use Rattle.go_tree.specs.GoTypes.Primary.{sees, find_field, find_method, fields_in, field_type, is_addressable, method_of, method_value, selected}
-use Rattle.go_tree.specs.GoTypes.Typing.{parts, place}
-use Rattle.go_tree.proofs.GoTypes.Agreeing.{from_given}
+use Rattle.go_rules.specs.GoTypes.Answers.{given}
+use Rattle.go_rules.specs.GoTypes.Types.{GoType, GoFields, no_go_fields, go_field}
+use Rattle.go_rules.specs.GoTypes.Defined.{Defined, methods}
+use Rattle.go_rules.specs.GoTypes.Types.{base_of}
+use Rattle.go_rules.specs.GoTypes.Entities.{Content, run, exported}
+use Rattle.go_rules.specs.GoTypes.Operands.{Operand, value, a_type, a_function, a_builtin, several, recovered, Typed, typed, plain_value, with_value, named_operand}
+use Rattle.go_rules.specs.GoTypes.Primary.{sees, find_field, find_method, fields_in, field_type, is_addressable, method_of, method_value, selected}
+use Rattle.go_rules.specs.GoTypes.Typing.{parts, place}
+use Rattle.go_rules.proofs.GoTypes.Agreeing.{from_given}
 use Rattle.go_translation.specs.Values.{typed_of}
 use Rattle.go_translation.specs.Here.{Here, defined_here}
 use Rattle.go_translation.specs.Calls.{field_number, fields_or_none, selected_field}

@@ -4,17 +4,17 @@ use mathlib.Core.Path.{ap, ap₂, sym, ◌∙◌, subst}
 use Rattle.std.proofs.lemmas.List.{append_assoc}
 use Rattle.go_tree.specs.Tree.{TypeExpr, Fields, named, pointer, slice_type, map_type, struct_type, no_fields, field, Sig, Param}
 use Rattle.go_tree.specs.File.{Receiver, Func as Function}
-use Rattle.go_tree.specs.ScopeNames.Means.{Environment, means, is_blank}
-use Rattle.go_tree.specs.GoTypes.Answers.{given, only_if, both, otherwise, distinct_by}
-use Rattle.go_tree.specs.GoTypes.Types.{named_type, FuncType, map_of, pointer_to, slice_of, struct_of}
-use Rattle.go_tree.specs.GoTypes.Defined.{has_keys}
-use Rattle.go_tree.specs.GoTypes.Entities.{Entity, World, Env, Binds, defined_in, in_block}
-use Rattle.go_tree.specs.GoTypes.TypeNames.{resolved, resolved_fields, type_meant, params_meant, func_type, field_before}
-use Rattle.go_tree.specs.GoTypes.Declarations.{bound_names}
-use Rattle.go_tree.specs.GoTypes.Bodies.{param_binds, body_binds}
-use Rattle.go_tree.specs.GoTypes.Programs.{Headed}
-use Rattle.go_tree.specs.GoTypes.MethodDeclarations.{receiver_type, receiver_binds}
-use Rattle.go_tree.specs.GoTypes.WellTyped.{receiver_of}
+use Rattle.go_rules.specs.ScopeNames.Means.{Environment, means, is_blank}
+use Rattle.go_rules.specs.GoTypes.Answers.{given, only_if, both, otherwise, distinct_by}
+use Rattle.go_rules.specs.GoTypes.Types.{named_type, FuncType, map_of, pointer_to, slice_of, struct_of}
+use Rattle.go_rules.specs.GoTypes.Defined.{has_keys}
+use Rattle.go_rules.specs.GoTypes.Entities.{Entity, World, Env, Binds, defined_in, in_block}
+use Rattle.go_rules.specs.GoTypes.TypeNames.{resolved, resolved_fields, type_meant, params_meant, func_type, field_before}
+use Rattle.go_rules.specs.GoTypes.Declarations.{bound_names}
+use Rattle.go_rules.specs.GoTypes.Bodies.{param_binds, body_binds}
+use Rattle.go_rules.specs.GoTypes.Programs.{Headed}
+use Rattle.go_rules.specs.GoTypes.MethodDeclarations.{receiver_type, receiver_binds}
+use Rattle.go_rules.specs.GoTypes.WellTyped.{receiver_of}
 use Rattle.go_kernel.specs.Kernel.{named_result}
 use Rattle.go_translation.specs.Mentions.{Mention, is_held, is_held_param}
 use Rattle.go_translation.specs.Here.{Location, Here, BodyNames, name_options, param_locals, result_locals, located_names, at_body}

@@ -1,16 +1,16 @@
 -- What typed loops, switches and arms say of their parts, where they stand behind their first statement.
 use Rattle.std.specs.Prelude.{◌≡◌, ℕ, Bool, true, false, not, ◌&&◌, List, ◌++◌, Option, Some, None}
 use Rattle.go_tree.specs.Tree.{Expr, ExprOption, Stmts, StmtOption, RangeLeft, nothing, assigns, defines, Arms, Cases}
-use Rattle.go_tree.specs.GoTypes.Answers.{given, only_if, meets, both}
-use Rattle.go_tree.specs.GoTypes.Defined.{Defined}
-use Rattle.go_tree.specs.GoTypes.Entities.{Env, defined_in, in_block}
-use Rattle.go_tree.specs.GoTypes.Operands.{Operand, Typed, typed}
-use Rattle.go_tree.specs.GoTypes.Declarations.{Declared, all_used}
-use Rattle.go_tree.specs.GoTypes.Bodies.{Ctx, in_loop, in_switch}
-use Rattle.go_tree.specs.GoTypes.Statements.{is_condition, is_test, tag_value, tag_of, Clauses, choice, is_define, is_absent}
-use Rattle.go_tree.specs.GoTypes.Jumps.{breaks_in}
-use Rattle.go_tree.specs.GoTypes.Typing.{parts, bound, used, used_option, used_first, used_stmts, used_arms, used_cases, range_declares, stmts, first, ranges, arms, clauses}
-use Rattle.go_tree.proofs.GoTypes.Agreeing.{from_given}
+use Rattle.go_rules.specs.GoTypes.Answers.{given, only_if, meets, both}
+use Rattle.go_rules.specs.GoTypes.Defined.{Defined}
+use Rattle.go_rules.specs.GoTypes.Entities.{Env, defined_in, in_block}
+use Rattle.go_rules.specs.GoTypes.Operands.{Operand, Typed, typed}
+use Rattle.go_rules.specs.GoTypes.Declarations.{Declared, all_used}
+use Rattle.go_rules.specs.GoTypes.Bodies.{Ctx, in_loop, in_switch}
+use Rattle.go_rules.specs.GoTypes.Statements.{is_condition, is_test, tag_value, tag_of, Clauses, choice, is_define, is_absent}
+use Rattle.go_rules.specs.GoTypes.Jumps.{breaks_in}
+use Rattle.go_rules.specs.GoTypes.Typing.{parts, bound, used, used_option, used_first, used_stmts, used_arms, used_cases, range_declares, stmts, first, ranges, arms, clauses}
+use Rattle.go_rules.proofs.GoTypes.Agreeing.{from_given}
 use Rattle.go_translation.specs.Here.{Here}
 use Rattle.go_translation.proofs.ScopesOf.{from_both, from_only}
 use Rattle.translation_rules.specs.Rules.{is_evaluated}

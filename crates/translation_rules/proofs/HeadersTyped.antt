@@ -3,14 +3,14 @@ use Rattle.std.specs.Prelude.{if◌then◌else◌, ◌≡◌, refl, ℕ, suc, Bo
 use mathlib.Core.Path.{ap₂, subst}
 use Rattle.std.proofs.Common.{arith}
 use Rattle.std.proofs.lemmas.Bool.Decides.{nat_tests}
-use Rattle.go_tree.specs.ScopeNames.Means.{Environment}
-use Rattle.go_tree.specs.GoTypes.Answers.{meets, one_of, and_also}
-use Rattle.go_tree.specs.GoTypes.Defined.{Method}
-use Rattle.go_tree.specs.GoTypes.Entities.{Entity, World}
-use Rattle.go_tree.specs.GoTypes.Programs.{SourceFile, Program, file_block, Header, Headed, headed_file, headed_files, headed_package, headed, header_names, all_headers, names_in, block_names, is_main}
-use Rattle.go_tree.specs.GoTypes.Collect.{collected, types_declared, DeclaredTypes, declared_by}
-use Rattle.go_tree.specs.GoTypes.MethodDeclarations.{MethodName, method_header, declared_on}
-use Rattle.go_tree.specs.GoTypes.WellTyped.{refused_unless, is_method, method_ok, header_ok, body_ok, first_import, first_header, first_in_files, first_body, lacks_main, refused_header, refused_in, first_refused, refused_place, well_typed}
+use Rattle.go_rules.specs.ScopeNames.Means.{Environment}
+use Rattle.go_rules.specs.GoTypes.Answers.{meets, one_of, and_also}
+use Rattle.go_rules.specs.GoTypes.Defined.{Method}
+use Rattle.go_rules.specs.GoTypes.Entities.{Entity, World}
+use Rattle.go_rules.specs.GoTypes.Programs.{SourceFile, Program, file_block, Header, Headed, headed_file, headed_files, headed_package, headed, header_names, all_headers, names_in, block_names, is_main}
+use Rattle.go_rules.specs.GoTypes.Collect.{collected, types_declared, DeclaredTypes, declared_by}
+use Rattle.go_rules.specs.GoTypes.MethodDeclarations.{MethodName, method_header, declared_on}
+use Rattle.go_rules.specs.GoTypes.WellTyped.{refused_unless, is_method, method_ok, header_ok, body_ok, first_import, first_header, first_in_files, first_body, lacks_main, refused_header, refused_in, first_refused, refused_place, well_typed}
 use Rattle.go_translation.proofs.AskedFor.{Each, each_join}
 
 -- ---- what is typed

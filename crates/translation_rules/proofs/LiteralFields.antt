@@ -4,15 +4,15 @@ use Rattle.std.specs.List.{list_all}
 use mathlib.Core.Path.{ap, sym, ◌∙◌, subst}
 use Rattle.std.proofs.Common.{arith}
 use Rattle.go_tree.specs.Tree.{Elems, no_elems, elem, Value, ValueOption, no_value, some_value}
-use Rattle.go_tree.specs.ScopeNames.Means.{is_blank}
-use Rattle.go_tree.specs.GoTypes.Answers.{given, meets, distinct_by}
-use Rattle.go_tree.specs.GoTypes.Types.{GoType, GoFields, no_go_fields, go_field, fields_of, element_of, map_parts}
-use Rattle.go_tree.specs.GoTypes.Entities.{Env, defined_in}
-use Rattle.go_tree.specs.GoTypes.Operands.{Operand, takes}
-use Rattle.go_tree.specs.GoTypes.Primary.{sees, find_field}
-use Rattle.go_tree.specs.GoTypes.Literals.{Element, unkeyed, of_field, keyed, field_key, inner_type, key_type, fills, sets_field, fields_set, struct_takes, slice_takes, map_takes, literal_takes}
-use Rattle.go_tree.specs.GoTypes.Typing.{element, elements, with_key}
-use Rattle.go_tree.proofs.GoTypes.Agreeing.{from_given}
+use Rattle.go_rules.specs.ScopeNames.Means.{is_blank}
+use Rattle.go_rules.specs.GoTypes.Answers.{given, meets, distinct_by}
+use Rattle.go_rules.specs.GoTypes.Types.{GoType, GoFields, no_go_fields, go_field, fields_of, element_of, map_parts}
+use Rattle.go_rules.specs.GoTypes.Entities.{Env, defined_in}
+use Rattle.go_rules.specs.GoTypes.Operands.{Operand, takes}
+use Rattle.go_rules.specs.GoTypes.Primary.{sees, find_field}
+use Rattle.go_rules.specs.GoTypes.Literals.{Element, unkeyed, of_field, keyed, field_key, inner_type, key_type, fills, sets_field, fields_set, struct_takes, slice_takes, map_takes, literal_takes}
+use Rattle.go_rules.specs.GoTypes.Typing.{element, elements, with_key}
+use Rattle.go_rules.proofs.GoTypes.Agreeing.{from_given}
 use Rattle.go_translation.specs.Calls.{field_number}
 use Rattle.go_translation.specs.Statements.{key_name}
 use Rattle.go_translation.specs.Facts.{key_place, element_place, element_places}

@@ -4,20 +4,20 @@ use mathlib.Core.Path.{ap, sym, ◌∙◌, subst}
 use Rattle.std.proofs.Common.{arith}
 use Rattle.go_tree.specs.Tree.{Expr, ident, int_lit, rune_lit, str_lit, composite, selector, index, slice, call, func_lit, type_operand, unary, binary, star, StmtOption, no_stmt, some_stmt}
 use Rattle.go_tree.specs.declared.operators.BinOp.{BinOp}
-use Rattle.go_tree.specs.ScopeNames.Means.{is_blank, binding}
-use Rattle.go_tree.specs.ScopeNames.FreeNames.{declared}
-use Rattle.go_tree.specs.GoTypes.Answers.{given, only_if, meets, both}
-use Rattle.go_tree.specs.GoTypes.Types.{GoType}
-use Rattle.go_tree.specs.GoTypes.Defined.{Defined}
-use Rattle.go_tree.specs.GoTypes.Entities.{Binds, Place as StandsAt, addressable, map_element, literal, elsewhere, Entity, variable, constant, stand_in, type_name, function, package_name, builtin, nil_name, iota_name, refused, Env, defined_in, meaning, exported, is_declared_here}
-use Rattle.go_tree.specs.GoTypes.Operands.{with_value, place_by, Operand, value, several, a_type, a_function, a_builtin, recovered, Typed, typed, named_operand, named_place}
-use Rattle.go_tree.specs.GoTypes.Operators.{has_address}
-use Rattle.go_tree.specs.GoTypes.Primary.{is_addressable, selected, selected_place, field_type, field_place, index_of, index_place, call_of, may_be_deferred}
-use Rattle.go_tree.specs.GoTypes.Declarations.{Declared, binds_of, assigns_to, defined_by, new_variables, new_by_define, bind_all, variable_entity, may_declare, names_once}
-use Rattle.go_tree.specs.GoTypes.Bodies.{Ctx}
-use Rattle.go_tree.specs.GoTypes.Statements.{Target, target_at, updates}
-use Rattle.go_tree.specs.GoTypes.Typing.{parts, all_parts, place, package_before, is_call, declares, first}
-use Rattle.go_tree.proofs.GoTypes.Agreeing.{from_given}
+use Rattle.go_rules.specs.ScopeNames.Means.{is_blank, binding}
+use Rattle.go_rules.specs.ScopeNames.FreeNames.{declared}
+use Rattle.go_rules.specs.GoTypes.Answers.{given, only_if, meets, both}
+use Rattle.go_rules.specs.GoTypes.Types.{GoType}
+use Rattle.go_rules.specs.GoTypes.Defined.{Defined}
+use Rattle.go_rules.specs.GoTypes.Entities.{Binds, Place as StandsAt, addressable, map_element, literal, elsewhere, Entity, variable, constant, stand_in, type_name, function, package_name, builtin, nil_name, iota_name, refused, Env, defined_in, meaning, exported, is_declared_here}
+use Rattle.go_rules.specs.GoTypes.Operands.{with_value, place_by, Operand, value, several, a_type, a_function, a_builtin, recovered, Typed, typed, named_operand, named_place}
+use Rattle.go_rules.specs.GoTypes.Operators.{has_address}
+use Rattle.go_rules.specs.GoTypes.Primary.{is_addressable, selected, selected_place, field_type, field_place, index_of, index_place, call_of, may_be_deferred}
+use Rattle.go_rules.specs.GoTypes.Declarations.{Declared, binds_of, assigns_to, defined_by, new_variables, new_by_define, bind_all, variable_entity, may_declare, names_once}
+use Rattle.go_rules.specs.GoTypes.Bodies.{Ctx}
+use Rattle.go_rules.specs.GoTypes.Statements.{Target, target_at, updates}
+use Rattle.go_rules.specs.GoTypes.Typing.{parts, all_parts, place, package_before, is_call, declares, first}
+use Rattle.go_rules.proofs.GoTypes.Agreeing.{from_given}
 use Rattle.go_kernel.specs.Kernel as k
 use Rattle.go_kernel.specs.Kernel.{ImportPath, Term, Both, no_func}
 use Rattle.go_translation.specs.Values as v
@@ -33,7 +33,7 @@ use Rattle.go_translation.specs.Facts.{typed_at, binds_first}
 use Rattle.go_translation.specs.Translation.{expr_term, args_term, try_term, place_term, callee, deferred_term}
 use Rattle.go_translation.proofs.ScopesOf.{some_same, from_both, from_only}
 use Rattle.go_translation.proofs.Widths.{IsResult, call_result, typed_one}
-use Rattle.go_tree.specs.GoTypes.Operands.{spread}
+use Rattle.go_rules.specs.GoTypes.Operands.{spread}
 use Rattle.translation_rules.specs.Rules.{has_rule, is_somewhere, is_evaluated, is_stored_to, StandsAs, VariablesStand}
 use Rattle.translation_rules.specs.Ruled.{WhereSo, UnlessSo, OldAreSomewhere}
 use Rattle.translation_rules.proofs.CalledRules.{Defers, defer_ruled}

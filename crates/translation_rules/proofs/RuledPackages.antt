@@ -3,26 +3,26 @@ use Rattle.std.specs.Prelude.{◌≡◌, refl, ℕ, suc, Bool, true, false, ◌&
 use mathlib.Core.Path.{ap, sym, ◌∙◌, subst}
 use Rattle.go_tree.specs.Tree.{NameAt, TypeExpr, Expr, Exprs, no_exprs, expr_and}
 use Rattle.go_tree.specs.File.{Func as Function}
-use Rattle.go_tree.specs.ScopeNames.Means.{Environment, binding}
-use Rattle.go_tree.specs.GoTypes.Answers.{given, only_if, otherwise, unless_missing}
-use Rattle.go_tree.specs.GoTypes.Types.{GoType, FuncType}
-use Rattle.go_tree.specs.GoTypes.Entities.{Entity, World, Binds, extend, in_block, defined_in}
-use Rattle.go_tree.specs.GoTypes.TypeNames.{func_type, written_type}
-use Rattle.go_tree.specs.GoTypes.Operands.{Operand, Typed}
-use Rattle.go_tree.specs.GoTypes.Bodies.{Ctx, body_binds, body_ctx, no_values, returns}
-use Rattle.go_tree.specs.GoTypes.Statements.{right_values}
-use Rattle.go_tree.specs.GoTypes.Bodiless.{all_bodiless}
-use Rattle.go_tree.specs.GoTypes.Initial.{all_initial}
-use Rattle.go_tree.specs.GoTypes.Typing.{parts, all_parts, places, stmts}
-use Rattle.go_tree.specs.GoTypes.Programs.{SourceFile, Program, Import, file_block, constants, variables, a_type_spec, a_func, Header, Headed, func_of, headed_file, headed_files, headed_package, headed, header_names, all_headers, names_in, block_names, is_main}
-use Rattle.go_tree.specs.GoTypes.Collect.{env_of, types_declared, DeclaredTypes, package_constants, package_variables, func_declared, good_entity}
-use Rattle.go_tree.specs.GoTypes.WellTyped.{is_method, receiver_of, body_env, function_ok, well_typed}
-use Rattle.go_tree.proofs.GoTypes.Agreeing.{from_given}
+use Rattle.go_rules.specs.ScopeNames.Means.{Environment, binding}
+use Rattle.go_rules.specs.GoTypes.Answers.{given, only_if, otherwise, unless_missing}
+use Rattle.go_rules.specs.GoTypes.Types.{GoType, FuncType}
+use Rattle.go_rules.specs.GoTypes.Entities.{Entity, World, Binds, extend, in_block, defined_in}
+use Rattle.go_rules.specs.GoTypes.TypeNames.{func_type, written_type}
+use Rattle.go_rules.specs.GoTypes.Operands.{Operand, Typed}
+use Rattle.go_rules.specs.GoTypes.Bodies.{Ctx, body_binds, body_ctx, no_values, returns}
+use Rattle.go_rules.specs.GoTypes.Statements.{right_values}
+use Rattle.go_rules.specs.GoTypes.Bodiless.{all_bodiless}
+use Rattle.go_rules.specs.GoTypes.Initial.{all_initial}
+use Rattle.go_rules.specs.GoTypes.Typing.{parts, all_parts, places, stmts}
+use Rattle.go_rules.specs.GoTypes.Programs.{SourceFile, Program, Import, file_block, constants, variables, a_type_spec, a_func, Header, Headed, func_of, headed_file, headed_files, headed_package, headed, header_names, all_headers, names_in, block_names, is_main}
+use Rattle.go_rules.specs.GoTypes.Collect.{env_of, types_declared, DeclaredTypes, package_constants, package_variables, func_declared, good_entity}
+use Rattle.go_rules.specs.GoTypes.WellTyped.{is_method, receiver_of, body_env, function_ok, well_typed}
+use Rattle.go_rules.proofs.GoTypes.Agreeing.{from_given}
 use Rattle.go_kernel.specs.Kernel.{ImportPath}
 use Rattle.go_translation.specs.Mentions.{Way, Mention, mentions, mentions_all, mentions_stmts}
 use Rattle.go_translation.specs.Here.{Here, at_body}
 use Rattle.go_translation.specs.Widths.{Reachable}
-use Rattle.go_tree.specs.ScopeNames.FreeNames.{names_of}
+use Rattle.go_rules.specs.ScopeNames.FreeNames.{names_of}
 use Rattle.std.proofs.Common.{arith}
 use Rattle.go_translation.specs.Facts.{value_types}
 use Rattle.go_translation.specs.Statements.{spec_types}

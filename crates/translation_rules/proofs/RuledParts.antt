@@ -4,21 +4,21 @@ use Rattle.std.specs.Prelude.{◌≡◌, refl, ℕ, Bool, true, false, List, [],
 use mathlib.Core.Path.{ap, ap₂, sym, ◌∙◌, subst}
 use Rattle.std.proofs.Common.{inl, inr, arith}
 use Rattle.go_tree.specs.Tree.{NameAt, TypeExpr, Expr, ident, int_lit, rune_lit, str_lit, composite, selector, index, slice, call, func_lit, type_operand, unary, binary, star, Exprs, no_exprs, expr_and, ExprOption, no_expr, some_expr, Elems, no_elems, elem, Value, plain, braced, ValueOption, no_value, some_value, Stmt, const_decl, var_decl, empty, eval, step, assign, define, return_, break_, continue_, inner, if_, for_, range_, switch, defer, label, Stmts, no_stmts, stmt_and, StmtOption, no_stmt, some_stmt, BlockOption, no_block, some_block, RangeLeft, nothing, assigns, defines, Arms, no_arms, arm, Cases, no_cases, case, ValueSpecs, no_specs, spec}
-use Rattle.go_tree.specs.ScopeNames.FreeNames.{names_of, sig_names, declared, defined}
-use Rattle.go_tree.specs.GoTypes.Answers.{given, meets}
-use Rattle.go_tree.specs.GoTypes.Types.{GoType}
-use Rattle.go_tree.specs.GoTypes.Defined.{under}
-use Rattle.go_tree.specs.GoTypes.Entities.{Binds, Env, exported, extend, in_block}
-use Rattle.go_tree.specs.GoTypes.TypeNames.{type_meant, func_type, written_type}
-use Rattle.go_tree.specs.GoTypes.Operands.{with_value, Operand, a_function, Typed, typed, all_typed, named_operand}
-use Rattle.go_tree.specs.GoTypes.Operators.{unary_of, binary_of, star_of}
-use Rattle.go_tree.specs.GoTypes.Primary.{selected, call_of, stands_alone, may_be_deferred}
-use Rattle.go_tree.specs.GoTypes.Literals.{Element, of_field, keyed, is_struct, field_key, built, built_inside, key_type, inner_type, literal_type}
-use Rattle.go_tree.specs.GoTypes.Declarations.{Declared, binds_or, binds_of, new_variables, new_by_define}
-use Rattle.go_tree.specs.GoTypes.Bodies.{Ctx, in_loop, in_switch, body_binds, body_ctx, literal_env, is_body, no_values, returns, labelled}
-use Rattle.go_tree.specs.GoTypes.Statements.{Target, blank, target_at, stores_all, updates, range_assigns, is_blank_name, step_op, right_values, one_more, is_empty_stmt, Clauses}
-use Rattle.go_tree.specs.GoTypes.Typing.{parts, all_parts, bound, elements, element, with_key, place, places, used_block, declares, declares_variables, range_declares, targets, stmt, stmts, first, block, is_call, ranges, arms, clauses, package_before}
-use Rattle.go_tree.proofs.GoTypes.Agreeing.{from_given}
+use Rattle.go_rules.specs.ScopeNames.FreeNames.{names_of, sig_names, declared, defined}
+use Rattle.go_rules.specs.GoTypes.Answers.{given, meets}
+use Rattle.go_rules.specs.GoTypes.Types.{GoType}
+use Rattle.go_rules.specs.GoTypes.Defined.{under}
+use Rattle.go_rules.specs.GoTypes.Entities.{Binds, Env, exported, extend, in_block}
+use Rattle.go_rules.specs.GoTypes.TypeNames.{type_meant, func_type, written_type}
+use Rattle.go_rules.specs.GoTypes.Operands.{with_value, Operand, a_function, Typed, typed, all_typed, named_operand}
+use Rattle.go_rules.specs.GoTypes.Operators.{unary_of, binary_of, star_of}
+use Rattle.go_rules.specs.GoTypes.Primary.{selected, call_of, stands_alone, may_be_deferred}
+use Rattle.go_rules.specs.GoTypes.Literals.{Element, of_field, keyed, is_struct, field_key, built, built_inside, key_type, inner_type, literal_type}
+use Rattle.go_rules.specs.GoTypes.Declarations.{Declared, binds_or, binds_of, new_variables, new_by_define}
+use Rattle.go_rules.specs.GoTypes.Bodies.{Ctx, in_loop, in_switch, body_binds, body_ctx, literal_env, is_body, no_values, returns, labelled}
+use Rattle.go_rules.specs.GoTypes.Statements.{Target, blank, target_at, stores_all, updates, range_assigns, is_blank_name, step_op, right_values, one_more, is_empty_stmt, Clauses}
+use Rattle.go_rules.specs.GoTypes.Typing.{parts, all_parts, bound, elements, element, with_key, place, places, used_block, declares, declares_variables, range_declares, targets, stmt, stmts, first, block, is_call, ranges, arms, clauses, package_before}
+use Rattle.go_rules.proofs.GoTypes.Agreeing.{from_given}
 use Rattle.go_translation.specs.Mentions.{Way, Read, Stored, Deferred, Mention, mentions, mentions_all, mentions_option, mentions_left, mentions_elems, mentions_key, mentions_value, mentions_stmt, mentions_stmts, mentions_first, mentions_block, mentions_range, mentions_arms, mentions_cases, mentions_specs, own_mentions, stored_again, beyond, beyond_names, callee_way, operand_way, unary_way}
 use Rattle.go_translation.specs.Here.{Here, defined_here, in_inner, declaring, at_body, name_options}
 use Rattle.go_translation.specs.Values.{typed_of}

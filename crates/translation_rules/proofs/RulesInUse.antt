@@ -6,10 +6,10 @@ use mathlib.Core.Path.{subst}
 use Rattle.go_tree.specs.declared.operators.UnOp.TheVariants.{Minus, Address}
 use Rattle.go_tree.specs.declared.exprs.Rest.TheVariants.{Plain}
 use Rattle.go_tree.specs.Tree.{Expr, ident, call, unary, no_exprs, expr_and, Elems, no_elems, elem, plain, some_value}
-use Rattle.go_tree.specs.declared.const_eval.kinds.Kind.TheVariants as kind
-use Rattle.go_tree.specs.GoTypes.Types.{GoType, basic, struct_of, no_go_fields, go_field}
-use Rattle.go_tree.specs.GoTypes.Entities.{variable, type_name, run, is_exported}
-use Rattle.go_tree.specs.GoTypes.Operands.{value}
+use Rattle.go_rules.specs.declared.const_eval.kinds.Kind.TheVariants as kind
+use Rattle.go_rules.specs.GoTypes.Types.{GoType, basic, struct_of, no_go_fields, go_field}
+use Rattle.go_rules.specs.GoTypes.Entities.{variable, type_name, run, is_exported}
+use Rattle.go_rules.specs.GoTypes.Operands.{value}
 use Rattle.go_translation.specs.Here.{Location, in_frame, in_cell, Here}
 use Rattle.go_translation.specs.Translation.{expr_term, place_term, deferred_term}
 use Rattle.go_translation.specs.Mentions.{Read}

@@ -4,11 +4,11 @@ use Rattle.std.proofs.Common.{arith}
 use Rattle.std.proofs.lemmas.Slice.Eq.{bytes_eq-Decides}
 use mathlib.Core.Path.{ap, sym, ◌∙◌, subst}
 use Rattle.go_tree.specs.Tree.{NameAt, Stmt, const_decl, var_decl, empty, eval, step, assign, define, return_, break_, continue_, inner, if_, for_, range_, switch, defer, label, StmtOption, no_stmt, some_stmt, RangeLeft, nothing, assigns, defines, ValueSpecs, no_specs, spec}
-use Rattle.go_tree.specs.ScopeNames.Means.{Environment, means, is_blank}
-use Rattle.go_tree.specs.ScopeNames.FreeNames.{names_of}
-use Rattle.go_tree.specs.GoTypes.Answers.{is_among}
-use Rattle.go_tree.specs.GoTypes.Entities.{Entity, variable, constant, stand_in, type_name, function, package_name, builtin, nil_name, iota_name, refused, Env, Binds}
-use Rattle.go_tree.specs.GoTypes.Declarations.{bound_names}
+use Rattle.go_rules.specs.ScopeNames.Means.{Environment, means, is_blank}
+use Rattle.go_rules.specs.ScopeNames.FreeNames.{names_of}
+use Rattle.go_rules.specs.GoTypes.Answers.{is_among}
+use Rattle.go_rules.specs.GoTypes.Entities.{Entity, variable, constant, stand_in, type_name, function, package_name, builtin, nil_name, iota_name, refused, Env, Binds}
+use Rattle.go_rules.specs.GoTypes.Declarations.{bound_names}
 use Rattle.go_kernel.specs.Kernel.{Name, temporary}
 use Rattle.go_kernel.specs.Scope.{has}
 use Rattle.go_translation.specs.Mentions.{Way, Read, Stored, Addressed, Deferred, Mention, in_deferred, literal_mentions, beyond_names, beyond, any_mention, is_addressed, is_held, is_held_param, is_stored}

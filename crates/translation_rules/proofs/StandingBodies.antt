@@ -3,22 +3,22 @@ use Rattle.std.specs.Prelude.{◌≡◌, refl, ℕ, Bool, true, false, ◌||◌,
 use Rattle.std.proofs.lemmas.List.{append_assoc}
 use Rattle.std.proofs.lemmas.List.Folds.{list_any-append}
 use mathlib.Core.Path.{ap, ap₂, sym, ◌∙◌, subst}
-use Rattle.go_tree.specs.ScopeNames.Means.{Environment, means, is_blank, binding}
-use Rattle.go_tree.specs.ScopeNames.FreeNames.{name_then, params_names}
-use Rattle.go_tree.specs.GoTypes.Answers.{is_among}
-use Rattle.go_tree.specs.GoTypes.Types.{GoType, FuncType, pointer_to}
-use Rattle.go_tree.specs.GoTypes.Entities.{Entity, variable, constant, stand_in, type_name, function, package_name, builtin, nil_name, iota_name, refused, Binds}
-use Rattle.go_tree.specs.GoTypes.Declarations.{bound_names}
-use Rattle.go_tree.specs.GoTypes.Bodies.{param_binding, param_binds}
+use Rattle.go_rules.specs.ScopeNames.Means.{Environment, means, is_blank, binding}
+use Rattle.go_rules.specs.ScopeNames.FreeNames.{name_then, params_names}
+use Rattle.go_rules.specs.GoTypes.Answers.{is_among}
+use Rattle.go_rules.specs.GoTypes.Types.{GoType, FuncType, pointer_to}
+use Rattle.go_rules.specs.GoTypes.Entities.{Entity, variable, constant, stand_in, type_name, function, package_name, builtin, nil_name, iota_name, refused, Binds}
+use Rattle.go_rules.specs.GoTypes.Declarations.{bound_names}
+use Rattle.go_rules.specs.GoTypes.Bodies.{param_binding, param_binds}
 use Rattle.go_kernel.specs.Kernel.{Name, named_result}
 use Rattle.go_translation.specs.Mentions.{Mention, beyond_names, is_addressed, is_held, is_held_param}
 use Rattle.go_translation.specs.Here.{Location, Here, location, location_at, located_name, located_names, name_option, name_options, BodyNames, param_locals, result_locals, at_body}
 use Rattle.go_translation.specs.Widths.{is_in_frame, Reachable}
 use Rattle.go_tree.specs.Tree.{NameAt, Param, Sig}
 use Rattle.go_tree.specs.File.{Receiver}
-use Rattle.go_tree.specs.GoTypes.Answers.{distinct_by}
-use Rattle.go_tree.specs.GoTypes.Bodies.{body_binds}
-use Rattle.go_tree.specs.GoTypes.Collect.{receiver_binds}
+use Rattle.go_rules.specs.GoTypes.Answers.{distinct_by}
+use Rattle.go_rules.specs.GoTypes.Bodies.{body_binds}
+use Rattle.go_rules.specs.GoTypes.Collect.{receiver_binds}
 use Rattle.go_translation.specs.Packages.{receiver_names}
 use Rattle.go_translation.specs.Facts.{literal_names}
 use Rattle.go_translation.proofs.ScopesOf.{some_same, from_only}

@@ -8,21 +8,21 @@ use Rattle.go_tree.specs.declared.operators.UnOp.{UnOp}
 use Rattle.go_tree.specs.declared.operators.UnOp.TheVariants as un
 use Rattle.go_tree.specs.declared.operators.BinOp.{BinOp}
 use Rattle.go_tree.specs.declared.operators.BinOp.TheVariants as bin
-use Rattle.go_tree.specs.declared.const_eval.kinds.Kind.{Kind}
-use Rattle.go_tree.specs.declared.const_eval.kinds.Kind.TheVariants as kind
-use Rattle.go_tree.specs.ConstEval.Exact.{Exact}
-use Rattle.go_tree.specs.declared.const_eval.consts.Const.{Const}
-use Rattle.go_tree.specs.declared.const_eval.consts.Const.TheVariants.{Whole}
-use Rattle.go_tree.specs.ScopeNames.Means.{is_blank}
-use Rattle.go_tree.specs.GoTypes.Answers.{given, only_if}
-use Rattle.go_tree.specs.GoTypes.Types.{GoType, basic, untyped, untyped_nil, named_type, pointer_to, slice_of, map_of, struct_of, tuple_of, map_parts, element_of}
-use Rattle.go_tree.specs.GoTypes.Defined.{Defined, under}
-use Rattle.go_tree.specs.GoTypes.Entities.{Place as StandsAt, addressable, map_element, elsewhere, exact, Entity, variable, constant, stand_in, type_name, function, package_name, builtin, nil_name, iota_name, refused, meaning}
-use Rattle.go_tree.specs.GoTypes.Operands.{constant_at, literal_operand, place_by, Operand, value, several, a_type, a_function, a_builtin, recovered, Typed, typed, named_operand, named_place}
-use Rattle.go_tree.specs.GoTypes.Operators.{has_address}
-use Rattle.go_tree.specs.GoTypes.Primary.{is_addressable, selected_place, field_type, field_place, index_place}
-use Rattle.go_tree.specs.GoTypes.Literals.{Element, literal_takes}
-use Rattle.go_tree.specs.GoTypes.Typing.{all_parts}
+use Rattle.go_rules.specs.declared.const_eval.kinds.Kind.{Kind}
+use Rattle.go_rules.specs.declared.const_eval.kinds.Kind.TheVariants as kind
+use Rattle.go_rules.specs.ConstEval.Exact.{Exact}
+use Rattle.go_rules.specs.declared.const_eval.consts.Const.{Const}
+use Rattle.go_rules.specs.declared.const_eval.consts.Const.TheVariants.{Whole}
+use Rattle.go_rules.specs.ScopeNames.Means.{is_blank}
+use Rattle.go_rules.specs.GoTypes.Answers.{given, only_if}
+use Rattle.go_rules.specs.GoTypes.Types.{GoType, basic, untyped, untyped_nil, named_type, pointer_to, slice_of, map_of, struct_of, tuple_of, map_parts, element_of}
+use Rattle.go_rules.specs.GoTypes.Defined.{Defined, under}
+use Rattle.go_rules.specs.GoTypes.Entities.{Place as StandsAt, addressable, map_element, elsewhere, exact, Entity, variable, constant, stand_in, type_name, function, package_name, builtin, nil_name, iota_name, refused, meaning}
+use Rattle.go_rules.specs.GoTypes.Operands.{constant_at, literal_operand, place_by, Operand, value, several, a_type, a_function, a_builtin, recovered, Typed, typed, named_operand, named_place}
+use Rattle.go_rules.specs.GoTypes.Operators.{has_address}
+use Rattle.go_rules.specs.GoTypes.Primary.{is_addressable, selected_place, field_type, field_place, index_place}
+use Rattle.go_rules.specs.GoTypes.Literals.{Element, literal_takes}
+use Rattle.go_rules.specs.GoTypes.Typing.{all_parts}
 use Rattle.go_kernel.specs.Kernel as k
 use Rattle.go_kernel.specs.Kernel.{ImportPath, Alloc, Term, Local, Both, Prim}
 use Rattle.go_translation.specs.Values.{path_of, zero_of, typed_of, constant_term}

@@ -4,16 +4,16 @@ use mathlib.Core.Path.{ap, sym, ◌∙◌}
 use Rattle.std.proofs.Common.{arith}
 use Rattle.std.proofs.lemmas.Bool.Decides.{nat_tests}
 use Rattle.go_tree.specs.Tree.{NameAt, Exprs, no_exprs, expr_and}
-use Rattle.go_tree.specs.ScopeNames.FreeNames.{names_of}
-use Rattle.go_tree.specs.GoTypes.Answers.{given, only_if}
-use Rattle.go_tree.specs.GoTypes.Types.{GoType}
-use Rattle.go_tree.specs.GoTypes.Defined.{Defined}
-use Rattle.go_tree.specs.GoTypes.Entities.{Entity, Binds, Place, map_element, Env, defined_in}
-use Rattle.go_tree.specs.GoTypes.Operands.{Operand, value, several, a_type, a_function, a_builtin, recovered, Typed, all_typed, spread, values_of}
-use Rattle.go_tree.specs.GoTypes.Declarations.{Declared, names_once, may_declare, bind_all, variable_entity, defined_by, new_variables, new_by_define}
-use Rattle.go_tree.specs.GoTypes.Statements.{Target, right_values, assigned_values}
-use Rattle.go_tree.specs.GoTypes.Typing.{targets}
-use Rattle.go_tree.proofs.GoTypes.Agreeing.{from_given}
+use Rattle.go_rules.specs.ScopeNames.FreeNames.{names_of}
+use Rattle.go_rules.specs.GoTypes.Answers.{given, only_if}
+use Rattle.go_rules.specs.GoTypes.Types.{GoType}
+use Rattle.go_rules.specs.GoTypes.Defined.{Defined}
+use Rattle.go_rules.specs.GoTypes.Entities.{Entity, Binds, Place, map_element, Env, defined_in}
+use Rattle.go_rules.specs.GoTypes.Operands.{Operand, value, several, a_type, a_function, a_builtin, recovered, Typed, all_typed, spread, values_of}
+use Rattle.go_rules.specs.GoTypes.Declarations.{Declared, names_once, may_declare, bind_all, variable_entity, defined_by, new_variables, new_by_define}
+use Rattle.go_rules.specs.GoTypes.Statements.{Target, right_values, assigned_values}
+use Rattle.go_rules.specs.GoTypes.Typing.{targets}
+use Rattle.go_rules.proofs.GoTypes.Agreeing.{from_given}
 use Rattle.go_translation.specs.Operators.{other_types, settled_types, settled_option}
 use Rattle.go_translation.specs.Calls.{each_as}
 use Rattle.go_translation.specs.Facts.{target_types}

@@ -1,11 +1,11 @@
 -- Which field a selector's number counts (Go specification, "Selectors", "Struct types").
 use Rattle.std.specs.Prelude.{◌≡◌, ℕ, zero, suc, true, List, [], ◌∷◌, Option, Some, None, is_some}
 use Rattle.go_tree.specs.Tree.{Expr, selector}
-use Rattle.go_tree.specs.GoTypes.Answers.{given}
-use Rattle.go_tree.specs.GoTypes.Types.{GoType, GoFields, no_go_fields, go_field}
-use Rattle.go_tree.specs.GoTypes.Operands.{Operand, Typed, value}
-use Rattle.go_tree.specs.GoTypes.Primary.{fields_in}
-use Rattle.go_tree.specs.GoTypes.Typing.{package_before}
+use Rattle.go_rules.specs.GoTypes.Answers.{given}
+use Rattle.go_rules.specs.GoTypes.Types.{GoType, GoFields, no_go_fields, go_field}
+use Rattle.go_rules.specs.GoTypes.Operands.{Operand, Typed, value}
+use Rattle.go_rules.specs.GoTypes.Primary.{fields_in}
+use Rattle.go_rules.specs.GoTypes.Typing.{package_before}
 use Rattle.go_translation.specs.Here.{Here, defined_here}
 use Rattle.go_translation.specs.Calls.{selected_field}
 use Rattle.go_translation.specs.Facts.{typed_at}

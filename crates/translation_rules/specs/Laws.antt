@@ -2,11 +2,11 @@
 use Rattle.std.specs.Prelude.{◌≡◌, Bool, true, List, Some}
 use Rattle.go_tree.specs.declared.spans.Span.{Span}
 use Rattle.go_tree.specs.Tree.{Expr, Stmts}
-use Rattle.go_tree.specs.GoTypes.Types.{GoType}
-use Rattle.go_tree.specs.GoTypes.Operands.{Operand}
-use Rattle.go_tree.specs.GoTypes.Bodies.{Ctx}
-use Rattle.go_tree.specs.GoTypes.Typing.{parts, stmts}
-use Rattle.go_tree.specs.GoTypes.WellTyped.{well_typed}
+use Rattle.go_rules.specs.GoTypes.Types.{GoType}
+use Rattle.go_rules.specs.GoTypes.Operands.{Operand}
+use Rattle.go_rules.specs.GoTypes.Bodies.{Ctx}
+use Rattle.go_rules.specs.GoTypes.Typing.{parts, stmts}
+use Rattle.go_rules.specs.GoTypes.WellTyped.{well_typed}
 use Rattle.go_translation.specs.Mentions.{Read, mentions, mentions_stmts}
 use Rattle.go_translation.specs.Here.{Here}
 use Rattle.go_translation.specs.Translation.{expr_term}

@@ -2,12 +2,12 @@
 -- "Method declarations", "Variable declarations").
 use Rattle.std.specs.Prelude.{ℕ, List, [], ◌∷◌, length, None}
 use Rattle.go_tree.specs.Tree.{Expr, Exprs}
-use Rattle.go_tree.specs.ScopeNames.FreeNames.{names_of}
-use Rattle.go_tree.specs.GoTypes.Types.{GoType}
-use Rattle.go_tree.specs.GoTypes.Entities.{World, Binds, extend, in_block}
-use Rattle.go_tree.specs.GoTypes.TypeNames.{func_type, written_type}
-use Rattle.go_tree.specs.GoTypes.Programs.{constants, variables, a_type_spec, a_func, Header, Headed, headed}
-use Rattle.go_tree.specs.GoTypes.Collect.{env_of, collected}
+use Rattle.go_rules.specs.ScopeNames.FreeNames.{names_of}
+use Rattle.go_rules.specs.GoTypes.Types.{GoType}
+use Rattle.go_rules.specs.GoTypes.Entities.{World, Binds, extend, in_block}
+use Rattle.go_rules.specs.GoTypes.TypeNames.{func_type, written_type}
+use Rattle.go_rules.specs.GoTypes.Programs.{constants, variables, a_type_spec, a_func, Header, Headed, headed}
+use Rattle.go_rules.specs.GoTypes.Collect.{env_of, collected}
 use Rattle.go_kernel.specs.Kernel.{ImportPath}
 use Rattle.go_translation.specs.Mentions.{Mention, mentions_stmts}
 use Rattle.go_translation.specs.Here.{Here, at_body}

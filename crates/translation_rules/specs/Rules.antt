@@ -3,13 +3,13 @@
 -- statements").
 use Rattle.std.specs.Prelude.{◌≡◌, ◌⊎◌, ℕ, Bool, true, false, List, [], Option, Some, None}
 use Rattle.go_tree.specs.Tree.{Expr, Exprs}
-use Rattle.go_tree.specs.ScopeNames.Means.{is_blank}
-use Rattle.go_tree.specs.GoTypes.Types.{GoType}
-use Rattle.go_tree.specs.GoTypes.Entities.{Place, addressable, map_element, literal, elsewhere, Entity, variable}
-use Rattle.go_tree.specs.GoTypes.Entities.{stand_in, meaning, exported}
-use Rattle.go_tree.specs.GoTypes.Operands.{Operand, a_type, a_function, a_builtin}
-use Rattle.go_tree.specs.GoTypes.Statements.{is_blank_name}
-use Rattle.go_tree.specs.GoTypes.Typing.{parts, place}
+use Rattle.go_rules.specs.ScopeNames.Means.{is_blank}
+use Rattle.go_rules.specs.GoTypes.Types.{GoType}
+use Rattle.go_rules.specs.GoTypes.Entities.{Place, addressable, map_element, literal, elsewhere, Entity, variable}
+use Rattle.go_rules.specs.GoTypes.Entities.{stand_in, meaning, exported}
+use Rattle.go_rules.specs.GoTypes.Operands.{Operand, a_type, a_function, a_builtin}
+use Rattle.go_rules.specs.GoTypes.Statements.{is_blank_name}
+use Rattle.go_rules.specs.GoTypes.Typing.{parts, place}
 use Rattle.go_kernel.specs.Kernel.{Term, Vals}
 use Rattle.go_translation.specs.Here.{Location, no_location, Here, location}
 use Rattle.go_translation.specs.Places.{Root, nowhere}

@@ -4,9 +4,9 @@ use Rattle.std.specs.List.{list_all}
 use mathlib.Core.Path.{ap, ap₂, sym, subst, ◌∙◌}
 use borrow.Author.Tests.{eqb-true}
 use Rattle.std.proofs.Common.{arith, length-append}
-use Rattle.go_tree.specs.GoTypes.Types.{named_type}
-use Rattle.go_tree.specs.GoTypes.Defined.{find_defined, under_of, comparable_within}
-use Rattle.go_tree.specs.GoTypes.Table.{NodeField, TypeNode as Row, basic_node, named_node, pointer_node, slice_node, map_node, struct_node, tuple_node, untyped_node, nil_node, node_parts, AllBelow, none_above, below_and}
+use Rattle.go_rules.specs.GoTypes.Types.{named_type}
+use Rattle.go_rules.specs.GoTypes.Defined.{find_defined, under_of, comparable_within}
+use Rattle.go_rules.specs.GoTypes.Table.{NodeField, TypeNode as Row, basic_node, named_node, pointer_node, slice_node, map_node, struct_node, tuple_node, untyped_node, nil_node, node_parts, AllBelow, none_above, below_and}
 use Rattle.type_table.specs.declared.nodes.Field.{Field}
 use Rattle.type_table.specs.declared.nodes.TypeNode.{TypeNode}
 use Rattle.type_table.specs.declared.nodes.TypeNode.TheVariants.{Struct}

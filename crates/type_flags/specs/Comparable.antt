@@ -1,6 +1,6 @@
 -- Which types of an environment are comparable, a flag for each (Go specification, Comparison operators).
 use Rattle.std.specs.Prelude.{◌≡◌, ℕ, ◌<◌, Bool, List, length, Some, slice_get}
-use Rattle.go_tree.specs.GoTypes.Defined.{comparable}
+use Rattle.go_rules.specs.GoTypes.Defined.{comparable}
 use Rattle.type_table.specs.TypeRelations.Environment.{Environment, defined_types, env_type}
 
 -- the type of a number is comparable

@@ -3,8 +3,8 @@
 use Rattle.std.specs.Prelude.{◌≡◌, ℕ, suc, ◌<◌, Bool, true, false, List, [], ◌∷◌, length, Option}
 use Rattle.std.specs.Prelude.{Some, None, slice_get, slice_index_or, if◌then◌else◌}
 use Rattle.std.specs.List.{list_all}
-use Rattle.go_tree.specs.GoTypes.Table.{TypeNode, basic_node, named_node, pointer_node, slice_node, map_node}
-use Rattle.go_tree.specs.GoTypes.Table.{struct_node, tuple_node, untyped_node, nil_node}
+use Rattle.go_rules.specs.GoTypes.Table.{TypeNode, basic_node, named_node, pointer_node, slice_node, map_node}
+use Rattle.go_rules.specs.GoTypes.Table.{struct_node, tuple_node, untyped_node, nil_node}
 use Rattle.type_table.specs.TypeRelations.Environment.{Environment, definition_in, under_by}
 use Rattle.type_flags.specs.Comparable.{is_comparable}
 

@@ -4,8 +4,8 @@ use Rattle.std.specs.List.{list_any}
 use mathlib.Core.Path.{ap, sym, ◌∙◌, subst}
 use Rattle.std.specs.Cmp.{both_ways}
 use Rattle.std.proofs.Common.{arith}
-use Rattle.go_tree.specs.GoTypes.Table.{TypeNode as Row, node_parts, AllBelow, none_above, below_and, IsTable}
-use Rattle.go_tree.proofs.GoTypes.TableLaws.{grown_table}
+use Rattle.go_rules.specs.GoTypes.Table.{TypeNode as Row, node_parts, AllBelow, none_above, below_and, IsTable}
+use Rattle.go_rules.proofs.GoTypes.TableLaws.{grown_table}
 use Rattle.type_table.specs.declared.nodes.TypeId.{TypeId}
 use Rattle.type_table.specs.declared.nodes.Field.{Field}
 use Rattle.type_table.specs.declared.nodes.TypeNode.{TypeNode}

@@ -4,10 +4,10 @@ use mathlib.Core.Path.{ap, sym, subst}
 use Rattle.std.proofs.Common.{arith, length-append}
 use Rattle.std.specs.Cmp.{both_ways}
 use borrow.Author.Tests.{eqb-true, eq-eqb}
-use Rattle.go_tree.specs.GoTypes.Types.{GoType}
-use Rattle.go_tree.specs.GoTypes.Identical.{identical}
-use Rattle.go_tree.specs.GoTypes.Table.{NodeField, TypeNode, basic_node, named_node, pointer_node, slice_node, map_node, struct_node, tuple_node, untyped_node, nil_node, node_parts, AllBelow, none_above, below_and, StandsFor, stands, Denotes, a_basic, a_named, a_pointer, a_slice, a_map, a_struct, a_tuple, an_untyped, a_nil, DenoteFields, no_node_fields, node_field, StandForAll, no_node_types, node_type, IsTable}
-use Rattle.go_tree.proofs.GoTypes.TableLaws.{one_type, identical_one_row, one_row_identical, stands_kept}
+use Rattle.go_rules.specs.GoTypes.Types.{GoType}
+use Rattle.go_rules.specs.GoTypes.Identical.{identical}
+use Rattle.go_rules.specs.GoTypes.Table.{NodeField, TypeNode, basic_node, named_node, pointer_node, slice_node, map_node, struct_node, tuple_node, untyped_node, nil_node, node_parts, AllBelow, none_above, below_and, StandsFor, stands, Denotes, a_basic, a_named, a_pointer, a_slice, a_map, a_struct, a_tuple, an_untyped, a_nil, DenoteFields, no_node_fields, node_field, StandForAll, no_node_types, node_type, IsTable}
+use Rattle.go_rules.proofs.GoTypes.TableLaws.{one_type, identical_one_row, one_row_identical, stands_kept}
 use Rattle.type_table.specs.TypesAt.{fields_by, types_by, type_by, type_of_row, type_within, type_at}
 
 module _ (rows : List TypeNode) where

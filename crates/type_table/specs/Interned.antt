@@ -1,7 +1,7 @@
 -- A table after a type is interned: its row is found, or is added behind the others.
 use Rattle.std.specs.Prelude.{List, [], ◌∷◌, ◌++◌, if◌then◌else◌}
 use Rattle.std.specs.List.{list_any}
-use Rattle.go_tree.specs.GoTypes.Table.{TypeNode}
+use Rattle.go_rules.specs.GoTypes.Table.{TypeNode}
 use Rattle.type_table.specs.SameRows.{same_row}
 
 -- the rows, and this one last unless it is among them

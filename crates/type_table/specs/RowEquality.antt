@@ -5,12 +5,12 @@ use mathlib.Core.Path.{ap, ap₂, ◌∙◌, subst}
 use Rattle.std.specs.Cmp.{IsEquivalence, both_ways}
 use Rattle.std.proofs.Common.{arith}
 use Rattle.std.proofs.lemmas.Slice.Eq.{bytes_eq-Decides}
-use Rattle.go_tree.specs.GoTypes.Types.{kind_number}
-use Rattle.go_tree.specs.GoTypes.Identical.{same_package}
-use Rattle.go_tree.specs.GoTypes.Table as rows
-use Rattle.go_tree.specs.GoTypes.Table.{NodeField, basic_node, named_node, pointer_node, slice_node, map_node}
-use Rattle.go_tree.specs.GoTypes.Table.{struct_node, tuple_node, untyped_node, nil_node}
-use Rattle.go_tree.proofs.GoTypes.IdenticalLaws.{and_left, and_right, kind_same}
+use Rattle.go_rules.specs.GoTypes.Types.{kind_number}
+use Rattle.go_rules.specs.GoTypes.Identical.{same_package}
+use Rattle.go_rules.specs.GoTypes.Table as rows
+use Rattle.go_rules.specs.GoTypes.Table.{NodeField, basic_node, named_node, pointer_node, slice_node, map_node}
+use Rattle.go_rules.specs.GoTypes.Table.{struct_node, tuple_node, untyped_node, nil_node}
+use Rattle.go_rules.proofs.GoTypes.IdenticalLaws.{and_left, and_right, kind_same}
 use Rattle.type_table.specs.declared.nodes.TypeId.{TypeId}
 use Rattle.type_table.specs.declared.nodes.Field.{Field}
 use Rattle.type_table.specs.declared.nodes.TypeNode.{TypeNode}

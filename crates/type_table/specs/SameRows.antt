@@ -1,9 +1,9 @@
 -- Which rows are the same, and what a row is hashed by.
 use Rattle.std.specs.Prelude.{Bool, true, false, ◌&&◌, List, [], ◌∷◌, nat_eq, bytes_eq}
-use Rattle.go_tree.specs.GoTypes.Types.{same_kind}
-use Rattle.go_tree.specs.GoTypes.Identical.{same_package}
-use Rattle.go_tree.specs.GoTypes.Table.{NodeField, TypeNode, basic_node, named_node, pointer_node, slice_node, map_node}
-use Rattle.go_tree.specs.GoTypes.Table.{struct_node, tuple_node, untyped_node, nil_node}
+use Rattle.go_rules.specs.GoTypes.Types.{same_kind}
+use Rattle.go_rules.specs.GoTypes.Identical.{same_package}
+use Rattle.go_rules.specs.GoTypes.Table.{NodeField, TypeNode, basic_node, named_node, pointer_node, slice_node, map_node}
+use Rattle.go_rules.specs.GoTypes.Table.{struct_node, tuple_node, untyped_node, nil_node}
 
 -- the same name and type
 abbrev pub same_field : NodeField → NodeField → Bool

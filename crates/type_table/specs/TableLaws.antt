@@ -1,7 +1,7 @@
 -- The laws of the table of types. Each is the contract of a function of this crate.
 use Rattle.std.specs.Prelude.{◌≡◌, ℕ, ◌<◌, ◌++◌, List, length, Some, slice_get, nat_eq}
-use Rattle.go_tree.specs.GoTypes.Identical.{identical}
-use Rattle.go_tree.specs.GoTypes.Table.{TypeNode, StandsFor, IsTable}
+use Rattle.go_rules.specs.GoTypes.Identical.{identical}
+use Rattle.go_rules.specs.GoTypes.Table.{TypeNode, StandsFor, IsTable}
 use Rattle.type_table.specs.TypesAt.{type_by, type_at}
 
 -- a row stands for its type

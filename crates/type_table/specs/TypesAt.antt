@@ -1,10 +1,10 @@
 -- The type that each row of a table stands for (Go specification, Types).
 use Rattle.std.specs.Prelude.{ℕ, zero, suc, List, [], ◌∷◌, Option, Some, None, slice_get}
-use Rattle.go_tree.specs.GoTypes.Types.{GoType, basic, named_type, pointer_to, slice_of, map_of, struct_of, tuple_of}
-use Rattle.go_tree.specs.GoTypes.Types.{untyped, untyped_nil, GoFields, no_go_fields, go_field, GoTypes, no_go_types}
-use Rattle.go_tree.specs.GoTypes.Types.{go_type}
-use Rattle.go_tree.specs.GoTypes.Table.{NodeField, TypeNode, basic_node, named_node, pointer_node, slice_node, map_node}
-use Rattle.go_tree.specs.GoTypes.Table.{struct_node, tuple_node, untyped_node, nil_node}
+use Rattle.go_rules.specs.GoTypes.Types.{GoType, basic, named_type, pointer_to, slice_of, map_of, struct_of, tuple_of}
+use Rattle.go_rules.specs.GoTypes.Types.{untyped, untyped_nil, GoFields, no_go_fields, go_field, GoTypes, no_go_types}
+use Rattle.go_rules.specs.GoTypes.Types.{go_type}
+use Rattle.go_rules.specs.GoTypes.Table.{NodeField, TypeNode, basic_node, named_node, pointer_node, slice_node, map_node}
+use Rattle.go_rules.specs.GoTypes.Table.{struct_node, tuple_node, untyped_node, nil_node}
 
 -- the fields that stand in a row, by the types of its parts
 abbrev pub fields_by : (ℕ → GoType) → List NodeField → GoFields

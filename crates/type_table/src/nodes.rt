@@ -1,7 +1,7 @@
 //! Rows of the table of types (Go specification, Types).
 
 use go_tree::Name;
-use go_tree::const_eval::Kind;
+use go_rules::const_eval::Kind;
 use std::marker::Model;
 
 /// The number of a type: its row in the table.

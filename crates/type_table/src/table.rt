@@ -1,7 +1,7 @@
 //! The table of types.
 
 ghost use Rattle.std.specs.Prelude.{◌≡◌, ◌<◌, [], length, IfOk, OnErr, OnOk, Some, slice_get, nat_lt};
-ghost use Rattle.go_tree.specs.GoTypes.Table.{IsTable};
+ghost use Rattle.go_rules.specs.GoTypes.Table.{IsTable};
 ghost use Rattle.type_table.specs.Interned.{with_row};
 ghost use Rattle.type_table.specs.Rows.{PartsBelow, row_of};
 ghost use Rattle.type_table.specs.TypesAt.{type_at, type_by};
@@ -21,7 +21,7 @@ pub struct TypeTable {
 
 impl Model for TypeTable {
     ghost use Rattle.std.specs.Prelude.{List, map};
-    ghost use Rattle.go_tree.specs.GoTypes.Table.{TypeNode, IsTable};
+    ghost use Rattle.go_rules.specs.GoTypes.Table.{TypeNode, IsTable};
 
     ghost Value = { List TypeNode };
 

@@ -2,11 +2,11 @@
 -- identifiers). A type of another package has its import path before its name; predeclared types are their own names.
 use Rattle.std.specs.Prelude.{ℕ, Bool, true, false, List, [], ◌++◌, codes, nat_eq, slice_index_or}
 use Rattle.std.specs.Prelude.{if◌then◌else◌}
-use Rattle.go_tree.specs.declared.const_eval.kinds.Kind.{Kind}
-use Rattle.go_tree.specs.declared.const_eval.kinds.Kind.TheVariants as kind
-use Rattle.go_tree.specs.GoTypes.Types.{GoType, basic, named_type, pointer_to, slice_of, map_of, struct_of, tuple_of}
-use Rattle.go_tree.specs.GoTypes.Types.{untyped, untyped_nil, GoFields, no_go_fields, go_field, GoTypes, no_go_types}
-use Rattle.go_tree.specs.GoTypes.Types.{go_type}
+use Rattle.go_rules.specs.declared.const_eval.kinds.Kind.{Kind}
+use Rattle.go_rules.specs.declared.const_eval.kinds.Kind.TheVariants as kind
+use Rattle.go_rules.specs.GoTypes.Types.{GoType, basic, named_type, pointer_to, slice_of, map_of, struct_of, tuple_of}
+use Rattle.go_rules.specs.GoTypes.Types.{untyped, untyped_nil, GoFields, no_go_fields, go_field, GoTypes, no_go_types}
+use Rattle.go_rules.specs.GoTypes.Types.{go_type}
 
 -- the name of a predeclared type; those of untyped constants have the names that compilers give them
 abbrev pub kind_name : Kind → List ℕ

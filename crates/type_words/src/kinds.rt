@@ -3,7 +3,7 @@
 ghost use Rattle.std.specs.Prelude.{◌≡◌};
 ghost use Rattle.type_words.specs.TypeText.{kind_name};
 
-use go_tree::const_eval::Kind;
+use go_rules::const_eval::Kind;
 
 /// The name of a predeclared type; untyped constants have the names that go/types gives their types.
 pub(crate) fn kind_name(kind: Kind) -> &'static [u8]

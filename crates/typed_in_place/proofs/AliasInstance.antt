@@ -5,12 +5,12 @@
 use Rattle.std.specs.Prelude.{◌≡◌, refl, ℕ, true, false, [], ◌∷◌, Some, None, codes}
 use Rattle.std.proofs.Common.{arith}
 use Rattle.go_tree.specs.Tree.{Expr, TypeExpr}
-use Rattle.go_tree.specs.GoTypes.Types.{GoType, named_type}
-use Rattle.go_tree.specs.GoTypes.Entities.{World, Env, package_name, type_name, meaning, exported, package_of}
-use Rattle.go_tree.specs.GoTypes.TypeNames.{named_meaning, resolved}
-use Rattle.go_tree.specs.GoTypes.Programs.{Program, headed}
-use Rattle.go_tree.specs.GoTypes.Collect.{file_env, collected}
-use Rattle.go_tree.specs.GoTypes.WellTyped.{well_typed}
+use Rattle.go_rules.specs.GoTypes.Types.{GoType, named_type}
+use Rattle.go_rules.specs.GoTypes.Entities.{World, Env, package_name, type_name, meaning, exported, package_of}
+use Rattle.go_rules.specs.GoTypes.TypeNames.{named_meaning, resolved}
+use Rattle.go_rules.specs.GoTypes.Programs.{Program, headed}
+use Rattle.go_rules.specs.GoTypes.Collect.{file_env, collected}
+use Rattle.go_rules.specs.GoTypes.WellTyped.{well_typed}
 use Rattle.typed_in_place.specs.SameFacts.{SameType, SameOperand}
 use Rattle.typed_in_place.specs.Replaced.{same_type, in_slice_type, in_struct_type, no_more_fields, in_field, some_type, no_params, in_param, no_name, one_name, same_operand, in_call, no_more_exprs, in_exprs, no_more_stmts, in_stmts, in_return}
 use Rattle.typed_in_place.specs.Leaves.{plain_name, qualified_name, type_by_name}
@@ -18,7 +18,7 @@ use Rattle.typed_in_place.specs.HeaderReplaced.{no_more_bodies, bodies_alike, ty
 use Rattle.typed_in_place.specs.ProgramsAlike.{OneByOne, no_more, and_more, AliasesStand, TypesStand, ValuesStand, BodiesAlike}
 use Rattle.typed_in_place.specs.ImportRule.{imports_ok}
 use Rattle.typed_in_place.specs.ProgramReplaced.{InPlace, ValuesEnd, after_names, after_values, at_last}
-use Rattle.go_tree.proofs.GoTypes.Trees.{n, es, ty, qty, slc, st, par, sig, v, sel, app, ret, vars_at, type_at, func_at, file, pack}
+use Rattle.go_rules.proofs.GoTypes.Trees.{n, es, ty, qty, slc, st, par, sig, v, sel, app, ret, vars_at, type_at, func_at, file, pack}
 use Rattle.typed_in_place.proofs.Leaves.{exprs_themselves, never}
 use Rattle.typed_in_place.proofs.TypeLeaves.{same_type_name, same_type_operand}
 use Rattle.typed_in_place.proofs.ProgramsReplaced.{one_by_one, header_itself, replaced_bodies_alike, aliases_stand_itself, replaced_aliases_stand, types_stand_itself, replaced_types_stand, replaced_values_stand, stays_well_typed}

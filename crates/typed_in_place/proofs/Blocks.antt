@@ -2,12 +2,12 @@
 use Rattle.std.specs.Prelude.{◌≡◌, refl, ℕ, Bool, true, false, List, [], ◌∷◌, ◌++◌, Option, Some, None, if◌then◌else◌, bytes_eq, nat_eq, ◌⊎◌}
 use mathlib.Core.Path.{ap, sym, ◌∙◌, subst}
 use Rattle.std.proofs.Common.{inl, inr, arith}
-use Rattle.go_tree.specs.ScopeNames.Means.{Environment, means, binding, is_blank}
-use Rattle.go_tree.specs.GoTypes.Entities.{Entity, refused, universe, World, block_of, is_exported, Binds}
-use Rattle.go_tree.specs.GoTypes.Operands.{Typed}
-use Rattle.go_tree.specs.GoTypes.Statements.{bind_all, bind_each}
-use Rattle.go_tree.specs.GoTypes.Programs.{Headed, header_names, Program}
-use Rattle.go_tree.specs.GoTypes.Collect.{file_env, binds_or_refused, block_by, blocks_by}
+use Rattle.go_rules.specs.ScopeNames.Means.{Environment, means, binding, is_blank}
+use Rattle.go_rules.specs.GoTypes.Entities.{Entity, refused, universe, World, block_of, is_exported, Binds}
+use Rattle.go_rules.specs.GoTypes.Operands.{Typed}
+use Rattle.go_rules.specs.GoTypes.Statements.{bind_all, bind_each}
+use Rattle.go_rules.specs.GoTypes.Programs.{Headed, header_names, Program}
+use Rattle.go_rules.specs.GoTypes.Collect.{file_env, binds_or_refused, block_by, blocks_by}
 use Rattle.typed_in_place.specs.Known.{Keeps, no_answer, kept, AllKeep, no_headers, and_keeps, Clearer, as_before, refused_before, BlockClearer, end_of_block, was_refused, was_known, BlocksClearer, end_of_blocks, and_block, Knows}
 use Rattle.typed_in_place.proofs.SameUses.{from_both}
 use Rattle.typed_in_place.proofs.Rounds.{AllSame, none_left, and_same}

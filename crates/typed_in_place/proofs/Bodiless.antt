@@ -7,30 +7,30 @@ use Rattle.go_tree.specs.declared.operators.UnOp.{UnOp}
 use Rattle.go_tree.specs.declared.operators.UnOp.TheVariants.{Address}
 use Rattle.go_tree.specs.declared.operators.BinOp.{BinOp}
 use Rattle.go_tree.specs.declared.operators.BinOp.TheVariants.{Shl, Shr, LogAnd, LogOr}
-use Rattle.go_tree.specs.declared.const_eval.kinds.Kind.{Kind}
-use Rattle.go_tree.specs.declared.const_eval.consts.Const.{Const}
-use Rattle.go_tree.specs.declared.const_eval.kinds.Kind.TheVariants as kind
-use Rattle.go_tree.specs.ConstEval.Conditions.{unary_applies, binary_applies, is_number_kind}
-use Rattle.go_tree.specs.ConstEval.Operators.{is_comparison}
-use Rattle.go_tree.specs.GoTypes.Answers.{given, both, only_if}
-use Rattle.go_tree.specs.GoTypes.Types.{GoType, untyped, untyped_nil, is_nil, base_of, element_of, map_parts}
-use Rattle.go_tree.specs.GoTypes.Defined.{Defined, under, methods}
-use Rattle.go_tree.specs.GoTypes.Entities.{is_exported, Env, Binds, defined_in, extend, in_block, Content, run, exact, shift, Place, Builtin, Append, Cap, Copy, Delete, Len, Make, New, Panic, Print, Println, Recover}
-use Rattle.go_tree.specs.GoTypes.Relations.{convertible}
-use Rattle.go_tree.specs.GoTypes.Literals.{Element, built, literal_takes}
-use Rattle.go_tree.specs.ScopeNames.Means.{is_blank, binding}
-use Rattle.go_tree.specs.ConstEval.Exact.{is_text_kind}
-use Rattle.go_tree.specs.GoTypes.Operands.{Operand, value, several, a_type, a_function, a_builtin, recovered, Typed, typed, all_typed, with_value, plain_value, spread, results_operand, leaves, kind_of, kind_passes, fits, takes_all, settled}
+use Rattle.go_rules.specs.declared.const_eval.kinds.Kind.{Kind}
+use Rattle.go_rules.specs.declared.const_eval.consts.Const.{Const}
+use Rattle.go_rules.specs.declared.const_eval.kinds.Kind.TheVariants as kind
+use Rattle.go_rules.specs.ConstEval.Conditions.{unary_applies, binary_applies, is_number_kind}
+use Rattle.go_rules.specs.ConstEval.Operators.{is_comparison}
+use Rattle.go_rules.specs.GoTypes.Answers.{given, both, only_if}
+use Rattle.go_rules.specs.GoTypes.Types.{GoType, untyped, untyped_nil, is_nil, base_of, element_of, map_parts}
+use Rattle.go_rules.specs.GoTypes.Defined.{Defined, under, methods}
+use Rattle.go_rules.specs.GoTypes.Entities.{is_exported, Env, Binds, defined_in, extend, in_block, Content, run, exact, shift, Place, Builtin, Append, Cap, Copy, Delete, Len, Make, New, Panic, Print, Println, Recover}
+use Rattle.go_rules.specs.GoTypes.Relations.{convertible}
+use Rattle.go_rules.specs.GoTypes.Literals.{Element, built, literal_takes}
+use Rattle.go_rules.specs.ScopeNames.Means.{is_blank, binding}
+use Rattle.go_rules.specs.ConstEval.Exact.{is_text_kind}
+use Rattle.go_rules.specs.GoTypes.Operands.{Operand, value, several, a_type, a_function, a_builtin, recovered, Typed, typed, all_typed, with_value, plain_value, spread, results_operand, leaves, kind_of, kind_passes, fits, takes_all, settled}
 use Rattle.go_tree.specs.Tree.{NameAt, TypeExpr, Expr, ident, int_lit, rune_lit, str_lit, composite, selector, index, slice, call, func_lit, type_operand, unary, binary, star, Exprs, no_exprs, expr_and}
-use Rattle.go_tree.specs.GoTypes.TypeNames.{type_meant, func_type, written_type}
-use Rattle.go_tree.specs.GoTypes.Statements.{constant_entity, bind_all, body_binds, body_ctx}
-use Rattle.go_tree.specs.GoTypes.Typing.{parts, all_parts, bound, elements, place, is_body, stmts}
-use Rattle.go_tree.specs.GoTypes.Bodiless.{bodiless, all_bodiless}
-use Rattle.go_tree.specs.ScopeNames.FreeNames.{names_of}
-use Rattle.go_tree.specs.GoTypes.Collect.{package_constants}
+use Rattle.go_rules.specs.GoTypes.TypeNames.{type_meant, func_type, written_type}
+use Rattle.go_rules.specs.GoTypes.Statements.{constant_entity, bind_all, body_binds, body_ctx}
+use Rattle.go_rules.specs.GoTypes.Typing.{parts, all_parts, bound, elements, place, is_body, stmts}
+use Rattle.go_rules.specs.GoTypes.Bodiless.{bodiless, all_bodiless}
+use Rattle.go_rules.specs.ScopeNames.FreeNames.{names_of}
+use Rattle.go_rules.specs.GoTypes.Collect.{package_constants}
 use Rattle.typed_in_place.proofs.SameUses.{from_both}
-use Rattle.go_tree.specs.GoTypes.Operators.{common_type, joins, divides_by_zero, compared_at, joins_comparison, comparison_applies, is_count, has_address, not_constant, calculated_operand, arithmetic, truth_operand, logic, comparison, shifted_operand, shifting, other_binary, binary_value_operand, is_equality, recover_compared, binary_of, changed_operand, unary_of, star_of}
-use Rattle.go_tree.specs.GoTypes.Primary.{copies_from, is_printed, make_sizes, sees, find_method, home_of, field_type, method_of, method_value, is_addressable, selected, is_index, lies_in, string_element, index_of, is_bound, rise, sliced_type, sliced, has_length, converted, conversion, append_call, cap_call, copy_call, delete_call, panic_call, print_call, recover_call, len_call, make_call, new_call, builtin_call, call_of}
+use Rattle.go_rules.specs.GoTypes.Operators.{common_type, joins, divides_by_zero, compared_at, joins_comparison, comparison_applies, is_count, has_address, not_constant, calculated_operand, arithmetic, truth_operand, logic, comparison, shifted_operand, shifting, other_binary, binary_value_operand, is_equality, recover_compared, binary_of, changed_operand, unary_of, star_of}
+use Rattle.go_rules.specs.GoTypes.Primary.{copies_from, is_printed, make_sizes, sees, find_method, home_of, field_type, method_of, method_value, is_addressable, selected, is_index, lies_in, string_element, index_of, is_bound, rise, sliced_type, sliced, has_length, converted, conversion, append_call, cap_call, copy_call, delete_call, panic_call, print_call, recover_call, len_call, make_call, new_call, builtin_call, call_of}
 
 -- a constant, a type or a predeclared function
 abbrev pub fixed : Operand → Bool

@@ -5,24 +5,24 @@ use Rattle.std.proofs.Common.{arith}
 use Rattle.go_tree.specs.declared.exprs.Rest.{Rest}
 use Rattle.go_tree.specs.Tree.{NameAt, Param, Sig, TypeExpr, named, pointer, slice_type, map_type, struct_type, Fields, no_fields, field, Expr, call, func_lit, Exprs, no_exprs, expr_and, Stmts}
 use Rattle.go_tree.specs.File.{Func}
-use Rattle.go_tree.specs.ScopeNames.Means.{Environment, is_blank}
-use Rattle.go_tree.specs.ScopeNames.FreeNames.{sig_names, free_params, free_expr, free_stmts}
-use Rattle.go_tree.specs.GoTypes.Answers.{given, both, meets, only_if, otherwise, is_among}
-use Rattle.go_tree.specs.GoTypes.Types.{pointer_to, slice_of, map_of, struct_of, FuncType}
-use Rattle.go_tree.specs.GoTypes.Defined.{has_keys}
-use Rattle.go_tree.specs.GoTypes.Entities.{Entity, function, World, Env, package_of, defined_in, Binds, extend, in_block}
-use Rattle.go_tree.specs.GoTypes.TypeNames.{named_meaning, resolved, resolved_fields, field_before, params_meant, func_type}
-use Rattle.go_tree.specs.GoTypes.Operands.{Operand, a_function, typed, constant_of, named_operand, named_place, takes_all, spread, results_operand}
-use Rattle.go_tree.specs.GoTypes.Primary.{call_of, stands_alone, may_be_deferred}
-use Rattle.go_tree.specs.GoTypes.Statements.{body_binds, body_ctx, means_panic, is_blank_name, is_panic}
-use Rattle.go_tree.specs.GoTypes.Typing.{parts, all_parts, used, used_left, package_before, is_call, is_body, stmts}
-use Rattle.go_tree.specs.GoTypes.Initial.{is_constant, is_initial, is_composite, is_maker, means_nil, means_maker}
-use Rattle.go_tree.specs.GoTypes.Programs.{Headed}
-use Rattle.go_tree.specs.GoTypes.Collect.{env_of}
-use Rattle.go_tree.specs.GoTypes.WellTyped.{receiver_of, body_env, function_ok}
-use Rattle.go_tree.specs.GoTypes.Agreement.{Same, On, Agrees, with_names}
-use Rattle.go_tree.proofs.GoTypes.Agreeing.{under_same, on_first, on_second, agrees_after, literal_cover}
-use Rattle.go_tree.proofs.GoTypes.TypingAlike.{stmts-alike}
+use Rattle.go_rules.specs.ScopeNames.Means.{Environment, is_blank}
+use Rattle.go_rules.specs.ScopeNames.FreeNames.{sig_names, free_params, free_expr, free_stmts}
+use Rattle.go_rules.specs.GoTypes.Answers.{given, both, meets, only_if, otherwise, is_among}
+use Rattle.go_rules.specs.GoTypes.Types.{pointer_to, slice_of, map_of, struct_of, FuncType}
+use Rattle.go_rules.specs.GoTypes.Defined.{has_keys}
+use Rattle.go_rules.specs.GoTypes.Entities.{Entity, function, World, Env, package_of, defined_in, Binds, extend, in_block}
+use Rattle.go_rules.specs.GoTypes.TypeNames.{named_meaning, resolved, resolved_fields, field_before, params_meant, func_type}
+use Rattle.go_rules.specs.GoTypes.Operands.{Operand, a_function, typed, constant_of, named_operand, named_place, takes_all, spread, results_operand}
+use Rattle.go_rules.specs.GoTypes.Primary.{call_of, stands_alone, may_be_deferred}
+use Rattle.go_rules.specs.GoTypes.Statements.{body_binds, body_ctx, means_panic, is_blank_name, is_panic}
+use Rattle.go_rules.specs.GoTypes.Typing.{parts, all_parts, used, used_left, package_before, is_call, is_body, stmts}
+use Rattle.go_rules.specs.GoTypes.Initial.{is_constant, is_initial, is_composite, is_maker, means_nil, means_maker}
+use Rattle.go_rules.specs.GoTypes.Programs.{Headed}
+use Rattle.go_rules.specs.GoTypes.Collect.{env_of}
+use Rattle.go_rules.specs.GoTypes.WellTyped.{receiver_of, body_env, function_ok}
+use Rattle.go_rules.specs.GoTypes.Agreement.{Same, On, Agrees, with_names}
+use Rattle.go_rules.proofs.GoTypes.Agreeing.{under_same, on_first, on_second, agrees_after, literal_cover}
+use Rattle.go_rules.proofs.GoTypes.TypingAlike.{stmts-alike}
 use Rattle.typed_in_place.specs.SameFacts.{SameOperand, calls_panic}
 use Rattle.typed_in_place.specs.Leaves.{Names, plain_name, qualified_name}
 use Rattle.typed_in_place.proofs.ImportsMoved.{func_type-moved}

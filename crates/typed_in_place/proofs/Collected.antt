@@ -3,10 +3,10 @@
 use Rattle.std.specs.Prelude.{◌≡◌, refl, ℕ, zero, suc, Bool, true, ◌&&◌, List, [], ◌∷◌, Option, None, is_some}
 use Rattle.std.specs.List.{list_all}
 use mathlib.Core.Path.{ap, sym, ◌∙◌, subst}
-use Rattle.go_tree.specs.GoTypes.Entities.{World, Binds}
-use Rattle.go_tree.specs.GoTypes.Programs.{Headed, Program}
-use Rattle.go_tree.specs.GoTypes.SingleNames.{singly, by_names}
-use Rattle.go_tree.specs.GoTypes.Collect.{times, DeclaredTypes, underlying, declared_by, blocks_by, refused_world, rounds, alias_round, type_round, value_round, aliased_world, types_declared, typed_world, name_round, named_world, valued_world}
+use Rattle.go_rules.specs.GoTypes.Entities.{World, Binds}
+use Rattle.go_rules.specs.GoTypes.Programs.{Headed, Program}
+use Rattle.go_rules.specs.GoTypes.SingleNames.{singly, by_names}
+use Rattle.go_rules.specs.GoTypes.Collect.{times, DeclaredTypes, underlying, declared_by, blocks_by, refused_world, rounds, alias_round, type_round, value_round, aliased_world, types_declared, typed_world, name_round, named_world, valued_world}
 use Rattle.typed_in_place.specs.Known.{BlocksClearer}
 use Rattle.typed_in_place.proofs.Rising.{and_first, and_second, both_true}
 use Rattle.typed_in_place.proofs.Rounds.{times_fixed}

@@ -3,16 +3,16 @@ use Rattle.std.specs.Prelude.{◌≡◌, refl, ℕ, true, false, [], ◌∷◌, 
 use Rattle.go_tree.specs.declared.operators.BinOp.TheVariants.{Shl}
 use Rattle.go_tree.specs.declared.operators.UnOp.TheVariants.{Address}
 use Rattle.go_tree.specs.Tree.{Expr, no_stmt, some_expr, some_value, plain}
-use Rattle.go_tree.specs.declared.const_eval.kinds.Kind.TheVariants as kind
-use Rattle.go_tree.specs.declared.const_eval.consts.Const.TheVariants.{Whole}
-use Rattle.go_tree.specs.GoTypes.Types.{basic, untyped, pointer_to}
-use Rattle.go_tree.specs.GoTypes.Entities.{Env, run, exact, shift, constant, variable, type_name}
-use Rattle.go_tree.specs.GoTypes.Operands.{value}
-use Rattle.go_tree.specs.GoTypes.Typing.{parts, stmts}
-use Rattle.go_tree.specs.GoTypes.Programs.{Program}
-use Rattle.go_tree.specs.GoTypes.WellTyped.{well_typed, refused_place}
-use Rattle.go_tree.proofs.GoTypes.Trees.{refused_at, v, int, sel, bin, un, app, comp, sw, ev, def, asg, ss, ty, mp, consts_at, type_at, file, pack}
-use Rattle.go_tree.proofs.GoTypes.Setting.{here, no_result}
+use Rattle.go_rules.specs.declared.const_eval.kinds.Kind.TheVariants as kind
+use Rattle.go_rules.specs.declared.const_eval.consts.Const.TheVariants.{Whole}
+use Rattle.go_rules.specs.GoTypes.Types.{basic, untyped, pointer_to}
+use Rattle.go_rules.specs.GoTypes.Entities.{Env, run, exact, shift, constant, variable, type_name}
+use Rattle.go_rules.specs.GoTypes.Operands.{value}
+use Rattle.go_rules.specs.GoTypes.Typing.{parts, stmts}
+use Rattle.go_rules.specs.GoTypes.Programs.{Program}
+use Rattle.go_rules.specs.GoTypes.WellTyped.{well_typed, refused_place}
+use Rattle.go_rules.proofs.GoTypes.Trees.{refused_at, v, int, sel, bin, un, app, comp, sw, ev, def, asg, ss, ty, mp, consts_at, type_at, file, pack}
+use Rattle.go_rules.proofs.GoTypes.Setting.{here, no_result}
 
 -- here, with const c int = 3, a variable j int, const C = 8, and type A = int8
 abbrev place_c : Env

@@ -4,16 +4,16 @@ use mathlib.Core.Path.{ap, sym, ◌∙◌, subst}
 use Rattle.std.proofs.Common.{arith}
 use Rattle.go_tree.specs.Tree.{NameAt, TypeExpr, named, Fields, Expr, ident, selector, star}
 use Rattle.go_tree.specs.File.{TypeSpec}
-use Rattle.go_tree.specs.ScopeNames.Means.{means, is_blank}
-use Rattle.go_tree.specs.ScopeNames.FreeNames.{free_type, named_use}
-use Rattle.go_tree.specs.GoTypes.Answers.{given, both, only_if, otherwise, is_among}
-use Rattle.go_tree.specs.GoTypes.Types.{GoType, pointer_to, slice_of, map_of, struct_of, go_field, field_names}
-use Rattle.go_tree.specs.GoTypes.Defined.{Defined, has_keys}
-use Rattle.go_tree.specs.GoTypes.Entities.{Entity, type_name, type_of_name, World, Env, block_of, meaning, exported, package_of, defined_in}
-use Rattle.go_tree.specs.GoTypes.TypeNames.{resolved, resolved_fields, named_meaning, type_meant}
-use Rattle.go_tree.specs.GoTypes.Typing.{used}
-use Rattle.go_tree.specs.GoTypes.Programs.{Headed, Program}
-use Rattle.go_tree.specs.GoTypes.Collect.{env_of}
+use Rattle.go_rules.specs.ScopeNames.Means.{means, is_blank}
+use Rattle.go_rules.specs.ScopeNames.FreeNames.{free_type, named_use}
+use Rattle.go_rules.specs.GoTypes.Answers.{given, both, only_if, otherwise, is_among}
+use Rattle.go_rules.specs.GoTypes.Types.{GoType, pointer_to, slice_of, map_of, struct_of, go_field, field_names}
+use Rattle.go_rules.specs.GoTypes.Defined.{Defined, has_keys}
+use Rattle.go_rules.specs.GoTypes.Entities.{Entity, type_name, type_of_name, World, Env, block_of, meaning, exported, package_of, defined_in}
+use Rattle.go_rules.specs.GoTypes.TypeNames.{resolved, resolved_fields, named_meaning, type_meant}
+use Rattle.go_rules.specs.GoTypes.Typing.{used}
+use Rattle.go_rules.specs.GoTypes.Programs.{Headed, Program}
+use Rattle.go_rules.specs.GoTypes.Collect.{env_of}
 use Rattle.typed_in_place.specs.SameFacts.{SameType, SameOperand}
 use Rattle.typed_in_place.specs.Leaves.{Names, plain_name, qualified_name, NamesType, type_by_name, type_by_text, type_by_star}
 use Rattle.typed_in_place.specs.Aliases.{SameText, same_name, same_pointer, same_slice, same_map, same_struct, SameFields, same_end, same_field, AsExpr, by_name, by_qualified, by_star, by_text, DeclaresAlias, TypesEnd, after_types, after_names, after_values, at_last}

@@ -4,16 +4,16 @@ use mathlib.Core.Path.{ap, ap₂, sym, ◌∙◌}
 use Rattle.std.proofs.lemmas.Slice.Eq.{bytes_eq-Decides}
 use Rattle.go_tree.specs.Tree.{NameAt, TypeExpr, named}
 use Rattle.go_tree.specs.File.{TypeSpec}
-use Rattle.go_tree.specs.ScopeNames.Means.{Environment, means, binding, is_blank}
-use Rattle.go_tree.specs.GoTypes.Answers.{given, only_if, otherwise}
-use Rattle.go_tree.specs.GoTypes.Types.{GoType, named_type}
-use Rattle.go_tree.specs.GoTypes.Defined.{Defined, has_keys}
-use Rattle.go_tree.specs.GoTypes.Entities.{Entity, refused, type_name, type_of_name, World, Env, block_of, Binds}
-use Rattle.go_tree.specs.GoTypes.TypeNames.{resolved, named_meaning, type_meant}
-use Rattle.go_tree.specs.GoTypes.Statements.{bind_each}
-use Rattle.go_tree.specs.GoTypes.Programs.{a_type_spec, Headed, header_names, Program}
-use Rattle.go_tree.specs.GoTypes.Collect.{env_of, DeclaredTypes, is_finite, type_entity, alias_entity, good_entity, declared_by, entity_binds, binds_or_refused, value_round, aliased_world, types_declared, typed_world, named_world, valued_world}
-use Rattle.go_tree.specs.GoTypes.SingleNames.{by_names}
+use Rattle.go_rules.specs.ScopeNames.Means.{Environment, means, binding, is_blank}
+use Rattle.go_rules.specs.GoTypes.Answers.{given, only_if, otherwise}
+use Rattle.go_rules.specs.GoTypes.Types.{GoType, named_type}
+use Rattle.go_rules.specs.GoTypes.Defined.{Defined, has_keys}
+use Rattle.go_rules.specs.GoTypes.Entities.{Entity, refused, type_name, type_of_name, World, Env, block_of, Binds}
+use Rattle.go_rules.specs.GoTypes.TypeNames.{resolved, named_meaning, type_meant}
+use Rattle.go_rules.specs.GoTypes.Statements.{bind_each}
+use Rattle.go_rules.specs.GoTypes.Programs.{a_type_spec, Headed, header_names, Program}
+use Rattle.go_rules.specs.GoTypes.Collect.{env_of, DeclaredTypes, is_finite, type_entity, alias_entity, good_entity, declared_by, entity_binds, binds_or_refused, value_round, aliased_world, types_declared, typed_world, named_world, valued_world}
+use Rattle.go_rules.specs.GoTypes.SingleNames.{by_names}
 use Rattle.typed_in_place.specs.Declared.{FirstWith, HasNumber}
 use Rattle.typed_in_place.proofs.Headers.{alias_in, good_in, declared_in, alias_phase, type_phase, value_phase}
 use Rattle.typed_in_place.proofs.HeadersReplaced.{good_by_meant}

@@ -2,10 +2,10 @@
 use Rattle.std.specs.Prelude.{◌≡◌, ℕ, false, List, Option}
 use mathlib.Core.Path.{◌∙◌}
 use Rattle.go_tree.specs.Tree.{NameAt, Expr}
-use Rattle.go_tree.specs.ScopeNames.Means.{means, is_blank}
-use Rattle.go_tree.specs.GoTypes.Answers.{is_among}
-use Rattle.go_tree.specs.GoTypes.Entities.{Entity, World, Env, block_of}
-use Rattle.go_tree.specs.GoTypes.Programs.{Headed, Program}
+use Rattle.go_rules.specs.ScopeNames.Means.{means, is_blank}
+use Rattle.go_rules.specs.GoTypes.Answers.{is_among}
+use Rattle.go_rules.specs.GoTypes.Entities.{Entity, World, Env, block_of}
+use Rattle.go_rules.specs.GoTypes.Programs.{Headed, Program}
 use Rattle.typed_in_place.specs.SameFacts.{SameOperand}
 use Rattle.typed_in_place.specs.Leaves.{Names}
 pub use Rattle.typed_in_place.specs.Declared.{NamesConstant}

@@ -1,11 +1,11 @@
 -- The rounds find the least of what aliases and single names may be that stays, and refuse no type and no whole header that need not be.
 use Rattle.std.specs.Prelude.{◌≡◌, ℕ, List}
 use mathlib.Core.Path.{ap, sym, subst}
-use Rattle.go_tree.specs.ScopeNames.Means.{Environment}
-use Rattle.go_tree.specs.GoTypes.Entities.{Entity}
-use Rattle.go_tree.specs.GoTypes.Programs.{Headed, Program}
-use Rattle.go_tree.specs.GoTypes.Collect.{alias_round, type_round, value_round, refused_world, rounds, aliased_world, types_declared, typed_world, name_round, named_world, valued_world}
-use Rattle.go_tree.specs.GoTypes.SingleNames.{by_names}
+use Rattle.go_rules.specs.ScopeNames.Means.{Environment}
+use Rattle.go_rules.specs.GoTypes.Entities.{Entity}
+use Rattle.go_rules.specs.GoTypes.Programs.{Headed, Program}
+use Rattle.go_rules.specs.GoTypes.Collect.{alias_round, type_round, value_round, refused_world, rounds, aliased_world, types_declared, typed_world, name_round, named_world, valued_world}
+use Rattle.go_rules.specs.GoTypes.SingleNames.{by_names}
 use Rattle.typed_in_place.specs.Known.{BlocksClearer}
 use Rattle.typed_in_place.proofs.Headers.{in_world, alias_answers, type_answers, value_answers, alias_phase, type_phase, value_phase, nothing_clearer}
 use Rattle.typed_in_place.proofs.Phases.{least, greatest}

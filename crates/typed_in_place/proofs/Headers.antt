@@ -1,25 +1,25 @@
 -- The three kinds of round: what a header declares becomes clearer as more is known.
-use Rattle.go_tree.specs.GoTypes.TypeDeclarations.{DeclaredType}
-use Rattle.go_tree.specs.GoTypes.MethodDeclarations.{MethodName}
+use Rattle.go_rules.specs.GoTypes.TypeDeclarations.{DeclaredType}
+use Rattle.go_rules.specs.GoTypes.MethodDeclarations.{MethodName}
 use Rattle.std.specs.Prelude.{not, ◌≡◌, refl, ℕ, Bool, true, false, ◌&&◌, ◌||◌, List, [], ◌∷◌, ◌++◌, Option, Some, None, if◌then◌else◌}
 use mathlib.Core.Path.{ap, sym, subst}
 use Rattle.go_tree.specs.Tree.{NameAt, TypeExpr, Exprs}
 use Rattle.go_tree.specs.File.{TypeSpec, Receiver, Func}
-use Rattle.go_tree.specs.ScopeNames.Means.{is_blank, Environment, binding}
-use Rattle.go_tree.specs.ScopeNames.FreeNames.{names_of}
-use Rattle.go_tree.specs.GoTypes.Answers.{unless_missing, given, both, only_if}
-use Rattle.go_tree.specs.GoTypes.Types.{GoType, FuncType}
-use Rattle.go_tree.specs.GoTypes.Defined.{Method, has_keys}
-use Rattle.go_tree.specs.GoTypes.Entities.{Entity, variable, function, refused, universe, World, Env, block_of, Binds}
-use Rattle.go_tree.specs.GoTypes.TypeNames.{resolved, resolved, func_type, written_type}
-use Rattle.go_tree.specs.GoTypes.Operands.{Operand, Typed, all_typed}
-use Rattle.go_tree.specs.GoTypes.Statements.{bind_all, bind_each, body_binds, constant_entity, variable_entity, no_values}
-use Rattle.go_tree.specs.GoTypes.Typing.{all_parts}
-use Rattle.go_tree.specs.GoTypes.Initial.{all_initial}
-use Rattle.go_tree.specs.GoTypes.Bodiless.{all_bodiless}
-use Rattle.go_tree.specs.GoTypes.Programs.{func_of, spec_of, Header, constants, variables, a_type_spec, a_func, Headed, header_names, Program}
-use Rattle.go_tree.specs.GoTypes.WellTyped.{function_ok}
-use Rattle.go_tree.specs.GoTypes.Collect.{receiver_type, method_declared, env_of, DeclaredTypes, is_finite, type_entity, spec_type, alias_entity, is_good_type, good_entity, package_constants, package_variables, may_be_main, function_declared, func_declared, declared_by, entity_binds, blocks_by}
+use Rattle.go_rules.specs.ScopeNames.Means.{is_blank, Environment, binding}
+use Rattle.go_rules.specs.ScopeNames.FreeNames.{names_of}
+use Rattle.go_rules.specs.GoTypes.Answers.{unless_missing, given, both, only_if}
+use Rattle.go_rules.specs.GoTypes.Types.{GoType, FuncType}
+use Rattle.go_rules.specs.GoTypes.Defined.{Method, has_keys}
+use Rattle.go_rules.specs.GoTypes.Entities.{Entity, variable, function, refused, universe, World, Env, block_of, Binds}
+use Rattle.go_rules.specs.GoTypes.TypeNames.{resolved, resolved, func_type, written_type}
+use Rattle.go_rules.specs.GoTypes.Operands.{Operand, Typed, all_typed}
+use Rattle.go_rules.specs.GoTypes.Statements.{bind_all, bind_each, body_binds, constant_entity, variable_entity, no_values}
+use Rattle.go_rules.specs.GoTypes.Typing.{all_parts}
+use Rattle.go_rules.specs.GoTypes.Initial.{all_initial}
+use Rattle.go_rules.specs.GoTypes.Bodiless.{all_bodiless}
+use Rattle.go_rules.specs.GoTypes.Programs.{func_of, spec_of, Header, constants, variables, a_type_spec, a_func, Headed, header_names, Program}
+use Rattle.go_rules.specs.GoTypes.WellTyped.{function_ok}
+use Rattle.go_rules.specs.GoTypes.Collect.{receiver_type, method_declared, env_of, DeclaredTypes, is_finite, type_entity, spec_type, alias_entity, is_good_type, good_entity, package_constants, package_variables, may_be_main, function_declared, func_declared, declared_by, entity_binds, blocks_by}
 use Rattle.typed_in_place.specs.Known.{Keeps, no_answer, kept, AllKeep, no_headers, and_keeps, BlockClearer, BlocksClearer, Knows}
 use Rattle.typed_in_place.proofs.SameUses.{from_given, from_both, from_only}
 use Rattle.typed_in_place.proofs.Rising.{keeps_given, keeps_both, keeps_only, keeps_either, keeps_meets, keeps_some, and_first, and_second, both_true, resolved-keeps, written_type-keeps, func_type-keeps, all_parts-keeps, all_initial-rises}

@@ -1,23 +1,23 @@
 -- Headers with parts replaced declare the same, and their bodies are typed alike.
-use Rattle.go_tree.specs.GoTypes.MethodDeclarations.{MethodName}
+use Rattle.go_rules.specs.GoTypes.MethodDeclarations.{MethodName}
 use Rattle.std.specs.Prelude.{◌≡◌, refl, ℕ, Bool, true, false, not, ◌&&◌, ◌||◌, List, [], ◌∷◌, Option, Some, None, if◌then◌else◌, bytes_eq, nat_eq, is_none, is_some, codes}
 use mathlib.Core.Path.{ap, ap₂, sym, ◌∙◌}
 use Rattle.go_tree.specs.Tree.{NameAt, TypeExpr, Exprs}
 use Rattle.go_tree.specs.File.{TypeSpec, Receiver, Func}
-use Rattle.go_tree.specs.ScopeNames.Means.{is_blank, binding}
-use Rattle.go_tree.specs.GoTypes.Answers.{given, both, meets, only_if, otherwise, is_empty, distinct_by}
-use Rattle.go_tree.specs.GoTypes.Types.{GoType, named_type, pointer_to, type_name_of, base_of}
-use Rattle.go_tree.specs.GoTypes.Defined.{under, has_keys}
-use Rattle.go_tree.specs.GoTypes.Entities.{Entity, variable, type_name, function, World, Env, meaning, type_of_name, Binds, extend, in_block}
-use Rattle.go_tree.specs.GoTypes.TypeNames.{resolved, type_meant, func_type, written_type}
-use Rattle.go_tree.specs.GoTypes.Operands.{all_typed}
-use Rattle.go_tree.specs.GoTypes.Statements.{bind_all, bind_each, body_binds, body_ctx, constant_entity, variable_entity}
-use Rattle.go_tree.specs.GoTypes.Typing.{all_parts, stmts}
-use Rattle.go_tree.specs.GoTypes.Initial.{all_initial}
-use Rattle.go_tree.specs.GoTypes.Bodiless.{all_bodiless}
-use Rattle.go_tree.specs.GoTypes.Programs.{Header, Headed, header_names}
-use Rattle.go_tree.specs.GoTypes.Collect.{type_declared, file_env, env_of, DeclaredTypes, is_finite, type_entity, spec_type, alias_entity, good_entity, function_declared, declared_by, receiver_type, receiver_binds, method_declared}
-use Rattle.go_tree.specs.GoTypes.WellTyped.{is_method, receiver_of, body_env, function_ok, body_ok}
+use Rattle.go_rules.specs.ScopeNames.Means.{is_blank, binding}
+use Rattle.go_rules.specs.GoTypes.Answers.{given, both, meets, only_if, otherwise, is_empty, distinct_by}
+use Rattle.go_rules.specs.GoTypes.Types.{GoType, named_type, pointer_to, type_name_of, base_of}
+use Rattle.go_rules.specs.GoTypes.Defined.{under, has_keys}
+use Rattle.go_rules.specs.GoTypes.Entities.{Entity, variable, type_name, function, World, Env, meaning, type_of_name, Binds, extend, in_block}
+use Rattle.go_rules.specs.GoTypes.TypeNames.{resolved, type_meant, func_type, written_type}
+use Rattle.go_rules.specs.GoTypes.Operands.{all_typed}
+use Rattle.go_rules.specs.GoTypes.Statements.{bind_all, bind_each, body_binds, body_ctx, constant_entity, variable_entity}
+use Rattle.go_rules.specs.GoTypes.Typing.{all_parts, stmts}
+use Rattle.go_rules.specs.GoTypes.Initial.{all_initial}
+use Rattle.go_rules.specs.GoTypes.Bodiless.{all_bodiless}
+use Rattle.go_rules.specs.GoTypes.Programs.{Header, Headed, header_names}
+use Rattle.go_rules.specs.GoTypes.Collect.{type_declared, file_env, env_of, DeclaredTypes, is_finite, type_entity, spec_type, alias_entity, good_entity, function_declared, declared_by, receiver_type, receiver_binds, method_declared}
+use Rattle.go_rules.specs.GoTypes.WellTyped.{is_method, receiver_of, body_env, function_ok, body_ok}
 use Rattle.typed_in_place.specs.Replaced.{TypeReplaced, TypeOptionReplaced, SameName, no_name, one_name, SigReplaced, ExprsReplaced, StmtsReplaced}
 use Rattle.typed_in_place.specs.ProgramsAlike.{SameHeader, SameMethod}
 use Rattle.typed_in_place.specs.HeaderReplaced.{SameReceiver, no_receiver, one_receiver, SpecsIn, types_of_constants, types_of_variables, types_of_spec, types_of_func, AliasesReplaced, TypesReplaced, BodilessAlike, no_more_bodies, bodies_alike, HeaderIn, in_constants, in_variables, in_type_spec, in_func, HeaderReplaced, BodyIn, in_body}

@@ -3,12 +3,12 @@ use Rattle.std.specs.Prelude.{◌≡◌, refl, ℕ, suc, Bool, true, false, not,
 use Rattle.std.specs.List.{list_all}
 use mathlib.Core.Path.{ap, ap₂, sym, ◌∙◌}
 use Rattle.std.proofs.Common.{arith}
-use Rattle.go_tree.specs.ScopeNames.Means.{is_blank, means}
-use Rattle.go_tree.specs.GoTypes.Answers.{one_of, is_among}
-use Rattle.go_tree.specs.GoTypes.Entities.{World, block_of}
-use Rattle.go_tree.specs.GoTypes.Programs.{is_main, Import, SourceFile, SourcePackage, Program, Headed, headed, block_names, import_sound, is_init}
-use Rattle.go_tree.specs.GoTypes.Collect.{DeclaredTypes, types_declared, collected}
-use Rattle.go_tree.specs.GoTypes.WellTyped.{refused_unless, means_function, header_uses, is_used_in, import_ok, first_import, first_header, first_in_files, first_body, lacks_main, refused_header, refused_in, first_refused, well_typed}
+use Rattle.go_rules.specs.ScopeNames.Means.{is_blank, means}
+use Rattle.go_rules.specs.GoTypes.Answers.{one_of, is_among}
+use Rattle.go_rules.specs.GoTypes.Entities.{World, block_of}
+use Rattle.go_rules.specs.GoTypes.Programs.{is_main, Import, SourceFile, SourcePackage, Program, Headed, headed, block_names, import_sound, is_init}
+use Rattle.go_rules.specs.GoTypes.Collect.{DeclaredTypes, types_declared, collected}
+use Rattle.go_rules.specs.GoTypes.WellTyped.{refused_unless, means_function, header_uses, is_used_in, import_ok, first_import, first_header, first_in_files, first_body, lacks_main, refused_header, refused_in, first_refused, well_typed}
 use Rattle.typed_in_place.specs.ProgramsAlike.{OneByOne, no_more, and_more, SameHeaders, DeclaredAlike, MethodsAlike, BodiesAlike}
 use Rattle.typed_in_place.specs.ImportRule.{imports_sound, imports_used, import_names, Fewer, no_imports, this_stays, this_goes, files_import, files_declare, package_declares, package_imports, declarations_ok, imports_ok, SamePackage, DeclarationsAlike}
 use Rattle.typed_in_place.proofs.WellTypedAlike.{none_refused, none_one_of, first_header-alike, first_body-alike, well_typed-none}

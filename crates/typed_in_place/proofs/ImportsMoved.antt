@@ -1,30 +1,30 @@
 -- Headers under other imports declare the same and are typed alike where each name that they look up means what it meant.
-use Rattle.go_tree.specs.GoTypes.MethodDeclarations.{MethodName}
+use Rattle.go_rules.specs.GoTypes.MethodDeclarations.{MethodName}
 use Rattle.std.specs.Prelude.{◌≡◌, refl, ℕ, true, false, not, ◌&&◌, ◌||◌, List, [], ◌∷◌, ◌++◌, Option, Some, None, if◌then◌else◌, bytes_eq, nat_eq, is_none, is_some}
 use mathlib.Core.Path.{ap, sym, ◌∙◌, subst}
 use Rattle.std.proofs.Common.{arith}
 use Rattle.go_tree.specs.Tree.{Param, Sig, TypeExpr, Expr, ident, int_lit, rune_lit, str_lit, composite, selector, index, slice, call, func_lit, type_operand, unary, binary, star, Exprs, no_exprs, expr_and, Elems, no_elems, elem, Value, plain, braced, ValueOption, no_value, some_value}
 use Rattle.go_tree.specs.File.{TypeSpec, Receiver, Func}
-use Rattle.go_tree.specs.ScopeNames.Means.{Environment, is_blank}
-use Rattle.go_tree.specs.ScopeNames.FreeNames.{names_of, free_type, free_type_option, free_params, free_expr, free_exprs, free_elems, free_value, free_value_option, free_stmts}
-use Rattle.go_tree.specs.GoTypes.Answers.{given, both, meets, only_if, otherwise, is_empty, distinct_by}
-use Rattle.go_tree.specs.GoTypes.Types.{GoType, named_type, type_name_of, base_of}
-use Rattle.go_tree.specs.GoTypes.Defined.{under, has_keys}
-use Rattle.go_tree.specs.GoTypes.Entities.{Entity, variable, World, Env, type_of_name, defined_in, Binds, extend}
-use Rattle.go_tree.specs.GoTypes.TypeNames.{resolved, type_meant, params_meant, func_type, written_type}
-use Rattle.go_tree.specs.GoTypes.Operands.{typed, constant_of, all_typed}
-use Rattle.go_tree.specs.GoTypes.Jumps.{labels_in}
-use Rattle.go_tree.specs.GoTypes.Literals.{is_struct, key_type, inner_type, literal_type}
-use Rattle.go_tree.specs.GoTypes.Statements.{bind_all, bind_each, body_binds, body_ctx, constant_entity, variable_entity, no_values}
-use Rattle.go_tree.specs.GoTypes.Typing.{stmts}
-use Rattle.go_tree.specs.GoTypes.Initial.{means_maker, means_nil, is_address, is_constant, all_constant, sizes_constant, is_maker, is_composite, is_initial, initial_elems, initial_key, initial_value, all_initial}
-use Rattle.go_tree.specs.GoTypes.Bodiless.{all_bodiless}
-use Rattle.go_tree.specs.GoTypes.Programs.{Header, Headed}
-use Rattle.go_tree.specs.GoTypes.Collect.{type_declared, env_of, DeclaredTypes, is_finite, type_entity, spec_type, alias_entity, is_good_type, good_entity, may_be_main, function_declared, declared_by, receiver_type, receiver_binds, method_declared}
-use Rattle.go_tree.specs.GoTypes.WellTyped.{receiver_of, body_env, function_ok, body_ok}
-use Rattle.go_tree.specs.GoTypes.Agreement.{Same, On, Agrees, with_names}
-use Rattle.go_tree.proofs.GoTypes.Agreeing.{on_first, on_second, name_alike, agrees_after}
-use Rattle.go_tree.proofs.GoTypes.TypingAlike.{resolved-alike, parts-alike, all_parts-alike, stmts-alike}
+use Rattle.go_rules.specs.ScopeNames.Means.{Environment, is_blank}
+use Rattle.go_rules.specs.ScopeNames.FreeNames.{names_of, free_type, free_type_option, free_params, free_expr, free_exprs, free_elems, free_value, free_value_option, free_stmts}
+use Rattle.go_rules.specs.GoTypes.Answers.{given, both, meets, only_if, otherwise, is_empty, distinct_by}
+use Rattle.go_rules.specs.GoTypes.Types.{GoType, named_type, type_name_of, base_of}
+use Rattle.go_rules.specs.GoTypes.Defined.{under, has_keys}
+use Rattle.go_rules.specs.GoTypes.Entities.{Entity, variable, World, Env, type_of_name, defined_in, Binds, extend}
+use Rattle.go_rules.specs.GoTypes.TypeNames.{resolved, type_meant, params_meant, func_type, written_type}
+use Rattle.go_rules.specs.GoTypes.Operands.{typed, constant_of, all_typed}
+use Rattle.go_rules.specs.GoTypes.Jumps.{labels_in}
+use Rattle.go_rules.specs.GoTypes.Literals.{is_struct, key_type, inner_type, literal_type}
+use Rattle.go_rules.specs.GoTypes.Statements.{bind_all, bind_each, body_binds, body_ctx, constant_entity, variable_entity, no_values}
+use Rattle.go_rules.specs.GoTypes.Typing.{stmts}
+use Rattle.go_rules.specs.GoTypes.Initial.{means_maker, means_nil, is_address, is_constant, all_constant, sizes_constant, is_maker, is_composite, is_initial, initial_elems, initial_key, initial_value, all_initial}
+use Rattle.go_rules.specs.GoTypes.Bodiless.{all_bodiless}
+use Rattle.go_rules.specs.GoTypes.Programs.{Header, Headed}
+use Rattle.go_rules.specs.GoTypes.Collect.{type_declared, env_of, DeclaredTypes, is_finite, type_entity, spec_type, alias_entity, is_good_type, good_entity, may_be_main, function_declared, declared_by, receiver_type, receiver_binds, method_declared}
+use Rattle.go_rules.specs.GoTypes.WellTyped.{receiver_of, body_env, function_ok, body_ok}
+use Rattle.go_rules.specs.GoTypes.Agreement.{Same, On, Agrees, with_names}
+use Rattle.go_rules.proofs.GoTypes.Agreeing.{on_first, on_second, name_alike, agrees_after}
+use Rattle.go_rules.proofs.GoTypes.TypingAlike.{resolved-alike, parts-alike, all_parts-alike, stmts-alike}
 use Rattle.typed_in_place.specs.ProgramsAlike.{SameHeader, SameMethod}
 use Rattle.typed_in_place.specs.ImportsMoved.{under_imports, file_names, MovedReceiver, nothing_received, received, MovedIn, moved_constants, moved_variables, moved_type, moved_func, Moved, MovedBody, moved_body}
 use Rattle.typed_in_place.proofs.Headers.{type_in, method_in, on_in, body_in, alias_in, good_in, declared_in}
@@ -152,7 +152,7 @@ module _ {S : Type 0} (w : World) (is : Environment Entity) (h : Headed S) (r : 
   -- ---- constants, variables and functions
 
   func_go : (f : Func S) → func_type (env_of w h None) f.sig ≡ func_type (env_of w k None) f.sig → (q : Option (Receiver S)) → elim q as (λ q. Option Binds) [ None ↦ function_declared w h f | Some r ↦ Some [] ] ≡ elim q as (λ p. Option Binds) [ None ↦ function_declared w k f | Some r ↦ Some [] ]
-  func_go f e None = λ x. given (e x) (λ g. given (body_binds [] f.sig g) (λ bs. only_if (may_be_main h f g) (Some (Rattle.go_tree.specs.ScopeNames.Means.binding f.name.name (Rattle.go_tree.specs.GoTypes.Entities.function g)))))
+  func_go f e None = λ x. given (e x) (λ g. given (body_binds [] f.sig g) (λ bs. only_if (may_be_main h f g) (Some (Rattle.go_rules.specs.ScopeNames.Means.binding f.name.name (Rattle.go_rules.specs.GoTypes.Entities.function g)))))
   func_go f e (Some q) = refl
 
   declared_go : {x : Header S} (p q : Option Entity) → p ≡ q → MovedIn (env_of w h) m x → declared_in w h p x ≡ declared_in w k q x
@@ -161,7 +161,7 @@ module _ {S : Type 0} (w : World) (is : Environment Entity) (h : Headed S) (r : 
       if no_values es
       then given t (λ t. Some (bind_each (variable t) (names_of ns)))
       else only_if (all_bodiless es && all_initial-moved (env_of w h None) m [] (agrees None) es u x) (given (all_parts-alike (env_of w h None) es m [] (agrees None) u x) (λ os. given (all_typed os) (bind_all (variable_entity w.defined t) (names_of ns)))))
-  declared_go p q e (moved_type {t = t} o) = λ x. given (e x) (λ e. Some (Rattle.go_tree.specs.ScopeNames.Means.binding t.name.name e))
+  declared_go p q e (moved_type {t = t} o) = λ x. given (e x) (λ e. Some (Rattle.go_rules.specs.ScopeNames.Means.binding t.name.name e))
   declared_go p q e (moved_func {f = f} o p1 s) = func_go f (func_type-moved (env_of w h None) m [] (agrees None) f.sig p1 s) f.receiver
 
   pub declared-moved : (ds : DeclaredTypes) → declared_by ds w h ≡ declared_by ds w k

@@ -3,21 +3,21 @@ use Rattle.std.specs.Prelude.{◌≡◌, refl, Bool, true, false, ◌&&◌, ◌|
 use mathlib.Core.Path.{ap, sym, ◌∙◌}
 use Rattle.std.proofs.Common.{arith}
 use Rattle.go_tree.specs.Tree.{NameAt, TypeExpr, Expr, ident, int_lit, rune_lit, str_lit, composite, selector, index, slice, call, func_lit, type_operand, unary, binary, star, Exprs, no_exprs, expr_and, Elems, no_elems, elem, Value, plain, braced, ValueOption, no_value, some_value}
-use Rattle.go_tree.specs.ScopeNames.FreeNames.{names_of}
-use Rattle.go_tree.specs.GoTypes.Answers.{given, both, meets, only_if}
-use Rattle.go_tree.specs.GoTypes.Types.{GoType}
-use Rattle.go_tree.specs.GoTypes.Defined.{Defined, under}
-use Rattle.go_tree.specs.GoTypes.Entities.{Entity, Make, New, exact, builtin, variable, Env, meaning, defined_in, Binds}
-use Rattle.go_tree.specs.GoTypes.TypeNames.{type_meant, written_type}
-use Rattle.go_tree.specs.GoTypes.Operands.{Operand, value, a_type, typed, all_typed, constant_of, named_operand}
-use Rattle.go_tree.specs.GoTypes.Operators.{unary_of}
-use Rattle.go_tree.specs.GoTypes.Primary.{call_of}
-use Rattle.go_tree.specs.GoTypes.Literals.{Element, of_field, keyed, is_struct, field_key, built, built_inside, key_type, inner_type, literal_type}
-use Rattle.go_tree.specs.GoTypes.Statements.{bind_all, bind_each, variable_entity, no_values}
-use Rattle.go_tree.specs.GoTypes.Typing.{parts, all_parts, elements, element, with_key, place}
-use Rattle.go_tree.specs.GoTypes.Initial.{means_maker, is_address, is_constant, all_constant, sizes_constant, is_maker, is_composite, is_initial, initial_elems, initial_key, initial_value, all_initial}
-use Rattle.go_tree.specs.GoTypes.Bodiless.{bodiless, all_bodiless, bodiless_elems, bodiless_value, bodiless_key}
-use Rattle.go_tree.specs.GoTypes.Collect.{package_variables}
+use Rattle.go_rules.specs.ScopeNames.FreeNames.{names_of}
+use Rattle.go_rules.specs.GoTypes.Answers.{given, both, meets, only_if}
+use Rattle.go_rules.specs.GoTypes.Types.{GoType}
+use Rattle.go_rules.specs.GoTypes.Defined.{Defined, under}
+use Rattle.go_rules.specs.GoTypes.Entities.{Entity, Make, New, exact, builtin, variable, Env, meaning, defined_in, Binds}
+use Rattle.go_rules.specs.GoTypes.TypeNames.{type_meant, written_type}
+use Rattle.go_rules.specs.GoTypes.Operands.{Operand, value, a_type, typed, all_typed, constant_of, named_operand}
+use Rattle.go_rules.specs.GoTypes.Operators.{unary_of}
+use Rattle.go_rules.specs.GoTypes.Primary.{call_of}
+use Rattle.go_rules.specs.GoTypes.Literals.{Element, of_field, keyed, is_struct, field_key, built, built_inside, key_type, inner_type, literal_type}
+use Rattle.go_rules.specs.GoTypes.Statements.{bind_all, bind_each, variable_entity, no_values}
+use Rattle.go_rules.specs.GoTypes.Typing.{parts, all_parts, elements, element, with_key, place}
+use Rattle.go_rules.specs.GoTypes.Initial.{means_maker, is_address, is_constant, all_constant, sizes_constant, is_maker, is_composite, is_initial, initial_elems, initial_key, initial_value, all_initial}
+use Rattle.go_rules.specs.GoTypes.Bodiless.{bodiless, all_bodiless, bodiless_elems, bodiless_value, bodiless_key}
+use Rattle.go_rules.specs.GoTypes.Collect.{package_variables}
 use Rattle.typed_in_place.proofs.SameUses.{from_given, from_both}
 use Rattle.typed_in_place.proofs.Rising.{and_first, and_second, both_true}
 use Rattle.typed_in_place.proofs.Bodiless.{fixed, fixed_in, literal_unfixed}

@@ -2,13 +2,13 @@
 use Rattle.std.specs.Prelude.{◌≡◌, refl, ℕ, true, false, ◌&&◌, ◌||◌, List, Option, Some, is_some, if◌then◌else◌}
 use mathlib.Core.Path.{◌∙◌}
 use Rattle.go_tree.specs.Tree.{Expr, Exprs, Elems, Value, ValueOption}
-use Rattle.go_tree.specs.GoTypes.Answers.{given, meets}
-use Rattle.go_tree.specs.GoTypes.Types.{GoType}
-use Rattle.go_tree.specs.GoTypes.Defined.{under}
-use Rattle.go_tree.specs.GoTypes.Entities.{Env, defined_in}
-use Rattle.go_tree.specs.GoTypes.Operands.{typed, constant_of}
-use Rattle.go_tree.specs.GoTypes.Literals.{is_struct, key_type}
-use Rattle.go_tree.specs.GoTypes.Initial.{is_address, is_constant, all_constant, sizes_constant, is_maker, is_composite, is_initial, initial_elems, initial_key, initial_value, all_initial}
+use Rattle.go_rules.specs.GoTypes.Answers.{given, meets}
+use Rattle.go_rules.specs.GoTypes.Types.{GoType}
+use Rattle.go_rules.specs.GoTypes.Defined.{under}
+use Rattle.go_rules.specs.GoTypes.Entities.{Env, defined_in}
+use Rattle.go_rules.specs.GoTypes.Operands.{typed, constant_of}
+use Rattle.go_rules.specs.GoTypes.Literals.{is_struct, key_type}
+use Rattle.go_rules.specs.GoTypes.Initial.{is_address, is_constant, all_constant, sizes_constant, is_maker, is_composite, is_initial, initial_elems, initial_key, initial_value, all_initial}
 use Rattle.typed_in_place.specs.Replaced.{ExprReplaced, same_operand, in_composite, in_selector, in_index, in_slice, in_call, in_func_lit, in_type_operand, in_unary, in_binary, in_star, ExprsReplaced, no_more_exprs, in_exprs, ElemsReplaced, no_more_elems, in_elems, ValueReplaced, in_plain, in_braces, KeyReplaced, no_key, same_field, in_key}
 use Rattle.typed_in_place.proofs.TypingReplaced.{type_meant-in, parts-in, if_true}
 

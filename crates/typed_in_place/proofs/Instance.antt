@@ -5,14 +5,14 @@
 use Rattle.std.specs.Prelude.{◌≡◌, refl, ℕ, true, false, List, [], ◌∷◌, Option, Some, None, codes, pos}
 use Rattle.go_tree.specs.declared.operators.BinOp.TheVariants.{Add}
 use Rattle.go_tree.specs.Tree.{Expr}
-use Rattle.go_tree.specs.declared.const_eval.kinds.Kind.TheVariants as kind
-use Rattle.go_tree.specs.declared.const_eval.consts.Const.TheVariants.{Whole}
-use Rattle.go_tree.specs.GoTypes.Types.{untyped}
-use Rattle.go_tree.specs.GoTypes.Answers.{is_among}
-use Rattle.go_tree.specs.GoTypes.Entities.{World, Env, constant, package_name, meaning, exported, package_of}
-use Rattle.go_tree.specs.GoTypes.Programs.{Program, headed}
-use Rattle.go_tree.specs.GoTypes.Collect.{file_env, collected}
-use Rattle.go_tree.specs.GoTypes.WellTyped.{well_typed}
+use Rattle.go_rules.specs.declared.const_eval.kinds.Kind.TheVariants as kind
+use Rattle.go_rules.specs.declared.const_eval.consts.Const.TheVariants.{Whole}
+use Rattle.go_rules.specs.GoTypes.Types.{untyped}
+use Rattle.go_rules.specs.GoTypes.Answers.{is_among}
+use Rattle.go_rules.specs.GoTypes.Entities.{World, Env, constant, package_name, meaning, exported, package_of}
+use Rattle.go_rules.specs.GoTypes.Programs.{Program, headed}
+use Rattle.go_rules.specs.GoTypes.Collect.{file_env, collected}
+use Rattle.go_rules.specs.GoTypes.WellTyped.{well_typed}
 use Rattle.typed_in_place.specs.Replaced.{ExprReplaced, same_operand, in_binary, no_more_exprs, in_exprs, no_type, same_statement, in_define, in_stmts, no_params}
 use Rattle.typed_in_place.specs.Leaves.{plain_name, qualified_name}
 use Rattle.typed_in_place.specs.Declared.{a_constant}
@@ -21,7 +21,7 @@ use Rattle.typed_in_place.specs.HeaderReplaced.{no_more_bodies, bodies_alike, ty
 use Rattle.typed_in_place.specs.ProgramsAlike.{AliasesStand, OneByOne, no_more, and_more, ValuesStand, TypesStand, BodiesAlike}
 use Rattle.typed_in_place.specs.ImportRule.{imports_ok}
 use Rattle.typed_in_place.specs.ProgramReplaced.{InPlace, ValuesEnd, after_names, after_values, at_last}
-use Rattle.go_tree.proofs.GoTypes.Trees.{ss, ty, par, sig, v, int, sel, bin, def, ret, consts_at, func_at, file, pack}
+use Rattle.go_rules.proofs.GoTypes.Trees.{ss, ty, par, sig, v, int, sel, bin, def, ret, consts_at, func_at, file, pack}
 use Rattle.typed_in_place.proofs.Leaves.{operand_itself, statement_itself, stmts_themselves, same_constant_name}
 use Rattle.typed_in_place.proofs.ProgramsReplaced.{aliases_stand_itself, replaced_aliases_stand, one_by_one, replaced_bodies_alike, header_itself, types_stand_itself, replaced_types_stand, replaced_values_stand, params_themselves, stays_well_typed}
 

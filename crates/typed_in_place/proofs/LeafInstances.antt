@@ -3,17 +3,17 @@ use Rattle.std.specs.Prelude.{◌≡◌, refl, ℕ, true, false, [], ◌∷◌, 
 use Rattle.std.proofs.Common.{arith}
 use Rattle.go_tree.specs.declared.operators.BinOp.TheVariants.{Add, Shl}
 use Rattle.go_tree.specs.Tree.{Expr, no_stmt, some_expr, some_value, plain}
-use Rattle.go_tree.specs.declared.const_eval.kinds.Kind.TheVariants as kind
-use Rattle.go_tree.specs.declared.const_eval.consts.Const.TheVariants.{Whole}
-use Rattle.go_tree.specs.GoTypes.Types.{basic, untyped, pointer_to}
-use Rattle.go_tree.specs.GoTypes.Entities.{Env, constant, type_name, function}
-use Rattle.go_tree.specs.GoTypes.Typing.{parts}
+use Rattle.go_rules.specs.declared.const_eval.kinds.Kind.TheVariants as kind
+use Rattle.go_rules.specs.declared.const_eval.consts.Const.TheVariants.{Whole}
+use Rattle.go_rules.specs.GoTypes.Types.{basic, untyped, pointer_to}
+use Rattle.go_rules.specs.GoTypes.Entities.{Env, constant, type_name, function}
+use Rattle.go_rules.specs.GoTypes.Typing.{parts}
 use Rattle.typed_in_place.specs.SameFacts.{SameOperand}
 use Rattle.typed_in_place.specs.Replaced.{TypeReplaced, same_type, in_slice_type, ExprReplaced, same_operand, in_call, in_binary, in_composite, no_more_exprs, in_exprs, no_more_elems, in_elems, in_plain, in_key, StmtReplaced, in_switch_statement, no_first, in_expr_option, no_more_cases, in_cases, no_more_stmts}
 use Rattle.typed_in_place.specs.Leaves.{plain_name, qualified_name, type_by_name, type_by_star}
 use Rattle.typed_in_place.specs.Declared.{a_constant}
-use Rattle.go_tree.proofs.GoTypes.Trees.{n, ty, slc, mp, v, int, sel, bin, app, comp, der, es, sw, ret, lit, sig, par}
-use Rattle.go_tree.proofs.GoTypes.Setting.{here}
+use Rattle.go_rules.proofs.GoTypes.Trees.{n, ty, slc, mp, v, int, sel, bin, app, comp, der, es, sw, ret, lit, sig, par}
+use Rattle.go_rules.proofs.GoTypes.Setting.{here}
 use Rattle.typed_in_place.proofs.TypingReplaced.{parts-in}
 use Rattle.typed_in_place.proofs.Leaves.{operand_itself, type_itself, same_constant_name, exprs_themselves}
 use Rattle.typed_in_place.proofs.TypeLeaves.{same_type_name, same_type_operand}

@@ -5,17 +5,17 @@ use Rattle.std.proofs.lemmas.Slice.Eq.{bytes_eq-Decides}
 use Rattle.std.proofs.Common.{arith}
 use Rattle.go_tree.specs.declared.exprs.Rest.{Rest}
 use Rattle.go_tree.specs.Tree.{TypeExpr, Expr, ident, call, Exprs, no_exprs, expr_and, Stmts, Stmt, stmt_and, no_stmts}
-use Rattle.go_tree.specs.declared.const_eval.consts.Const.{Const}
-use Rattle.go_tree.specs.declared.const_eval.consts.Const.TheVariants.{Truth}
-use Rattle.go_tree.specs.ScopeNames.Means.{is_blank}
-use Rattle.go_tree.specs.GoTypes.Answers.{given, meets, is_among}
-use Rattle.go_tree.specs.GoTypes.Types.{GoType, untyped_nil, FuncType}
-use Rattle.go_tree.specs.GoTypes.Entities.{exact, elsewhere, constant, refused, Entity, Env, exported, package_of, defined_in}
-use Rattle.go_tree.specs.GoTypes.Operands.{value, with_value, a_function, typed, constant_of, named_operand, named_place}
-use Rattle.go_tree.specs.GoTypes.Primary.{selected, selected_place, stands_alone, may_be_deferred}
-use Rattle.go_tree.specs.GoTypes.Statements.{means_panic, is_blank_name, is_panic}
-use Rattle.go_tree.specs.GoTypes.Typing.{parts, place, place_by, is_call, used, used_left, package_before}
-use Rattle.go_tree.specs.GoTypes.Initial.{is_constant, is_initial, is_composite, is_maker, is_nil_name, means_nil, means_maker, sizes_constant}
+use Rattle.go_rules.specs.declared.const_eval.consts.Const.{Const}
+use Rattle.go_rules.specs.declared.const_eval.consts.Const.TheVariants.{Truth}
+use Rattle.go_rules.specs.ScopeNames.Means.{is_blank}
+use Rattle.go_rules.specs.GoTypes.Answers.{given, meets, is_among}
+use Rattle.go_rules.specs.GoTypes.Types.{GoType, untyped_nil, FuncType}
+use Rattle.go_rules.specs.GoTypes.Entities.{exact, elsewhere, constant, refused, Entity, Env, exported, package_of, defined_in}
+use Rattle.go_rules.specs.GoTypes.Operands.{value, with_value, a_function, typed, constant_of, named_operand, named_place}
+use Rattle.go_rules.specs.GoTypes.Primary.{selected, selected_place, stands_alone, may_be_deferred}
+use Rattle.go_rules.specs.GoTypes.Statements.{means_panic, is_blank_name, is_panic}
+use Rattle.go_rules.specs.GoTypes.Typing.{parts, place, place_by, is_call, used, used_left, package_before}
+use Rattle.go_rules.specs.GoTypes.Initial.{is_constant, is_initial, is_composite, is_maker, is_nil_name, means_nil, means_maker, sizes_constant}
 use Rattle.typed_in_place.specs.SameFacts.{UsedAlike, SameType, SameOperand, SameStatement, calls_panic}
 use Rattle.typed_in_place.specs.Replaced.{same_operand, ExprsReplaced, no_more_exprs, in_exprs, same_statement, StmtsReplaced, no_more_stmts, in_stmts}
 use Rattle.typed_in_place.specs.Leaves.{Names, plain_name, qualified_name}

@@ -1,17 +1,17 @@
 -- Types don't ask which methods are declared: an alias means its type also where methods are known.
-use Rattle.go_tree.specs.GoTypes.MethodDeclarations.{DeclaredMethod}
+use Rattle.go_rules.specs.GoTypes.MethodDeclarations.{DeclaredMethod}
 use Rattle.std.specs.Prelude.{◌≡◌, refl, ℕ, zero, suc, Bool, true, false, ◌&&◌, List, [], ◌∷◌, length, Option, Some, None, if◌then◌else◌, nat_eq, bytes_eq}
 use mathlib.Core.Path.{ap, sym, ◌∙◌}
 use Rattle.go_tree.specs.Tree.{NameAt, TypeExpr, named, pointer, slice_type, map_type, struct_type, Fields, no_fields, field}
 use Rattle.go_tree.specs.File.{TypeSpec}
-use Rattle.go_tree.specs.ScopeNames.Means.{means, is_blank}
-use Rattle.go_tree.specs.GoTypes.Answers.{given, both, only_if}
-use Rattle.go_tree.specs.GoTypes.Types.{GoType, basic, named_type, pointer_to, slice_of, map_of, struct_of, tuple_of, untyped, untyped_nil, GoFields, no_go_fields, go_field}
-use Rattle.go_tree.specs.GoTypes.Defined.{Defined, find_defined, under_of, under, comparable_by, comparable_within, comparable, has_keys, fields_have_keys}
-use Rattle.go_tree.specs.GoTypes.Entities.{type_of_name, World, Env, block_of}
-use Rattle.go_tree.specs.GoTypes.TypeNames.{named_meaning, resolved, resolved_fields, field_before, type_meant}
-use Rattle.go_tree.specs.GoTypes.Programs.{a_type_spec, Headed, Program}
-use Rattle.go_tree.specs.GoTypes.Collect.{env_of, methods_on, methods_from, with_methods, named_world, valued_world, world_of}
+use Rattle.go_rules.specs.ScopeNames.Means.{means, is_blank}
+use Rattle.go_rules.specs.GoTypes.Answers.{given, both, only_if}
+use Rattle.go_rules.specs.GoTypes.Types.{GoType, basic, named_type, pointer_to, slice_of, map_of, struct_of, tuple_of, untyped, untyped_nil, GoFields, no_go_fields, go_field}
+use Rattle.go_rules.specs.GoTypes.Defined.{Defined, find_defined, under_of, under, comparable_by, comparable_within, comparable, has_keys, fields_have_keys}
+use Rattle.go_rules.specs.GoTypes.Entities.{type_of_name, World, Env, block_of}
+use Rattle.go_rules.specs.GoTypes.TypeNames.{named_meaning, resolved, resolved_fields, field_before, type_meant}
+use Rattle.go_rules.specs.GoTypes.Programs.{a_type_spec, Headed, Program}
+use Rattle.go_rules.specs.GoTypes.Collect.{env_of, methods_on, methods_from, with_methods, named_world, valued_world, world_of}
 use Rattle.typed_in_place.specs.Declared.{FirstWith, HasNumber, RoundsEnd, after_names, after_values, at_last}
 use Rattle.typed_in_place.specs.Aliases.{DeclaresAlias}
 use Rattle.typed_in_place.proofs.DeclaredAliases.{as_declared, declared_type, alias_means_named, alias_means_valued}

@@ -2,16 +2,16 @@
 use Rattle.std.specs.Prelude.{◌≡◌, refl, ℕ, suc, Bool, true, false, ◌&&◌, ◌||◌, List, [], ◌∷◌, ◌++◌, Option, Some, None, nat_eq, is_none}
 use Rattle.std.specs.List.{list_all}
 use mathlib.Core.Path.{ap, ap₂, sym, ◌∙◌, subst}
-use Rattle.go_tree.specs.ScopeNames.Means.{Environment, is_blank}
+use Rattle.go_rules.specs.ScopeNames.Means.{Environment, is_blank}
 use Rattle.go_tree.specs.Tree.{NameAt, Param, TypeExpr, Stmts}
 use Rattle.go_tree.specs.File.{Receiver, Func}
-use Rattle.go_tree.specs.GoTypes.Answers.{one_of, is_among}
-use Rattle.go_tree.specs.GoTypes.Entities.{Entity, World, Env}
-use Rattle.go_tree.specs.GoTypes.Programs.{Header, constants, variables, a_type_spec, a_func, Headed, Import, SourceFile, SourcePackage, Program, headed, headed_package, block_names, import_sound}
-use Rattle.go_tree.specs.GoTypes.Collect.{env_of, types_declared, collected}
-use Rattle.go_tree.specs.GoTypes.WellTyped.{refused_unless, header_uses, is_used_in, first_import, well_typed, body_ok}
+use Rattle.go_rules.specs.GoTypes.Answers.{one_of, is_among}
+use Rattle.go_rules.specs.GoTypes.Entities.{Entity, World, Env}
+use Rattle.go_rules.specs.GoTypes.Programs.{Header, constants, variables, a_type_spec, a_func, Headed, Import, SourceFile, SourcePackage, Program, headed, headed_package, block_names, import_sound}
+use Rattle.go_rules.specs.GoTypes.Collect.{env_of, types_declared, collected}
+use Rattle.go_rules.specs.GoTypes.WellTyped.{refused_unless, header_uses, is_used_in, first_import, well_typed, body_ok}
 use Rattle.typed_in_place.specs.Replaced.{same_type, TypeOptionReplaced, no_type, some_type, SameName, no_name, one_name, ParamsReplaced, no_params, in_param}
-use Rattle.go_tree.specs.GoTypes.SingleNames.{singly}
+use Rattle.go_rules.specs.GoTypes.SingleNames.{singly}
 use Rattle.typed_in_place.specs.ProgramsAlike.{OneByOne, no_more, and_more, SameHeader, AliasesStand, TypesStand, NameStands, ValuesStand, BodiesAlike, DeclareAlike}
 use Rattle.typed_in_place.specs.HeaderReplaced.{SameReceiver, no_receiver, one_receiver, HeaderIn, in_constants, in_variables, in_type_spec, in_func, AliasesReplaced, TypesReplaced, HeaderReplaced, BodyIn, in_body, no_body_of_constants, no_body_of_variables, no_body_of_a_type}
 use Rattle.typed_in_place.specs.ImportsMoved.{under_imports, Moved}

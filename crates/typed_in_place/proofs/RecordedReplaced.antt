@@ -2,14 +2,14 @@
 use Rattle.std.specs.Prelude.{◌≡◌, refl, ℕ, List, [], ◌∷◌, ◌++◌, Option, Some, None, if◌then◌else◌}
 use mathlib.Core.Path.{ap, sym, subst}
 use Rattle.go_tree.specs.Tree.{Expr, Exprs, ExprOption, Elems, Value, ValueOption, Stmt, Stmts, StmtOption, BlockOption, RangeLeft, Arms, Cases, ValueSpecs}
-use Rattle.go_tree.specs.GoTypes.Answers.{given}
-use Rattle.go_tree.specs.GoTypes.Types.{GoType}
-use Rattle.go_tree.specs.GoTypes.Defined.{under}
-use Rattle.go_tree.specs.GoTypes.Entities.{Env, defined_in, extend, in_block}
-use Rattle.go_tree.specs.GoTypes.Operands.{Operand}
-use Rattle.go_tree.specs.GoTypes.Literals.{key_type}
-use Rattle.go_tree.specs.GoTypes.Typing.{binds_of, new_variables, right_values}
-use Rattle.go_tree.specs.GoTypes.Recorded.{Record, entry, recorded, recorded_all, recorded_option, recorded_elems, recorded_key, recorded_value, recorded_stmt, recorded_stmts, recorded_first, recorded_block, recorded_range, recorded_arms, recorded_cases, recorded_constants, recorded_variables}
+use Rattle.go_rules.specs.GoTypes.Answers.{given}
+use Rattle.go_rules.specs.GoTypes.Types.{GoType}
+use Rattle.go_rules.specs.GoTypes.Defined.{under}
+use Rattle.go_rules.specs.GoTypes.Entities.{Env, defined_in, extend, in_block}
+use Rattle.go_rules.specs.GoTypes.Operands.{Operand}
+use Rattle.go_rules.specs.GoTypes.Literals.{key_type}
+use Rattle.go_rules.specs.GoTypes.Typing.{binds_of, new_variables, right_values}
+use Rattle.go_rules.specs.GoTypes.Recorded.{Record, entry, recorded, recorded_all, recorded_option, recorded_elems, recorded_key, recorded_value, recorded_stmt, recorded_stmts, recorded_first, recorded_block, recorded_range, recorded_arms, recorded_cases, recorded_constants, recorded_variables}
 use Rattle.typed_in_place.specs.Replaced.{ExprReplaced, same_operand, in_composite, in_selector, in_index, in_slice, in_call, in_func_lit, in_type_operand, in_unary, in_binary, in_star, ExprsReplaced, no_more_exprs, in_exprs, ExprOptionReplaced, no_expr_here, in_expr_option, ElemsReplaced, no_more_elems, in_elems, ValueReplaced, in_plain, in_braces, KeyReplaced, no_key, same_field, in_key, StmtReplaced, same_statement, in_const, in_var, in_eval, in_step, in_assign, in_define, in_return, in_inner, in_if, in_for, in_range, in_switch_statement, in_defer, in_label, StmtsReplaced, no_more_stmts, in_stmts, FirstReplaced, no_first, in_first, BlockReplaced, no_last, in_last, LeftReplaced, no_left, in_assigns, in_defines, ArmsReplaced, no_more_arms, in_arms, CasesReplaced, no_more_cases, in_cases, VariablesReplaced, no_more_variables, in_variables}
 use Rattle.typed_in_place.specs.RecordsAlike.{RecordsAlike, nothing_more, same_entry, of_parts, of_statements, of_constants}
 use Rattle.typed_in_place.proofs.TypingReplaced.{type_meant-in, written_type-in, literal_env-in, parts-in, all_parts-in, places-in, no_values-in, lengths, declared-in, declared_option-in, defined-in, declares-in, declares_first-in, range_declares-in}

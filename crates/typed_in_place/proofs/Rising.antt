@@ -3,19 +3,19 @@ use Rattle.std.specs.Prelude.{◌≡◌, refl, ℕ, Bool, true, false, ◌&&◌,
 use mathlib.Core.Path.{ap, sym, ◌∙◌, subst}
 use Rattle.std.proofs.Common.{arith}
 use Rattle.go_tree.specs.Tree.{NameAt, Param, Sig, TypeExpr, named, pointer, slice_type, map_type, struct_type, Fields, no_fields, field, Expr, ident, int_lit, rune_lit, str_lit, composite, selector, index, slice, call, func_lit, type_operand, unary, binary, star, Exprs, no_exprs, expr_and, ExprOption, no_expr, some_expr, Elems, no_elems, elem, Value, plain, braced, ValueOption, no_value, some_value}
-use Rattle.go_tree.specs.ScopeNames.Means.{Environment}
-use Rattle.go_tree.specs.GoTypes.Answers.{given, both, meets, only_if}
-use Rattle.go_tree.specs.GoTypes.Types.{GoType, GoFields}
-use Rattle.go_tree.specs.GoTypes.Defined.{Defined, under}
-use Rattle.go_tree.specs.GoTypes.Entities.{Entity, Place, addressable, Env, exported, package_of, type_of_name, defined_in}
-use Rattle.go_tree.specs.GoTypes.TypeNames.{named_meaning, resolved, resolved_fields, field_before, type_meant, params_meant, func_type, written_type}
-use Rattle.go_tree.specs.GoTypes.Operands.{Operand, Typed, typed, with_value, constant_of, named_operand, named_place}
-use Rattle.go_tree.specs.GoTypes.Operators.{unary_of, star_of}
-use Rattle.go_tree.specs.GoTypes.Primary.{selected, selected_place, index_of, index_place}
-use Rattle.go_tree.specs.GoTypes.Literals.{Element, of_field, keyed, is_struct, field_key, built, built_inside, key_type, inner_type, literal_type}
-use Rattle.go_tree.specs.GoTypes.Typing.{place_by, parts, all_parts, bound, elements, element, with_key, place}
-use Rattle.go_tree.specs.GoTypes.Initial.{means_maker, means_nil, is_address, is_constant, all_constant, sizes_constant, is_maker, is_composite, is_initial, initial_elems, initial_key, initial_value, all_initial}
-use Rattle.go_tree.specs.GoTypes.Bodiless.{bodiless, all_bodiless, bodiless_option, bodiless_elems, bodiless_value, bodiless_key}
+use Rattle.go_rules.specs.ScopeNames.Means.{Environment}
+use Rattle.go_rules.specs.GoTypes.Answers.{given, both, meets, only_if}
+use Rattle.go_rules.specs.GoTypes.Types.{GoType, GoFields}
+use Rattle.go_rules.specs.GoTypes.Defined.{Defined, under}
+use Rattle.go_rules.specs.GoTypes.Entities.{Entity, Place, addressable, Env, exported, package_of, type_of_name, defined_in}
+use Rattle.go_rules.specs.GoTypes.TypeNames.{named_meaning, resolved, resolved_fields, field_before, type_meant, params_meant, func_type, written_type}
+use Rattle.go_rules.specs.GoTypes.Operands.{Operand, Typed, typed, with_value, constant_of, named_operand, named_place}
+use Rattle.go_rules.specs.GoTypes.Operators.{unary_of, star_of}
+use Rattle.go_rules.specs.GoTypes.Primary.{selected, selected_place, index_of, index_place}
+use Rattle.go_rules.specs.GoTypes.Literals.{Element, of_field, keyed, is_struct, field_key, built, built_inside, key_type, inner_type, literal_type}
+use Rattle.go_rules.specs.GoTypes.Typing.{place_by, parts, all_parts, bound, elements, element, with_key, place}
+use Rattle.go_rules.specs.GoTypes.Initial.{means_maker, means_nil, is_address, is_constant, all_constant, sizes_constant, is_maker, is_composite, is_initial, initial_elems, initial_key, initial_value, all_initial}
+use Rattle.go_rules.specs.GoTypes.Bodiless.{bodiless, all_bodiless, bodiless_option, bodiless_elems, bodiless_value, bodiless_key}
 use Rattle.typed_in_place.proofs.SameUses.{from_given, from_both}
 use Rattle.typed_in_place.specs.Known.{Keeps, no_answer, kept, Clearer, as_before, refused_before, Knows, with_blocks}
 

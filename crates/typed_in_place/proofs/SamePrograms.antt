@@ -1,13 +1,13 @@
 -- Programs whose headers and single names declare the same at the end of their rounds have the same package blocks, defined types and methods.
 use Rattle.std.specs.Prelude.{◌≡◌, refl, ℕ, suc, List, [], ◌∷◌, ◌++◌, length, Option, Some, if◌then◌else◌, nat_eq}
 use mathlib.Core.Path.{ap, sym, ◌∙◌, subst}
-use Rattle.go_tree.specs.GoTypes.Answers.{given, only_if, otherwise}
-use Rattle.go_tree.specs.GoTypes.MethodDeclarations.{MethodName}
-use Rattle.go_tree.specs.GoTypes.Entities.{Entity, refused, World, Binds}
-use Rattle.go_tree.specs.GoTypes.Statements.{bind_each}
-use Rattle.go_tree.specs.GoTypes.Programs.{Headed, Program, headed}
-use Rattle.go_tree.specs.GoTypes.SingleNames.{by_names}
-use Rattle.go_tree.specs.GoTypes.Collect.{times, DeclaredTypes, declared_types, underlying, entity_binds, block_by, blocks_by, refused_world, rounds, type_round, value_round, aliased_world, types_declared, typed_world, named_world, valued_world, is_new_method, and_also, methods_from, with_methods, world_of, collected, declared_on}
+use Rattle.go_rules.specs.GoTypes.Answers.{given, only_if, otherwise}
+use Rattle.go_rules.specs.GoTypes.MethodDeclarations.{MethodName}
+use Rattle.go_rules.specs.GoTypes.Entities.{Entity, refused, World, Binds}
+use Rattle.go_rules.specs.GoTypes.Statements.{bind_each}
+use Rattle.go_rules.specs.GoTypes.Programs.{Headed, Program, headed}
+use Rattle.go_rules.specs.GoTypes.SingleNames.{by_names}
+use Rattle.go_rules.specs.GoTypes.Collect.{times, DeclaredTypes, declared_types, underlying, entity_binds, block_by, blocks_by, refused_world, rounds, type_round, value_round, aliased_world, types_declared, typed_world, named_world, valued_world, is_new_method, and_also, methods_from, with_methods, world_of, collected, declared_on}
 use Rattle.typed_in_place.specs.Known.{BlocksClearer}
 use Rattle.typed_in_place.specs.ProgramsAlike.{OneByOne, no_more, and_more, SameHeaders, AliasesAlike, DefinedAlike, GoodAlike, DeclaredAlike, MethodsAlike, SameNumbers, DeclareAlike, AliasesStand, TypesStand, NameStands, ValuesStand}
 use Rattle.typed_in_place.specs.ProgramReplaced.{ValuesEnd, after_names, after_values}

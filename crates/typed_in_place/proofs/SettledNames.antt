@@ -4,16 +4,16 @@ use mathlib.Core.Path.{ap, ap₂, sym, ◌∙◌}
 use Rattle.std.proofs.lemmas.Slice.Eq.{bytes_eq-Decides}
 use Rattle.std.proofs.Common.{arith}
 use Rattle.go_tree.specs.Tree.{NameAt, Expr, no_exprs, expr_and}
-use Rattle.go_tree.specs.ScopeNames.Means.{Environment, means, binding, is_blank}
-use Rattle.go_tree.specs.GoTypes.Answers.{given, both, only_if, otherwise, is_among}
-use Rattle.go_tree.specs.GoTypes.Entities.{Entity, constant, refused, World, Env, block_of, Binds}
-use Rattle.go_tree.specs.GoTypes.Operands.{Operand, all_typed, named_operand}
-use Rattle.go_tree.specs.GoTypes.Statements.{bind_each, bound_names, bind_all, constant_entity}
-use Rattle.go_tree.specs.GoTypes.Bodiless.{bodiless}
-use Rattle.go_tree.specs.GoTypes.Programs.{constants, Headed, header_names, Program}
-use Rattle.go_tree.specs.GoTypes.Collect.{env_of, DeclaredTypes, good_entity, declared_by, binds_or_refused, block_by, blocks_by, value_round, types_declared, named_world, valued_world, methods_from, with_methods}
-use Rattle.go_tree.specs.GoTypes.MethodDeclarations.{DeclaredMethod}
-use Rattle.go_tree.specs.GoTypes.SingleNames.{by_names}
+use Rattle.go_rules.specs.ScopeNames.Means.{Environment, means, binding, is_blank}
+use Rattle.go_rules.specs.GoTypes.Answers.{given, both, only_if, otherwise, is_among}
+use Rattle.go_rules.specs.GoTypes.Entities.{Entity, constant, refused, World, Env, block_of, Binds}
+use Rattle.go_rules.specs.GoTypes.Operands.{Operand, all_typed, named_operand}
+use Rattle.go_rules.specs.GoTypes.Statements.{bind_each, bound_names, bind_all, constant_entity}
+use Rattle.go_rules.specs.GoTypes.Bodiless.{bodiless}
+use Rattle.go_rules.specs.GoTypes.Programs.{constants, Headed, header_names, Program}
+use Rattle.go_rules.specs.GoTypes.Collect.{env_of, DeclaredTypes, good_entity, declared_by, binds_or_refused, block_by, blocks_by, value_round, types_declared, named_world, valued_world, methods_from, with_methods}
+use Rattle.go_rules.specs.GoTypes.MethodDeclarations.{DeclaredMethod}
+use Rattle.go_rules.specs.GoTypes.SingleNames.{by_names}
 use Rattle.typed_in_place.specs.Known.{BlockClearer, end_of_block, was_refused, was_known}
 use Rattle.typed_in_place.specs.Leaves.{Names, plain_name, qualified_name}
 use Rattle.typed_in_place.specs.Declared.{FirstWith, this_one, a_later_one, HasNumber, this_package, a_later_package, ConstantOrRefused, a_constant, refused_yet, RoundsEnd, after_names, after_values, at_last, NamesConstant}

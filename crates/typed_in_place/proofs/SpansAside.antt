@@ -6,21 +6,21 @@ use Rattle.go_tree.specs.Tree.{NameAt, Param, TypeExpr, Expr, ident, int_lit, ru
 use Rattle.go_tree.specs.File.{Receiver}
 use Rattle.go_tree.specs.Bare.{bare_name, bare_type, bare_param, bare_expr, bare_exprs, bare_expr_option, bare_elems, bare_value, bare_value_option, bare_stmt, bare_stmts}
 use Rattle.go_tree.specs.FileBare.{bare_receiver}
-use Rattle.go_tree.proofs.ScopeNames.FreeNamesBare.{names_of-bare, declared-bare, free_type-bare}
-use Rattle.go_tree.specs.GoTypes.Answers.{given, meets}
-use Rattle.go_tree.specs.GoTypes.Types.{GoType}
-use Rattle.go_tree.specs.GoTypes.Defined.{under}
-use Rattle.go_tree.specs.GoTypes.Entities.{Env, World, defined_in}
-use Rattle.go_tree.specs.GoTypes.TypeNames.{resolved, type_meant}
-use Rattle.go_tree.specs.GoTypes.Operands.{typed, constant_of}
-use Rattle.go_tree.specs.GoTypes.Literals.{is_struct, key_type, inner_type, literal_type}
-use Rattle.go_tree.specs.GoTypes.Primary.{stands_alone, may_be_deferred}
-use Rattle.go_tree.specs.GoTypes.Initial.{is_address, is_constant, all_constant, sizes_constant, is_maker, is_composite, is_initial, initial_elems, initial_key, initial_value}
-use Rattle.go_tree.specs.GoTypes.Bodiless.{bodiless, all_bodiless, bodiless_option, bodiless_elems, bodiless_value, bodiless_key}
-use Rattle.go_tree.specs.GoTypes.Programs.{Header, constants, variables, a_type_spec, a_func, Headed}
-use Rattle.go_tree.specs.GoTypes.Collect.{env_of}
-use Rattle.go_tree.specs.GoTypes.WellTyped.{body_ok}
-use Rattle.go_tree.proofs.GoTypes.TypingBare.{resolved-bare, type_meant-bare, parts-bare, place-bare, used-bare, used_left-bare, package_before-bare, is_blank_name-bare, is_call-bare, is_panic-bare, stmt-bare, declares-bare, used_stmt-bare, breaks-bare, labels-bare, is_loop-bare, is_breakable-bare, is_empty_stmt-bare, is_define-bare}
+use Rattle.go_rules.proofs.ScopeNames.FreeNamesBare.{names_of-bare, declared-bare, free_type-bare}
+use Rattle.go_rules.specs.GoTypes.Answers.{given, meets}
+use Rattle.go_rules.specs.GoTypes.Types.{GoType}
+use Rattle.go_rules.specs.GoTypes.Defined.{under}
+use Rattle.go_rules.specs.GoTypes.Entities.{Env, World, defined_in}
+use Rattle.go_rules.specs.GoTypes.TypeNames.{resolved, type_meant}
+use Rattle.go_rules.specs.GoTypes.Operands.{typed, constant_of}
+use Rattle.go_rules.specs.GoTypes.Literals.{is_struct, key_type, inner_type, literal_type}
+use Rattle.go_rules.specs.GoTypes.Primary.{stands_alone, may_be_deferred}
+use Rattle.go_rules.specs.GoTypes.Initial.{is_address, is_constant, all_constant, sizes_constant, is_maker, is_composite, is_initial, initial_elems, initial_key, initial_value}
+use Rattle.go_rules.specs.GoTypes.Bodiless.{bodiless, all_bodiless, bodiless_option, bodiless_elems, bodiless_value, bodiless_key}
+use Rattle.go_rules.specs.GoTypes.Programs.{Header, constants, variables, a_type_spec, a_func, Headed}
+use Rattle.go_rules.specs.GoTypes.Collect.{env_of}
+use Rattle.go_rules.specs.GoTypes.WellTyped.{body_ok}
+use Rattle.go_rules.proofs.GoTypes.TypingBare.{resolved-bare, type_meant-bare, parts-bare, place-bare, used-bare, used_left-bare, package_before-bare, is_blank_name-bare, is_call-bare, is_panic-bare, stmt-bare, declares-bare, used_stmt-bare, breaks-bare, labels-bare, is_loop-bare, is_breakable-bare, is_empty_stmt-bare, is_define-bare}
 use Rattle.typed_in_place.specs.SameFacts.{SameType, SameOperand, SameStatement, calls_panic}
 use Rattle.typed_in_place.specs.Replaced.{same_type, TypeOptionReplaced, no_type, some_type, SameName, no_name, one_name, ParamsReplaced, no_params, in_param, ExprsReplaced, same_operand, no_more_exprs, in_exprs, StmtsReplaced, same_statement, no_more_stmts, in_stmts}
 use Rattle.typed_in_place.specs.ProgramsAlike.{AliasesStand, TypesStand, NameStands, ValuesStand}

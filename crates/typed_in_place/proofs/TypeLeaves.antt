@@ -2,19 +2,19 @@
 use Rattle.std.specs.Prelude.{◌≡◌, refl, ℕ, false, ◌||◌, List, [], ◌∷◌, ◌++◌, Option, Some, None, is_some}
 use mathlib.Core.Path.{ap, ap₂, sym, ◌∙◌}
 use Rattle.go_tree.specs.Tree.{NameAt, TypeExpr, named, Expr, no_exprs, expr_and}
-use Rattle.go_tree.specs.ScopeNames.Means.{is_blank}
-use Rattle.go_tree.specs.ScopeNames.FreeNames.{free_type, named_use}
-use Rattle.go_tree.specs.GoTypes.Answers.{given, meets, only_if, is_among}
-use Rattle.go_tree.specs.GoTypes.Types.{GoType}
-use Rattle.go_tree.specs.GoTypes.Defined.{has_keys}
-use Rattle.go_tree.specs.GoTypes.Entities.{Entity, elsewhere, addressable, type_name, Env, package_of, defined_in}
-use Rattle.go_tree.specs.GoTypes.TypeNames.{resolved, named_meaning}
-use Rattle.go_tree.specs.GoTypes.Operands.{a_type, typed, constant_of, named_operand, named_place}
-use Rattle.go_tree.specs.GoTypes.Operators.{star_of}
-use Rattle.go_tree.specs.GoTypes.Primary.{stands_alone, may_be_deferred}
-use Rattle.go_tree.specs.GoTypes.Statements.{means_panic, is_blank_name, is_panic}
-use Rattle.go_tree.specs.GoTypes.Typing.{parts, place, place_by, used, used_left, package_before, is_call}
-use Rattle.go_tree.specs.GoTypes.Initial.{is_constant, is_initial, is_composite, is_maker, means_nil, means_maker}
+use Rattle.go_rules.specs.ScopeNames.Means.{is_blank}
+use Rattle.go_rules.specs.ScopeNames.FreeNames.{free_type, named_use}
+use Rattle.go_rules.specs.GoTypes.Answers.{given, meets, only_if, is_among}
+use Rattle.go_rules.specs.GoTypes.Types.{GoType}
+use Rattle.go_rules.specs.GoTypes.Defined.{has_keys}
+use Rattle.go_rules.specs.GoTypes.Entities.{Entity, elsewhere, addressable, type_name, Env, package_of, defined_in}
+use Rattle.go_rules.specs.GoTypes.TypeNames.{resolved, named_meaning}
+use Rattle.go_rules.specs.GoTypes.Operands.{a_type, typed, constant_of, named_operand, named_place}
+use Rattle.go_rules.specs.GoTypes.Operators.{star_of}
+use Rattle.go_rules.specs.GoTypes.Primary.{stands_alone, may_be_deferred}
+use Rattle.go_rules.specs.GoTypes.Statements.{means_panic, is_blank_name, is_panic}
+use Rattle.go_rules.specs.GoTypes.Typing.{parts, place, place_by, used, used_left, package_before, is_call}
+use Rattle.go_rules.specs.GoTypes.Initial.{is_constant, is_initial, is_composite, is_maker, means_nil, means_maker}
 pub use Rattle.typed_in_place.specs.SameFacts.{NoneAround}
 use Rattle.typed_in_place.specs.SameFacts.{UsedAlike, SameType, SameOperand, calls_panic}
 use Rattle.typed_in_place.specs.Leaves.{Names, plain_name, qualified_name, NamesType, type_by_name, type_by_text, type_by_star}

@@ -4,20 +4,20 @@ use Rattle.std.specs.List.{list_all}
 use mathlib.Core.Path.{ap, ap₂, sym, ◌∙◌, subst}
 use Rattle.go_tree.specs.declared.exprs.Rest.{Rest}
 use Rattle.go_tree.specs.Tree.{NameAt, Param, Sig, TypeExpr, Fields, Expr, ident, int_lit, rune_lit, str_lit, call, Exprs, no_exprs, expr_and, ExprOption, Elems, Value, ValueOption, Stmt, Stmts, StmtOption, BlockOption, RangeLeft, Arms, Cases, ValueSpecs}
-use Rattle.go_tree.specs.ScopeNames.FreeNames.{names_of, name_then, params_names, sig_names, specs_names, declared, declared_option, defined, free_type, free_fields, free_type_option, free_params}
-use Rattle.go_tree.specs.ScopeNames.Means.{is_blank}
-use Rattle.go_tree.specs.GoTypes.Answers.{is_among, given, both, meets, only_if, is_empty, distinct_by, without}
-use Rattle.go_tree.specs.GoTypes.Types.{GoType, GoFields, go_field, field_names, pointer_to, slice_of, map_of, struct_of, FuncType}
-use Rattle.go_tree.specs.GoTypes.Defined.{Defined, under, comparable, has_keys, fields_have_keys}
-use Rattle.go_tree.specs.GoTypes.Entities.{refused, addressable, Env, exported, defined_in, Binds, extend, in_block}
-use Rattle.go_tree.specs.GoTypes.TypeNames.{resolved, resolved_fields, field_package, field_before, params_meant, type_meant, func_type, written_type}
-use Rattle.go_tree.specs.GoTypes.Operands.{Operand, a_type, a_function, Typed, typed, all_typed, with_value, named_operand, named_place, takes_all, spread}
-use Rattle.go_tree.specs.GoTypes.Operators.{unary_of, binary_of, star_of}
-use Rattle.go_tree.specs.GoTypes.Primary.{selected, selected_place, index_of, index_place, sliced, call_of, stands_alone, may_be_deferred}
-use Rattle.go_tree.specs.GoTypes.Literals.{of_field, keyed, is_struct, built, built_inside, key_type, inner_type, literal_type}
-use Rattle.go_tree.specs.GoTypes.Jumps.{breaks, breaks_in, breaks_arms, breaks_block, breaks_cases, labels, labels_in, labels_arms, labels_block, labels_cases, is_loop, is_breakable}
-use Rattle.go_tree.specs.GoTypes.Statements.{bound_names, Declared, blank, target_at, stores_all, updates, is_condition, bind_each, range_assigns, case_value, case_constants, Ctx, in_loop, in_switch, param_binding, param_binds, body_binds, has_names, body_ctx, is_blank_name, is_panic, no_values, is_absent, is_define, is_empty_stmt, has_last}
-use Rattle.go_tree.specs.GoTypes.Typing.{and_then, unused_after, one_more, step_op, binds_or, binds_of, beyond, new_constants, right_values, new_variables, new_by_define, new_by_range, Repeated, all_used, is_test, tag_of, choice, place_by, package_before, is_default, literal_env, labelled, parts, all_parts, bound, elements, element, with_key, place, places, used, used_all, used_option, used_elems, used_key, used_value, used_left, used_stmt, used_stmts, used_first, used_block, used_range, used_arms, used_cases, used_constants, used_variables, declares, declares_first, declares_constants, declares_variables, range_declares, targets, stmt, stmts, first, block, is_call, ranges, arms, clauses}
+use Rattle.go_rules.specs.ScopeNames.FreeNames.{names_of, name_then, params_names, sig_names, specs_names, declared, declared_option, defined, free_type, free_fields, free_type_option, free_params}
+use Rattle.go_rules.specs.ScopeNames.Means.{is_blank}
+use Rattle.go_rules.specs.GoTypes.Answers.{is_among, given, both, meets, only_if, is_empty, distinct_by, without}
+use Rattle.go_rules.specs.GoTypes.Types.{GoType, GoFields, go_field, field_names, pointer_to, slice_of, map_of, struct_of, FuncType}
+use Rattle.go_rules.specs.GoTypes.Defined.{Defined, under, comparable, has_keys, fields_have_keys}
+use Rattle.go_rules.specs.GoTypes.Entities.{refused, addressable, Env, exported, defined_in, Binds, extend, in_block}
+use Rattle.go_rules.specs.GoTypes.TypeNames.{resolved, resolved_fields, field_package, field_before, params_meant, type_meant, func_type, written_type}
+use Rattle.go_rules.specs.GoTypes.Operands.{Operand, a_type, a_function, Typed, typed, all_typed, with_value, named_operand, named_place, takes_all, spread}
+use Rattle.go_rules.specs.GoTypes.Operators.{unary_of, binary_of, star_of}
+use Rattle.go_rules.specs.GoTypes.Primary.{selected, selected_place, index_of, index_place, sliced, call_of, stands_alone, may_be_deferred}
+use Rattle.go_rules.specs.GoTypes.Literals.{of_field, keyed, is_struct, built, built_inside, key_type, inner_type, literal_type}
+use Rattle.go_rules.specs.GoTypes.Jumps.{breaks, breaks_in, breaks_arms, breaks_block, breaks_cases, labels, labels_in, labels_arms, labels_block, labels_cases, is_loop, is_breakable}
+use Rattle.go_rules.specs.GoTypes.Statements.{bound_names, Declared, blank, target_at, stores_all, updates, is_condition, bind_each, range_assigns, case_value, case_constants, Ctx, in_loop, in_switch, param_binding, param_binds, body_binds, has_names, body_ctx, is_blank_name, is_panic, no_values, is_absent, is_define, is_empty_stmt, has_last}
+use Rattle.go_rules.specs.GoTypes.Typing.{and_then, unused_after, one_more, step_op, binds_or, binds_of, beyond, new_constants, right_values, new_variables, new_by_define, new_by_range, Repeated, all_used, is_test, tag_of, choice, place_by, package_before, is_default, literal_env, labelled, parts, all_parts, bound, elements, element, with_key, place, places, used, used_all, used_option, used_elems, used_key, used_value, used_left, used_stmt, used_stmts, used_first, used_block, used_range, used_arms, used_cases, used_constants, used_variables, declares, declares_first, declares_constants, declares_variables, range_declares, targets, stmt, stmts, first, block, is_call, ranges, arms, clauses}
 use Rattle.typed_in_place.specs.SameFacts.{UsedAlike, calls_panic}
 use Rattle.typed_in_place.specs.Replaced.{own_or_repeated, TypeReplaced, same_type, in_pointer, in_slice_type, in_map_type, in_struct_type, FieldsReplaced, no_more_fields, in_field, TypeOptionReplaced, no_type, some_type, SameName, no_name, one_name, ParamsReplaced, no_params, in_param, SigReplaced, ExprReplaced, same_operand, in_composite, in_selector, in_index, in_slice, in_call, in_func_lit, in_type_operand, in_unary, in_binary, in_star, ExprsReplaced, no_more_exprs, in_exprs, ExprOptionReplaced, no_expr_here, in_expr_option, ElemsReplaced, no_more_elems, in_elems, ValueReplaced, in_plain, in_braces, KeyReplaced, no_key, same_field, in_key, StmtReplaced, same_statement, in_const, in_var, in_eval, in_step, in_assign, in_define, in_return, in_inner, in_if, in_for, in_range, in_switch_statement, in_defer, in_label, StmtsReplaced, no_more_stmts, in_stmts, FirstReplaced, no_first, in_first, BlockReplaced, no_last, in_last, LeftReplaced, no_left, in_assigns, in_defines, ArmsReplaced, no_more_arms, in_arms, CasesReplaced, no_more_cases, in_cases, ConstantsReplaced, no_more_constants, in_constants, VariablesReplaced, no_more_variables, in_variables}
 use Rattle.typed_in_place.proofs.SameUses.{same_uses, alike_then, then_alike, append_alike, nothing_alike, without_alike, fewer_around, beyond_alike, all_used_alike, unused_alike, Within, used_within, new_variables_fresh, declares_fresh, first_declares_fresh, range_declares_fresh, first_declares}
@@ -222,7 +222,7 @@ module _ {S T : Type 0} where
 
   param_binding-in : {o : Option (NameAt S)} {p : Option (NameAt T)} → SameName o p → (t : GoType) → param_binding o t ≡ param_binding p t
   param_binding-in no_name t = refl
-  param_binding-in (one_name n) t = λ w. Rattle.go_tree.specs.ScopeNames.Means.binding (n w) (Rattle.go_tree.specs.GoTypes.Entities.variable t)
+  param_binding-in (one_name n) t = λ w. Rattle.go_rules.specs.ScopeNames.Means.binding (n w) (Rattle.go_rules.specs.GoTypes.Entities.variable t)
 
   param_binds-in : {around : List (List ℕ)} {env : Env} {ps : List (Param S)} {qs : List (Param T)} → ParamsReplaced around env ps qs → (ts : List GoType) → param_binds ps ts ≡ param_binds qs ts
   param_binds-in no_params ts = refl

@@ -2,12 +2,12 @@
 use Rattle.std.specs.Prelude.{◌≡◌, refl, ℕ, Bool, true, false, ◌&&◌, ◌||◌, List, [], ◌∷◌, ◌++◌, Option, Some, None, nat_eq}
 use mathlib.Core.Path.{ap, ap₂, ◌∙◌}
 use Rattle.std.proofs.lemmas.Slice.Eq.{bytes_eq-Decides}
-use Rattle.go_tree.specs.ScopeNames.FreeNames.{sig_names, free_type, free_type_option}
-use Rattle.go_tree.specs.GoTypes.Answers.{is_among, without}
-use Rattle.go_tree.specs.GoTypes.Entities.{World}
-use Rattle.go_tree.specs.GoTypes.Typing.{used_all, used_stmts}
-use Rattle.go_tree.specs.GoTypes.Programs.{Header, constants, variables, a_type_spec, a_func, Headed, file_env, env_of}
-use Rattle.go_tree.specs.GoTypes.WellTyped.{receiver_names, function_uses, header_uses, is_used_in}
+use Rattle.go_rules.specs.ScopeNames.FreeNames.{sig_names, free_type, free_type_option}
+use Rattle.go_rules.specs.GoTypes.Answers.{is_among, without}
+use Rattle.go_rules.specs.GoTypes.Entities.{World}
+use Rattle.go_rules.specs.GoTypes.Typing.{used_all, used_stmts}
+use Rattle.go_rules.specs.GoTypes.Programs.{Header, constants, variables, a_type_spec, a_func, Headed, file_env, env_of}
+use Rattle.go_rules.specs.GoTypes.WellTyped.{receiver_names, function_uses, header_uses, is_used_in}
 use Rattle.typed_in_place.specs.SameFacts.{UsedAlike}
 use Rattle.typed_in_place.specs.ProgramsAlike.{OneByOne, no_more, and_more}
 use Rattle.typed_in_place.specs.UsesKept.{UsesIn, uses_of_constants, uses_of_variables, uses_of_type, uses_of_func, UsesReplaced, UsesAsBefore}

@@ -1,12 +1,12 @@
 -- What is refused of headers and bodies that are typed alike.
-use Rattle.go_tree.specs.GoTypes.MethodDeclarations.{MethodName}
+use Rattle.go_rules.specs.GoTypes.MethodDeclarations.{MethodName}
 use Rattle.std.specs.Prelude.{◌||◌, ◌≡◌, refl, ℕ, Bool, true, false, not, ◌&&◌, List, Option, Some, None, if◌then◌else◌, nat_eq, is_none, is_some}
 use mathlib.Core.Path.{ap₂, sym, ◌∙◌}
-use Rattle.go_tree.specs.GoTypes.Answers.{meets, one_of}
-use Rattle.go_tree.specs.GoTypes.Entities.{World}
-use Rattle.go_tree.specs.GoTypes.Programs.{Headed, Program}
-use Rattle.go_tree.specs.GoTypes.Collect.{DeclaredTypes, declared_by, is_new_method, and_also, declared_on}
-use Rattle.go_tree.specs.GoTypes.WellTyped.{NotTyped, refused_unless, header_ok, first_header, first_body, refused_place, well_typed}
+use Rattle.go_rules.specs.GoTypes.Answers.{meets, one_of}
+use Rattle.go_rules.specs.GoTypes.Entities.{World}
+use Rattle.go_rules.specs.GoTypes.Programs.{Headed, Program}
+use Rattle.go_rules.specs.GoTypes.Collect.{DeclaredTypes, declared_by, is_new_method, and_also, declared_on}
+use Rattle.go_rules.specs.GoTypes.WellTyped.{NotTyped, refused_unless, header_ok, first_header, first_body, refused_place, well_typed}
 use Rattle.typed_in_place.specs.ProgramsAlike.{no_more, and_more, SameHeader, SameHeaders, DeclaredAlike, SameMethod, MethodsAlike, BodiesAlike}
 
 pub none_one_of : {A : Type 0} (p q : Option A) → is_none (one_of p q) ≡ (is_none p && is_none q)

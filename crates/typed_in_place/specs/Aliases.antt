@@ -4,11 +4,11 @@ use Rattle.std.specs.Prelude.{◌≡◌, true, false, List, Option, Some, None, 
 use Rattle.go_tree.specs.Tree.{NameAt, TypeExpr, named, pointer, slice_type, map_type, struct_type, Fields, no_fields}
 use Rattle.go_tree.specs.Tree.{field, Expr, ident, selector, type_operand, star}
 use Rattle.go_tree.specs.File.{TypeSpec}
-use Rattle.go_tree.specs.ScopeNames.Means.{is_blank}
-use Rattle.go_tree.specs.GoTypes.Entities.{World, Env}
-use Rattle.go_tree.specs.GoTypes.TypeNames.{named_meaning, field_package}
-use Rattle.go_tree.specs.GoTypes.Programs.{a_type_spec, Headed, Program}
-use Rattle.go_tree.specs.GoTypes.Collect.{typed_world, named_world, valued_world, world_of}
+use Rattle.go_rules.specs.ScopeNames.Means.{is_blank}
+use Rattle.go_rules.specs.GoTypes.Entities.{World, Env}
+use Rattle.go_rules.specs.GoTypes.TypeNames.{named_meaning, field_package}
+use Rattle.go_rules.specs.GoTypes.Programs.{a_type_spec, Headed, Program}
+use Rattle.go_rules.specs.GoTypes.Collect.{typed_world, named_world, valued_world, world_of}
 use Rattle.typed_in_place.specs.Declared.{FirstWith, HasNumber}
 
 module _ {S T : Type 0} (a b : Env) where

@@ -3,7 +3,7 @@ use Rattle.std.specs.Prelude.{map}
 use Rattle.std.specs.Option.{option_map}
 use Rattle.go_tree.specs.Bare.{bare_name, bare_type, bare_exprs}
 use Rattle.go_tree.specs.FileBare.{bare_type_spec, bare_func}
-use Rattle.go_tree.specs.GoTypes.Programs.{Header, constants, variables, a_type_spec, a_func, Headed}
+use Rattle.go_rules.specs.GoTypes.Programs.{Header, constants, variables, a_type_spec, a_func, Headed}
 
 module _ {S : Type 0} where
   -- a header without its spans

@@ -2,15 +2,15 @@
 -- Uniqueness of identifiers).
 use Rattle.std.specs.Prelude.{◌≡◌, ℕ, true, false, ◌&&◌, List, [], ◌∷◌, Option, Some, None, nat_eq}
 use Rattle.go_tree.specs.Tree.{NameAt, Expr, no_exprs, expr_and}
-use Rattle.go_tree.specs.ScopeNames.Means.{is_blank}
-use Rattle.go_tree.specs.GoTypes.Answers.{is_among}
-use Rattle.go_tree.specs.GoTypes.Bodiless.{bodiless}
-use Rattle.go_tree.specs.GoTypes.Collect.{env_of, named_world, valued_world, world_of}
+use Rattle.go_rules.specs.ScopeNames.Means.{is_blank}
+use Rattle.go_rules.specs.GoTypes.Answers.{is_among}
+use Rattle.go_rules.specs.GoTypes.Bodiless.{bodiless}
+use Rattle.go_rules.specs.GoTypes.Collect.{env_of, named_world, valued_world, world_of}
 use Rattle.typed_in_place.specs.Leaves.{Names}
-use Rattle.go_tree.specs.GoTypes.Types.{GoType}
-use Rattle.go_tree.specs.declared.const_eval.consts.Const.{Const}
-use Rattle.go_tree.specs.GoTypes.Entities.{Entity, constant, refused, World}
-use Rattle.go_tree.specs.GoTypes.Programs.{constants, Headed, header_names, SourcePackage, Program}
+use Rattle.go_rules.specs.GoTypes.Types.{GoType}
+use Rattle.go_rules.specs.declared.const_eval.consts.Const.{Const}
+use Rattle.go_rules.specs.GoTypes.Entities.{Entity, constant, refused, World}
+use Rattle.go_rules.specs.GoTypes.Programs.{constants, Headed, header_names, SourcePackage, Program}
 
 module _ {S : Type 0} where
   -- the header is the first of its package that has the name

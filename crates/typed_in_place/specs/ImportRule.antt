@@ -2,12 +2,12 @@
 -- scope): names that are declared once, and each used in its file.
 use Rattle.std.specs.Prelude.{◌≡◌, ℕ, suc, Bool, true, ◌&&◌, ◌||◌, List, [], ◌∷◌, map, is_none}
 use Rattle.std.specs.List.{list_all}
-use Rattle.go_tree.specs.ScopeNames.Means.{is_blank}
-use Rattle.go_tree.specs.GoTypes.Entities.{World}
-use Rattle.go_tree.specs.GoTypes.Programs.{Import, SourceFile, SourcePackage, Program, Headed, headed, block_names}
-use Rattle.go_tree.specs.GoTypes.Programs.{import_sound}
-use Rattle.go_tree.specs.GoTypes.Collect.{DeclaredTypes, types_declared, collected}
-use Rattle.go_tree.specs.GoTypes.WellTyped.{is_used_in, first_import, first_header, first_body, lacks_main}
+use Rattle.go_rules.specs.ScopeNames.Means.{is_blank}
+use Rattle.go_rules.specs.GoTypes.Entities.{World}
+use Rattle.go_rules.specs.GoTypes.Programs.{Import, SourceFile, SourcePackage, Program, Headed, headed, block_names}
+use Rattle.go_rules.specs.GoTypes.Programs.{import_sound}
+use Rattle.go_rules.specs.GoTypes.Collect.{DeclaredTypes, types_declared, collected}
+use Rattle.go_rules.specs.GoTypes.WellTyped.{is_used_in, first_import, first_header, first_body, lacks_main}
 use Rattle.typed_in_place.specs.ProgramsAlike.{OneByOne, DeclareAlike, DeclaredAlike, MethodsAlike, BodiesAlike}
 
 module _ {S : Type 0} where

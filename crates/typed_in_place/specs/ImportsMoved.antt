@@ -3,13 +3,13 @@
 use Rattle.std.specs.Prelude.{◌≡◌, ℕ, true, List, [], ◌++◌, Option, Some, None}
 use Rattle.go_tree.specs.Tree.{NameAt, TypeExpr, Exprs}
 use Rattle.go_tree.specs.File.{TypeSpec, Receiver, Func}
-use Rattle.go_tree.specs.ScopeNames.Means.{Environment, is_blank}
-use Rattle.go_tree.specs.ScopeNames.FreeNames.{free_type, free_type_option, free_params, free_exprs, free_stmts}
-use Rattle.go_tree.specs.GoTypes.Entities.{Entity, universe, World, Env, block_of}
-use Rattle.go_tree.specs.GoTypes.Programs.{Header, constants, variables, a_type_spec, a_func, Headed}
-use Rattle.go_tree.specs.GoTypes.Collect.{env_of}
-use Rattle.go_tree.specs.GoTypes.WellTyped.{body_env}
-use Rattle.go_tree.specs.GoTypes.Agreement.{Same, On}
+use Rattle.go_rules.specs.ScopeNames.Means.{Environment, is_blank}
+use Rattle.go_rules.specs.ScopeNames.FreeNames.{free_type, free_type_option, free_params, free_exprs, free_stmts}
+use Rattle.go_rules.specs.GoTypes.Entities.{Entity, universe, World, Env, block_of}
+use Rattle.go_rules.specs.GoTypes.Programs.{Header, constants, variables, a_type_spec, a_func, Headed}
+use Rattle.go_rules.specs.GoTypes.Collect.{env_of}
+use Rattle.go_rules.specs.GoTypes.WellTyped.{body_env}
+use Rattle.go_rules.specs.GoTypes.Agreement.{Same, On}
 
 module _ {S : Type 0} where
   -- the same header under other imports

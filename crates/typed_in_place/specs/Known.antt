@@ -1,8 +1,8 @@
 -- How much is known of what names mean while the package blocks are found in rounds (Go specification, Declarations and
 -- scope; Package initialization): a declared name is refused until what it is declared as is known.
 use Rattle.std.specs.Prelude.{◌≡◌, ℕ, List, [], ◌∷◌, Option, Some, None}
-use Rattle.go_tree.specs.ScopeNames.Means.{Environment}
-use Rattle.go_tree.specs.GoTypes.Entities.{Entity, refused, Env, meaning, exported}
+use Rattle.go_rules.specs.ScopeNames.Means.{Environment}
+use Rattle.go_rules.specs.GoTypes.Entities.{Entity, refused, Env, meaning, exported}
 
 -- an answer that is kept: where there is one, the later answer is the same
 pub data Keeps {A : Type 0} : Option A → Option A → Type 0 where

@@ -6,24 +6,24 @@ use Rattle.go_tree.specs.declared.spans.Span.{Span}
 use Rattle.go_tree.specs.Tree.{NameAt, TypeExpr, Expr, func_lit, Exprs, Stmt, Stmts}
 use Rattle.go_tree.specs.File.{TypeSpec, Func}
 use Rattle.go_tree.specs.Bare.{bare_expr, bare_stmt}
-use Rattle.go_tree.specs.ScopeNames.Means.{Environment, means, is_blank}
-use Rattle.go_tree.specs.ScopeNames.FreeNames.{names_of, free_type, free_expr, named_use}
-use Rattle.go_tree.specs.GoTypes.Answers.{given, both, only_if, is_among}
-use Rattle.go_tree.specs.GoTypes.Types.{GoType, FuncType}
-use Rattle.go_tree.specs.GoTypes.Entities.{Entity, variable, function, type_of_name, World, Env, block_of, defined_in}
-use Rattle.go_tree.specs.GoTypes.Entities.{Binds}
-use Rattle.go_tree.specs.GoTypes.TypeNames.{named_meaning, type_meant, func_type, written_type}
-use Rattle.go_tree.specs.GoTypes.Operands.{a_function, all_typed}
-use Rattle.go_tree.specs.GoTypes.Declarations.{bind_all, bind_each, constant_entity, variable_entity}
-use Rattle.go_tree.specs.GoTypes.Bodies.{Ctx, body_binds, no_values}
-use Rattle.go_tree.specs.GoTypes.Typing.{parts, all_parts, place, declares, stmt, stmts, used, used_stmts}
-use Rattle.go_tree.specs.GoTypes.Initial.{all_initial}
-use Rattle.go_tree.specs.GoTypes.Programs.{Import, Headed, Program, headed, is_init, env_of}
-use Rattle.go_tree.specs.GoTypes.Collect.{alias_round, type_round, value_round, refused_world, aliased_world}
-use Rattle.go_tree.specs.GoTypes.Collect.{types_declared, typed_world, name_round, named_world, valued_world, collected}
-use Rattle.go_tree.specs.GoTypes.Collect.{package_constants, package_variables}
-use Rattle.go_tree.specs.GoTypes.WellTyped.{function_ok, first_import, is_used_in, well_typed, body_ok}
-use Rattle.go_tree.specs.GoTypes.Agreement.{Same, On}
+use Rattle.go_rules.specs.ScopeNames.Means.{Environment, means, is_blank}
+use Rattle.go_rules.specs.ScopeNames.FreeNames.{names_of, free_type, free_expr, named_use}
+use Rattle.go_rules.specs.GoTypes.Answers.{given, both, only_if, is_among}
+use Rattle.go_rules.specs.GoTypes.Types.{GoType, FuncType}
+use Rattle.go_rules.specs.GoTypes.Entities.{Entity, variable, function, type_of_name, World, Env, block_of, defined_in}
+use Rattle.go_rules.specs.GoTypes.Entities.{Binds}
+use Rattle.go_rules.specs.GoTypes.TypeNames.{named_meaning, type_meant, func_type, written_type}
+use Rattle.go_rules.specs.GoTypes.Operands.{a_function, all_typed}
+use Rattle.go_rules.specs.GoTypes.Declarations.{bind_all, bind_each, constant_entity, variable_entity}
+use Rattle.go_rules.specs.GoTypes.Bodies.{Ctx, body_binds, no_values}
+use Rattle.go_rules.specs.GoTypes.Typing.{parts, all_parts, place, declares, stmt, stmts, used, used_stmts}
+use Rattle.go_rules.specs.GoTypes.Initial.{all_initial}
+use Rattle.go_rules.specs.GoTypes.Programs.{Import, Headed, Program, headed, is_init, env_of}
+use Rattle.go_rules.specs.GoTypes.Collect.{alias_round, type_round, value_round, refused_world, aliased_world}
+use Rattle.go_rules.specs.GoTypes.Collect.{types_declared, typed_world, name_round, named_world, valued_world, collected}
+use Rattle.go_rules.specs.GoTypes.Collect.{package_constants, package_variables}
+use Rattle.go_rules.specs.GoTypes.WellTyped.{function_ok, first_import, is_used_in, well_typed, body_ok}
+use Rattle.go_rules.specs.GoTypes.Agreement.{Same, On}
 use Rattle.typed_in_place.specs.SameFacts.{UsedAlike, NoneAround, SameType, SameOperand, SameStatement}
 use Rattle.typed_in_place.specs.Replaced.{ExprReplaced, StmtReplaced, StmtsReplaced}
 use Rattle.typed_in_place.specs.Leaves.{Names}

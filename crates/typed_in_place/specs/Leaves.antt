@@ -2,10 +2,10 @@
 -- identifiers): what a name means where it stands, qualified by the name of a package or not.
 use Rattle.std.specs.Prelude.{◌≡◌, ℕ, false, List, Option, Some}
 use Rattle.go_tree.specs.Tree.{NameAt, TypeExpr, Expr, ident, selector, type_operand, star}
-use Rattle.go_tree.specs.ScopeNames.Means.{is_blank}
-use Rattle.go_tree.specs.GoTypes.Types.{GoType, pointer_to}
-use Rattle.go_tree.specs.GoTypes.TypeNames.{type_meant}
-use Rattle.go_tree.specs.GoTypes.Entities.{Entity, type_name, Env, meaning, exported, package_of}
+use Rattle.go_rules.specs.ScopeNames.Means.{is_blank}
+use Rattle.go_rules.specs.GoTypes.Types.{GoType, pointer_to}
+use Rattle.go_rules.specs.GoTypes.TypeNames.{type_meant}
+use Rattle.go_rules.specs.GoTypes.Entities.{Entity, type_name, Env, meaning, exported, package_of}
 
 -- an expression that is a name, what it means, and the name that is looked up around it
 pub data Names {S : Type 0} (env : Env) : Expr S → Option Entity → List ℕ → Type 0 where

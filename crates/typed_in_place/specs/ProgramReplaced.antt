@@ -1,9 +1,9 @@
 -- A program with parts in the place of others, and the packages that are given besides (Go specification, Packages;
 -- Import declarations).
 use Rattle.std.specs.Prelude.{◌≡◌, false, List, [], ◌∷◌, ◌++◌, nat_eq}
-use Rattle.go_tree.specs.GoTypes.Entities.{World}
-use Rattle.go_tree.specs.GoTypes.Programs.{Headed, SourcePackage, Program, headed}
-use Rattle.go_tree.specs.GoTypes.Collect.{aliased_world, typed_world, named_world, valued_world, collected}
+use Rattle.go_rules.specs.GoTypes.Entities.{World}
+use Rattle.go_rules.specs.GoTypes.Programs.{Headed, SourcePackage, Program, headed}
+use Rattle.go_rules.specs.GoTypes.Collect.{aliased_world, typed_world, named_world, valued_world, collected}
 use Rattle.typed_in_place.specs.ProgramsAlike.{OneByOne, AliasesStand, TypesStand, ValuesStand, BodiesAlike}
 use Rattle.typed_in_place.specs.ImportRule.{SamePackage}
 

@@ -1,13 +1,13 @@
 -- When two programs declare the same (Go specification, Declarations and scope; Packages): their headers stand one by
 -- one for one another, and declare the same where the rounds of each program end.
 use Rattle.std.specs.Prelude.{◌≡◌, List, [], ◌∷◌}
-use Rattle.go_tree.specs.GoTypes.Entities.{World}
-use Rattle.go_tree.specs.GoTypes.Programs.{Headed, header_names, Program, headed}
-use Rattle.go_tree.specs.GoTypes.Collect.{DeclaredTypes, alias_entity, type_declared, good_entity, declared_by}
-use Rattle.go_tree.specs.GoTypes.Collect.{declared_on, method_header, aliased_world, types_declared, typed_world}
-use Rattle.go_tree.specs.GoTypes.Collect.{named_world, valued_world}
-use Rattle.go_tree.specs.GoTypes.SingleNames.{singly, by_names}
-use Rattle.go_tree.specs.GoTypes.WellTyped.{is_method, body_ok}
+use Rattle.go_rules.specs.GoTypes.Entities.{World}
+use Rattle.go_rules.specs.GoTypes.Programs.{Headed, header_names, Program, headed}
+use Rattle.go_rules.specs.GoTypes.Collect.{DeclaredTypes, alias_entity, type_declared, good_entity, declared_by}
+use Rattle.go_rules.specs.GoTypes.Collect.{declared_on, method_header, aliased_world, types_declared, typed_world}
+use Rattle.go_rules.specs.GoTypes.Collect.{named_world, valued_world}
+use Rattle.go_rules.specs.GoTypes.SingleNames.{singly, by_names}
+use Rattle.go_rules.specs.GoTypes.WellTyped.{is_method, body_ok}
 
 -- one by one
 pub data OneByOne {A B : Type 0} (R : A → B → Type 0) : List A → List B → Type 0 where

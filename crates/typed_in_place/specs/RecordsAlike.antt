@@ -1,10 +1,10 @@
 -- Two records of what each expression is that differ in replaced parts alone (Go specification, Expressions).
 use Rattle.std.specs.Prelude.{ℕ, List, [], ◌∷◌, ◌++◌}
 use Rattle.go_tree.specs.Tree.{Expr, Stmt, ValueSpecs}
-use Rattle.go_tree.specs.GoTypes.Entities.{Env}
-use Rattle.go_tree.specs.GoTypes.Operands.{Operand}
-use Rattle.go_tree.specs.GoTypes.Typing.{Repeated}
-use Rattle.go_tree.specs.GoTypes.Recorded.{Record, recorded, recorded_stmt, recorded_constants}
+use Rattle.go_rules.specs.GoTypes.Entities.{Env}
+use Rattle.go_rules.specs.GoTypes.Operands.{Operand}
+use Rattle.go_rules.specs.GoTypes.Typing.{Repeated}
+use Rattle.go_rules.specs.GoTypes.Recorded.{Record, recorded, recorded_stmt, recorded_constants}
 use Rattle.typed_in_place.specs.SameFacts.{SameOperand, SameStatement}
 use Rattle.typed_in_place.specs.Replaced.{ConstantsReplaced}
 

@@ -16,19 +16,19 @@ use Rattle.go_tree.specs.Tree.{const_decl, var_decl, eval, step, assign, define,
 use Rattle.go_tree.specs.Tree.{switch, defer, label, Stmts, no_stmts, stmt_and, StmtOption, no_stmt, some_stmt}
 use Rattle.go_tree.specs.Tree.{BlockOption, no_block, some_block, RangeLeft, nothing, assigns, defines, Arms, no_arms}
 use Rattle.go_tree.specs.Tree.{arm, Cases, no_cases, case, ValueSpecs, no_specs, spec}
-use Rattle.go_tree.specs.ScopeNames.FreeNames.{names_of, sig_names, declared, declared_option, defined}
-use Rattle.go_tree.specs.ScopeNames.FreeNames.{free_type_option}
-use Rattle.go_tree.specs.GoTypes.Answers.{given, meets}
-use Rattle.go_tree.specs.GoTypes.Types.{GoType}
-use Rattle.go_tree.specs.GoTypes.Defined.{under}
-use Rattle.go_tree.specs.GoTypes.Entities.{refused, Env, defined_in, extend, in_block}
-use Rattle.go_tree.specs.GoTypes.TypeNames.{type_meant, written_type}
-use Rattle.go_tree.specs.GoTypes.Literals.{is_struct, field_key, key_type, inner_type, literal_type}
-use Rattle.go_tree.specs.GoTypes.Statements.{bind_each, no_values}
-use Rattle.go_tree.specs.GoTypes.Typing.{parts, all_parts, places, used_all, declares, declares_first, range_declares}
-use Rattle.go_tree.specs.GoTypes.Typing.{binds_of, literal_env, new_constants, new_variables, right_values, Repeated}
-use Rattle.go_tree.specs.GoTypes.Typing.{nothing_to_repeat}
-pub use Rattle.go_tree.specs.GoTypes.Typing.{own_or_repeated}
+use Rattle.go_rules.specs.ScopeNames.FreeNames.{names_of, sig_names, declared, declared_option, defined}
+use Rattle.go_rules.specs.ScopeNames.FreeNames.{free_type_option}
+use Rattle.go_rules.specs.GoTypes.Answers.{given, meets}
+use Rattle.go_rules.specs.GoTypes.Types.{GoType}
+use Rattle.go_rules.specs.GoTypes.Defined.{under}
+use Rattle.go_rules.specs.GoTypes.Entities.{refused, Env, defined_in, extend, in_block}
+use Rattle.go_rules.specs.GoTypes.TypeNames.{type_meant, written_type}
+use Rattle.go_rules.specs.GoTypes.Literals.{is_struct, field_key, key_type, inner_type, literal_type}
+use Rattle.go_rules.specs.GoTypes.Statements.{bind_each, no_values}
+use Rattle.go_rules.specs.GoTypes.Typing.{parts, all_parts, places, used_all, declares, declares_first, range_declares}
+use Rattle.go_rules.specs.GoTypes.Typing.{binds_of, literal_env, new_constants, new_variables, right_values, Repeated}
+use Rattle.go_rules.specs.GoTypes.Typing.{nothing_to_repeat}
+pub use Rattle.go_rules.specs.GoTypes.Typing.{own_or_repeated}
 use Rattle.typed_in_place.specs.SameFacts.{UsedAlike, SameType, SameOperand, SameStatement}
 
 module _ {S T : Type 0} where

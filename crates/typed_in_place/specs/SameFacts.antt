@@ -2,16 +2,16 @@
 -- and scope): the facts that the rules of typing ask of a part are the same at that place.
 use Rattle.std.specs.Prelude.{◌≡◌, ℕ, Bool, true, false, List, [], Option}
 use Rattle.go_tree.specs.Tree.{TypeExpr, Expr, ident, no_exprs, expr_and, Stmt, some_stmt}
-use Rattle.go_tree.specs.ScopeNames.FreeNames.{free_type, declared}
-use Rattle.go_tree.specs.GoTypes.Answers.{is_among}
-use Rattle.go_tree.specs.GoTypes.Entities.{Env, meaning}
-use Rattle.go_tree.specs.GoTypes.TypeNames.{type_meant}
-use Rattle.go_tree.specs.GoTypes.Primary.{stands_alone, may_be_deferred}
-use Rattle.go_tree.specs.GoTypes.Jumps.{breaks, labels, is_loop, is_breakable}
-use Rattle.go_tree.specs.GoTypes.Statements.{Ctx, means_panic, is_blank_name, is_panic, is_define, is_empty_stmt}
-use Rattle.go_tree.specs.GoTypes.Typing.{package_before, parts, place, used, used_left, used_stmt, declares, stmt}
-use Rattle.go_tree.specs.GoTypes.Typing.{is_call}
-use Rattle.go_tree.specs.GoTypes.Initial.{is_initial, is_composite, is_maker}
+use Rattle.go_rules.specs.ScopeNames.FreeNames.{free_type, declared}
+use Rattle.go_rules.specs.GoTypes.Answers.{is_among}
+use Rattle.go_rules.specs.GoTypes.Entities.{Env, meaning}
+use Rattle.go_rules.specs.GoTypes.TypeNames.{type_meant}
+use Rattle.go_rules.specs.GoTypes.Primary.{stands_alone, may_be_deferred}
+use Rattle.go_rules.specs.GoTypes.Jumps.{breaks, labels, is_loop, is_breakable}
+use Rattle.go_rules.specs.GoTypes.Statements.{Ctx, means_panic, is_blank_name, is_panic, is_define, is_empty_stmt}
+use Rattle.go_rules.specs.GoTypes.Typing.{package_before, parts, place, used, used_left, used_stmt, declares, stmt}
+use Rattle.go_rules.specs.GoTypes.Typing.{is_call}
+use Rattle.go_rules.specs.GoTypes.Initial.{is_initial, is_composite, is_maker}
 
 -- two lists of used names that hold the same of the names that are declared around
 pub record UsedAlike (around ns ms : List (List ℕ)) : Type 0 where

@@ -4,10 +4,10 @@
 use Rattle.std.specs.Prelude.{◌≡◌, ℕ, true, ◌&&◌, List, [], ◌∷◌, ◌++◌, Option, Some, None, nat_eq}
 use Rattle.go_tree.specs.Tree.{NameAt, TypeExpr, Exprs}
 use Rattle.go_tree.specs.File.{TypeSpec, Func}
-use Rattle.go_tree.specs.ScopeNames.FreeNames.{sig_names}
-use Rattle.go_tree.specs.GoTypes.Entities.{World}
-use Rattle.go_tree.specs.GoTypes.Programs.{Header, constants, variables, a_type_spec, a_func, Headed, env_of}
-use Rattle.go_tree.specs.GoTypes.WellTyped.{body_env, receiver_names}
+use Rattle.go_rules.specs.ScopeNames.FreeNames.{sig_names}
+use Rattle.go_rules.specs.GoTypes.Entities.{World}
+use Rattle.go_rules.specs.GoTypes.Programs.{Header, constants, variables, a_type_spec, a_func, Headed, env_of}
+use Rattle.go_rules.specs.GoTypes.WellTyped.{body_env, receiver_names}
 use Rattle.typed_in_place.specs.Replaced.{TypeReplaced, TypeOptionReplaced, SigReplaced, ExprsReplaced, StmtsReplaced}
 
 module _ {S T : Type 0} (n : List ℕ) (w : World) (h : Headed S) (k : Headed T) where

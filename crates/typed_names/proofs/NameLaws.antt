@@ -5,10 +5,10 @@ use Rattle.std.proofs.lemmas.Bool.{true≢false}
 use Rattle.std.proofs.lemmas.Bool.Decides.{nat_tests}
 use Rattle.std.proofs.lemmas.Slice.Eq.{bytes_eq-Decides}
 use Rattle.indexmap.specs.IndexMap.{insert_entry}
-use Rattle.go_tree.specs.declared.const_eval.consts.Const.{Const}
-use Rattle.go_tree.specs.ScopeNames.Means.{Environment, means, or_else}
-use Rattle.go_tree.specs.GoTypes.Entities as go
-use Rattle.go_tree.specs.GoTypes.Entities.{block_of, package_of}
+use Rattle.go_rules.specs.declared.const_eval.consts.Const.{Const}
+use Rattle.go_rules.specs.ScopeNames.Means.{Environment, means, or_else}
+use Rattle.go_rules.specs.GoTypes.Entities as go
+use Rattle.go_rules.specs.GoTypes.Entities.{block_of, package_of}
 use Rattle.universe_block.specs.declared.block.PredeclaredEntity.{PredeclaredEntity}
 use Rattle.universe_block.specs.declared.block.PredeclaredEntity.TheVariants.{TypeName as a_type, Truth as a_truth, Iota as an_iota, Nil as a_nil, Function as a_function}
 use Rattle.universe_block.specs.Meanings.{entity_of}

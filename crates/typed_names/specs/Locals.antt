@@ -1,7 +1,7 @@
 -- Names that are declared around a place: the innermost binding of a name decides, and keeps what the name meant
 -- before (Go specification, Declarations and scope).
 use Rattle.std.specs.Prelude.{◌≡◌, ℕ, List, [], ◌∷◌, Option, Some, None}
-use Rattle.go_tree.specs.ScopeNames.Means.{means}
+use Rattle.go_rules.specs.ScopeNames.Means.{means}
 use Rattle.typed_names.specs.declared.entities.Entity.{Entity}
 use Rattle.typed_names.specs.declared.locals.Binding.{Binding}
 use Rattle.typed_names.specs.Meanings.{Names}

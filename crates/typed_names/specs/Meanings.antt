@@ -2,10 +2,10 @@
 -- block; Predeclared identifiers).
 use Rattle.std.specs.Prelude.{ℕ, suc, List, [], ◌∷◌, map, Option, Some, None, slice_index_or, slice_set}
 use Rattle.std.specs.Prelude.{bytes_eq, if◌then◌else◌}
-use Rattle.go_tree.specs.declared.const_eval.consts.Const.{Const}
-use Rattle.go_tree.specs.ScopeNames.Means as scope
-use Rattle.go_tree.specs.GoTypes.Types.{GoType, tuple_of, GoTypes, no_go_types, go_type, FuncType}
-use Rattle.go_tree.specs.GoTypes.Entities as go
+use Rattle.go_rules.specs.declared.const_eval.consts.Const.{Const}
+use Rattle.go_rules.specs.ScopeNames.Means as scope
+use Rattle.go_rules.specs.GoTypes.Types.{GoType, tuple_of, GoTypes, no_go_types, go_type, FuncType}
+use Rattle.go_rules.specs.GoTypes.Entities as go
 use Rattle.type_table.specs.TypeRelations.Environment.{Environment, defined_types, env_type}
 use Rattle.type_table.specs.OperandRules.Constants.{const_at}
 use Rattle.type_table.specs.OperandRules.Values.{type_of}

@@ -1,9 +1,9 @@
 -- A place in a file, read through the tables of types and constants (Go specification, Blocks; Declarations and scope).
 use Rattle.std.specs.Prelude.{List}
-use Rattle.go_tree.specs.declared.const_eval.consts.Const.{Const}
-use Rattle.go_tree.specs.GoTypes.Entities as go
-use Rattle.go_tree.specs.GoTypes.Entities.{extend}
-use Rattle.go_tree.specs.GoTypes.Programs.{file_env}
+use Rattle.go_rules.specs.declared.const_eval.consts.Const.{Const}
+use Rattle.go_rules.specs.GoTypes.Entities as go
+use Rattle.go_rules.specs.GoTypes.Entities.{extend}
+use Rattle.go_rules.specs.GoTypes.Programs.{file_env}
 use Rattle.type_table.specs.TypeRelations.Environment.{Environment}
 use Rattle.typed_names.specs.declared.scopes.Scope.{Scope}
 use Rattle.typed_names.specs.Meanings.{Names, names_at, world_at}

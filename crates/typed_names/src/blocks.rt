@@ -2,9 +2,9 @@
 
 ghost use Rattle.std.specs.Prelude.{◌≡◌, ◌<◌, ◌&&◌, ℕ, List, [], ◌∷◌, ◌++◌, length, IfSome};
 ghost use Rattle.std.specs.Prelude.{Some, OnErr, OnOk, bytes_eq, nat_eq, if◌then◌else◌};
-ghost use Rattle.go_tree.specs.declared.const_eval.consts.Const.{Const};
-ghost use Rattle.go_tree.specs.GoTypes.Entities as go;
-ghost use Rattle.go_tree.specs.ScopeNames.Means.{means};
+ghost use Rattle.go_rules.specs.declared.const_eval.consts.Const.{Const};
+ghost use Rattle.go_rules.specs.GoTypes.Entities as go;
+ghost use Rattle.go_rules.specs.ScopeNames.Means.{means};
 ghost use Rattle.type_table.specs.TypeRelations.Environment.{Environment};
 ghost use Rattle.typed_names.specs.Known.{AllHaveTypes, HasTypes, HaveTypes};
 ghost use Rattle.typed_names.specs.Meanings.{block_at, entity_option, with_member, with_name, world_at};

@@ -3,7 +3,7 @@
 
 ghost use Rattle.std.specs.Prelude.{◌≡◌, ◌-◌, ℕ, List, [], ◌∷◌, drop, length, true, Some, OnErr};
 ghost use Rattle.std.specs.Prelude.{OnOk, bytes_eq, if◌then◌else◌, is_some, IfOk};
-ghost use Rattle.go_tree.specs.ScopeNames.Means.{means};
+ghost use Rattle.go_rules.specs.ScopeNames.Means.{means};
 ghost use Rattle.typed_names.specs.Locals.{flat};
 
 use crate::entities::Entity;

@@ -2,11 +2,11 @@
 //! identifiers).
 
 ghost use Rattle.std.specs.Prelude.{◌≡◌, ◌++◌, List, IfSome};
-ghost use Rattle.go_tree.specs.declared.const_eval.consts.Const.{Const};
-ghost use Rattle.go_tree.specs.GoTypes.Answers.{given};
-ghost use Rattle.go_tree.specs.GoTypes.Entities as go;
-ghost use Rattle.go_tree.specs.GoTypes.Entities.{block_of, meaning, package_of, universe};
-ghost use Rattle.go_tree.specs.ScopeNames.Means.{means};
+ghost use Rattle.go_rules.specs.declared.const_eval.consts.Const.{Const};
+ghost use Rattle.go_rules.specs.GoTypes.Answers.{given};
+ghost use Rattle.go_rules.specs.GoTypes.Entities as go;
+ghost use Rattle.go_rules.specs.GoTypes.Entities.{block_of, meaning, package_of, universe};
+ghost use Rattle.go_rules.specs.ScopeNames.Means.{means};
 ghost use Rattle.type_table.specs.TypeRelations.Environment.{Environment};
 ghost use Rattle.typed_names.specs.Known.{AllHaveTypes, HasTypes, KnowsTypes};
 ghost use Rattle.typed_names.specs.Meanings.{entity_option, world_at};

@@ -4,12 +4,12 @@ use Rattle.std.specs.List.{list_all}
 use mathlib.Core.Path.{ap, sym, ◌∙◌}
 use Rattle.std.proofs.Common.{inl, inr, arith}
 use Rattle.std.proofs.lemmas.Bool.Decides.{nat_tests}
-use Rattle.go_tree.proofs.GoTypes.IdenticalLaws.{and_left, and_right}
-use Rattle.go_tree.specs.GoTypes.Entities as go
-use Rattle.go_tree.specs.GoTypes.Entities.{universe}
-use Rattle.go_tree.specs.declared.scope_names.names.Entity.{Entity}
-use Rattle.go_tree.specs.declared.scope_names.names.Entity.TheVariants.{Universe}
-use Rattle.go_tree.specs.ScopeNames.Means.{Environment, means, is_blank, numbered, predeclared}
+use Rattle.go_rules.proofs.GoTypes.IdenticalLaws.{and_left, and_right}
+use Rattle.go_rules.specs.GoTypes.Entities as go
+use Rattle.go_rules.specs.GoTypes.Entities.{universe}
+use Rattle.go_rules.specs.declared.scope_names.names.Entity.{Entity}
+use Rattle.go_rules.specs.declared.scope_names.names.Entity.TheVariants.{Universe}
+use Rattle.go_rules.specs.ScopeNames.Means.{Environment, means, is_blank, numbered, predeclared}
 
 module _ {E : Type 0} (name : List ℕ) where
   abbrev names_of : Environment E → List (List ℕ)

@@ -1,9 +1,9 @@
 -- What predeclared names mean to the rules of typing (Go specification, Predeclared identifiers).
 use Rattle.std.specs.Prelude.{Option, Some, None}
-use Rattle.go_tree.specs.declared.const_eval.consts.Const.TheVariants.{Truth as truth_value}
-use Rattle.go_tree.specs.declared.const_eval.kinds.Kind.TheVariants as kind
-use Rattle.go_tree.specs.GoTypes.Types.{basic, untyped}
-use Rattle.go_tree.specs.GoTypes.Entities as go
+use Rattle.go_rules.specs.declared.const_eval.consts.Const.TheVariants.{Truth as truth_value}
+use Rattle.go_rules.specs.declared.const_eval.kinds.Kind.TheVariants as kind
+use Rattle.go_rules.specs.GoTypes.Types.{basic, untyped}
+use Rattle.go_rules.specs.GoTypes.Entities as go
 use Rattle.universe_block.specs.declared.block.Builtin as declared
 use Rattle.universe_block.specs.declared.block.Builtin.TheVariants as builtin
 use Rattle.universe_block.specs.declared.block.PredeclaredEntity.{PredeclaredEntity}

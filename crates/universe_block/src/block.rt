@@ -1,12 +1,12 @@
 //! The universe block (Go specification, Predeclared identifiers; Blocks).
 
 ghost use Rattle.std.specs.Prelude.{◌≡◌, map, slice_get};
-ghost use Rattle.go_tree.specs.ScopeNames.Means.{means};
-ghost use Rattle.go_tree.specs.GoTypes.Entities.{universe};
+ghost use Rattle.go_rules.specs.ScopeNames.Means.{means};
+ghost use Rattle.go_rules.specs.GoTypes.Entities.{universe};
 ghost use Rattle.universe_block.specs.Meanings.{entity_of, meaning_of};
 
-use go_tree::const_eval::Kind;
-use go_tree::scope_names::Entity;
+use go_rules::const_eval::Kind;
+use go_rules::scope_names::Entity;
 
 /// A predeclared function.
 #[derive(Clone, Copy, Debug, PartialEq, Eq, Drop)]
@@ -88,7 +88,7 @@ fn numbered(number: usize) -> Option<PredeclaredEntity>
 pub fn predeclared(name: &[u8]) -> Option<PredeclaredEntity>
     ensures { meaning_of result ≡ means universe name.now }
 {
-    match go_tree::scope_names::predeclared(name) {
+    match go_rules::scope_names::predeclared(name) {
         Some(Entity::Universe(number)) => numbered(number as usize),
         Some(Entity::Local(_)) => None,
         Some(Entity::Import(_)) => None,

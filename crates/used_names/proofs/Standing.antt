@@ -4,16 +4,16 @@ use Rattle.std.specs.Prelude.{◌≡◌, ℕ, Bool, true, false, not, ◌&&◌, 
 use Rattle.std.proofs.Common.{refl, sym, ap, ◌∙◌, subst, inl, inr}
 use Rattle.std.proofs.lemmas.Slice.Eq.{bytes_eq-Decides}
 use Rattle.go_tree.specs.Tree.{NameAt, TypeExpr, named, pointer, slice_type, map_type, struct_type, Fields, no_fields, field}
-use Rattle.go_tree.specs.ScopeNames.Means.{means, is_blank}
-use Rattle.go_tree.specs.ScopeNames.FreeNames.{named_use}
-use Rattle.go_tree.specs.GoTypes.Answers.{given, both, only_if, is_among}
-use Rattle.go_tree.specs.GoTypes.Types.{GoType, pointer_to, slice_of, map_of, struct_of, base_of}
-use Rattle.go_tree.specs.GoTypes.Defined.{under, has_keys}
-use Rattle.go_tree.specs.GoTypes.Entities.{Entity, Env, meaning, exported, package_of, type_of_name, Binds, extend, in_block, defined_in, is_declared_here}
-use Rattle.go_tree.specs.GoTypes.TypeNames.{named_meaning, resolved, resolved_fields, field_before, type_meant}
-use Rattle.go_tree.specs.GoTypes.Literals.{literal_type}
-use Rattle.go_tree.specs.GoTypes.Declarations.{bound_names}
-use Rattle.go_tree.proofs.GoTypes.Agreeing.{Bound, binds, later, Covers}
+use Rattle.go_rules.specs.ScopeNames.Means.{means, is_blank}
+use Rattle.go_rules.specs.ScopeNames.FreeNames.{named_use}
+use Rattle.go_rules.specs.GoTypes.Answers.{given, both, only_if, is_among}
+use Rattle.go_rules.specs.GoTypes.Types.{GoType, pointer_to, slice_of, map_of, struct_of, base_of}
+use Rattle.go_rules.specs.GoTypes.Defined.{under, has_keys}
+use Rattle.go_rules.specs.GoTypes.Entities.{Entity, Env, meaning, exported, package_of, type_of_name, Binds, extend, in_block, defined_in, is_declared_here}
+use Rattle.go_rules.specs.GoTypes.TypeNames.{named_meaning, resolved, resolved_fields, field_before, type_meant}
+use Rattle.go_rules.specs.GoTypes.Literals.{literal_type}
+use Rattle.go_rules.specs.GoTypes.Declarations.{bound_names}
+use Rattle.go_rules.proofs.GoTypes.Agreeing.{Bound, binds, later, Covers}
 use Rattle.used_names.specs.Uses.{is_local, with_locals, has_local, fields_have_local, written_under, part_type, inner_under}
 use Rattle.used_names.specs.Stands.{Stands, unless_local}
 use Rattle.used_names.proofs.Truths.{clash, or_left, or_right, or_none, same_name, itself, turned, among-append, among_split, local_after, local_still, local_new}

@@ -2,12 +2,12 @@
 use Rattle.std.specs.Prelude.{◌≡◌, ℕ, Bool, true, false, not, ◌&&◌, ◌||◌, ◌-◌, List, [], ◌∷◌, ◌++◌, length, drop, Option, Some, None, if◌then◌else◌, bytes_eq}
 use Rattle.std.proofs.Common.{refl, sym, ap, ◌∙◌, subst, arith, length-append, drop_at}
 use Rattle.go_tree.specs.Tree.{NameAt, Param, Sig, TypeExpr}
-use Rattle.go_tree.specs.ScopeNames.Means.{is_blank}
-use Rattle.go_tree.specs.ScopeNames.FreeNames.{names_of, name_then, params_names, sig_names}
-use Rattle.go_tree.specs.GoTypes.Answers.{is_among, without}
-use Rattle.go_tree.specs.GoTypes.Entities.{Env, Binds}
-use Rattle.go_tree.specs.GoTypes.Declarations.{beyond, bound_names}
-use Rattle.go_tree.specs.GoTypes.Types.{GoType}
+use Rattle.go_rules.specs.ScopeNames.Means.{is_blank}
+use Rattle.go_rules.specs.ScopeNames.FreeNames.{names_of, name_then, params_names, sig_names}
+use Rattle.go_rules.specs.GoTypes.Answers.{is_among, without}
+use Rattle.go_rules.specs.GoTypes.Entities.{Env, Binds}
+use Rattle.go_rules.specs.GoTypes.Declarations.{beyond, bound_names}
+use Rattle.go_rules.specs.GoTypes.Types.{GoType}
 use Rattle.used_names.specs.Uses.{Uses, is_local, hides, and_name, and_local, with_locals, use_name, declare, leave, within, open_literal, open_inside, close_literal, written_under, inner_under, innermost}
 use Rattle.used_names.specs.Walks.{declare_all, declare_option, begin_params, begin_sig}
 use Rattle.used_names.specs.Stands.{Stands}

@@ -1,8 +1,8 @@
 -- Truth values, and names among names.
 use Rattle.std.proofs.Common.{◌≡◌, ℕ, Bool, true, false, not, ◌&&◌, ◌||◌, List, [], ◌∷◌, ◌++◌, ◌⊎◌, if◌then◌else◌, bytes_eq, refl, sym, ap, ◌∙◌, subst, inl, inr, true≢false}
 use Rattle.std.proofs.lemmas.Slice.Eq.{bytes_eq-Decides}
-use Rattle.go_tree.specs.ScopeNames.Means.{is_blank}
-use Rattle.go_tree.specs.GoTypes.Answers.{is_among, without}
+use Rattle.go_rules.specs.ScopeNames.Means.{is_blank}
+use Rattle.go_rules.specs.GoTypes.Answers.{is_among, without}
 use Rattle.used_names.specs.Uses.{is_local, and_local, with_locals, and_name}
 
 pub clash : {A : Type 0} (b : Bool) → b ≡ true → b ≡ false → A

@@ -2,20 +2,20 @@
 use Rattle.std.specs.Prelude.{◌≡◌, ℕ, Bool, true, false, List, [], ◌∷◌, ◌++◌, length, Option, Some, None, if◌then◌else◌}
 use Rattle.std.proofs.Common.{refl, sym, ap, ◌∙◌, subst, append-nil}
 use Rattle.go_tree.specs.Tree.{NameAt, TypeExpr, named, pointer, slice_type, map_type, struct_type, Fields, no_fields, field, Param, Sig, Expr, ident, int_lit, rune_lit, str_lit, composite, selector, index, slice, call, func_lit, type_operand, unary, binary, star, Exprs, no_exprs, expr_and, ExprOption, no_expr, some_expr, Elems, no_elems, elem, Value, plain, braced, ValueOption, no_value, some_value, Stmt, const_decl, var_decl, empty, eval, step, assign, define, return_, break_, continue_, inner, if_, for_, range_, switch, defer, label, Stmts, no_stmts, stmt_and, StmtOption, no_stmt, some_stmt, BlockOption, no_block, some_block, RangeLeft, nothing, assigns, defines, Arms, no_arms, arm, Cases, no_cases, case, ValueSpecs, no_specs, spec}
-use Rattle.go_tree.specs.ScopeNames.Means.{is_blank}
-use Rattle.go_tree.specs.ScopeNames.FreeNames.{names_of, sig_names, specs_names, declared, declared_option, defined, named_use, free_type, free_fields, free_type_option, free_params}
-use Rattle.go_tree.specs.GoTypes.Answers.{given, meets, without}
-use Rattle.go_tree.specs.GoTypes.Types.{GoType}
-use Rattle.go_tree.specs.GoTypes.Defined.{Defined, under}
-use Rattle.go_tree.specs.GoTypes.Entities.{refused, Env, Binds, extend, in_block, defined_in}
-use Rattle.go_tree.specs.GoTypes.TypeNames.{func_type, type_meant, written_type}
-use Rattle.go_tree.specs.GoTypes.Operands.{Operand, Typed}
-use Rattle.go_tree.specs.GoTypes.Literals.{is_struct, literal_type}
-use Rattle.go_tree.specs.GoTypes.Bodies.{body_binds, literal_env, no_values}
-use Rattle.go_tree.specs.GoTypes.Declarations.{Declared, bind_each, binds_of, binds_or, new_variables}
-use Rattle.go_tree.specs.GoTypes.Statements.{right_values}
-use Rattle.go_tree.specs.GoTypes.Typing.{parts, all_parts, places, used, used_all, used_option, used_elems, used_key, used_value, used_left, used_stmt, used_stmts, used_first, used_block, used_range, used_arms, used_cases, used_constants, used_variables, declares, declares_first, range_declares}
-use Rattle.go_tree.proofs.GoTypes.Agreeing.{Covers, of_covers, new_variables_cover, declares_cover, first_cover, range_cover, literal_cover}
+use Rattle.go_rules.specs.ScopeNames.Means.{is_blank}
+use Rattle.go_rules.specs.ScopeNames.FreeNames.{names_of, sig_names, specs_names, declared, declared_option, defined, named_use, free_type, free_fields, free_type_option, free_params}
+use Rattle.go_rules.specs.GoTypes.Answers.{given, meets, without}
+use Rattle.go_rules.specs.GoTypes.Types.{GoType}
+use Rattle.go_rules.specs.GoTypes.Defined.{Defined, under}
+use Rattle.go_rules.specs.GoTypes.Entities.{refused, Env, Binds, extend, in_block, defined_in}
+use Rattle.go_rules.specs.GoTypes.TypeNames.{func_type, type_meant, written_type}
+use Rattle.go_rules.specs.GoTypes.Operands.{Operand, Typed}
+use Rattle.go_rules.specs.GoTypes.Literals.{is_struct, literal_type}
+use Rattle.go_rules.specs.GoTypes.Bodies.{body_binds, literal_env, no_values}
+use Rattle.go_rules.specs.GoTypes.Declarations.{Declared, bind_each, binds_of, binds_or, new_variables}
+use Rattle.go_rules.specs.GoTypes.Statements.{right_values}
+use Rattle.go_rules.specs.GoTypes.Typing.{parts, all_parts, places, used, used_all, used_option, used_elems, used_key, used_value, used_left, used_stmt, used_stmts, used_first, used_block, used_range, used_arms, used_cases, used_constants, used_variables, declares, declares_first, range_declares}
+use Rattle.go_rules.proofs.GoTypes.Agreeing.{Covers, of_covers, new_variables_cover, declares_cover, first_cover, range_cover, literal_cover}
 use Rattle.used_names.specs.Uses.{Uses, with_locals, use_name, leave, has_fields, innermost, open_literal, open_inside, close_literal, written_under, part_type, inner_under}
 use Rattle.used_names.specs.Walks.{declare_all, begin_sig, begin_left, after_type, after_fields, after_type_option, after_params, after_expr, after_exprs, after_expr_option, after_lefts, after_elems, after_key, after_value, after_stmt, after_stmts, after_stmt_option, after_post, after_block_option, after_left, after_arms, after_cases, after_specs}
 use Rattle.used_names.specs.Stands.{Stands}

@@ -2,17 +2,17 @@
 use Rattle.std.specs.Prelude.{◌≡◌, ℕ, ◌+◌, Bool, true, false, List, [], ◌∷◌, ◌++◌, length, Option, Some, None, if◌then◌else◌, bytes_eq}
 use Rattle.std.proofs.Common.{refl, sym, ap, ◌∙◌, subst}
 use Rattle.go_tree.specs.Tree.{NameAt, Param, Sig, Stmt, const_decl, var_decl, define, label, StmtOption, no_stmt, some_stmt, RangeLeft, nothing, assigns, defines, ValueSpecs, no_specs, spec}
-use Rattle.go_tree.specs.ScopeNames.Means.{means, binding, is_blank}
-use Rattle.go_tree.specs.ScopeNames.FreeNames.{names_of, name_then, specs_names, params_names, sig_names, declared, declared_option, defined}
-use Rattle.go_tree.specs.GoTypes.Answers.{given, both, only_if, distinct_by, is_among}
-use Rattle.go_tree.specs.GoTypes.Types.{GoType, FuncType}
-use Rattle.go_tree.specs.GoTypes.Defined.{Defined}
-use Rattle.go_tree.specs.GoTypes.Entities.{run, exact, shift, Entity, variable, constant, refused, Env, meaning, package_of, type_of_name, Binds, extend, is_declared_here, defined_in}
-use Rattle.go_tree.specs.GoTypes.TypeNames.{func_type, written_type}
-use Rattle.go_tree.specs.GoTypes.Operands.{Operand, Typed, typed, all_typed, fits, settled}
-use Rattle.go_tree.specs.GoTypes.Statements.{constant_entity, may_declare, names_once, range_types, no_values, bound_names, Declared, constants_declared, variables_declared, some_declared, bind_all, bind_each, defined_by, assigns_to, variable_entity, range_binds, param_binding, param_binds, body_binds}
-use Rattle.go_tree.specs.GoTypes.Typing.{new_constants, new_variables, new_by_define, binds_or, binds_of, and_then, unused_after, declares, declares_first, declares_constants, declares_variables, range_declares, Repeated, nothing_to_repeat, right_values, places, all_parts, used_variables}
-use Rattle.go_tree.proofs.GoTypes.Agreeing.{from_given, from_both, from_only, some_same, binds_same, declared_as_constants, declared_as_variables, declared_as_some}
+use Rattle.go_rules.specs.ScopeNames.Means.{means, binding, is_blank}
+use Rattle.go_rules.specs.ScopeNames.FreeNames.{names_of, name_then, specs_names, params_names, sig_names, declared, declared_option, defined}
+use Rattle.go_rules.specs.GoTypes.Answers.{given, both, only_if, distinct_by, is_among}
+use Rattle.go_rules.specs.GoTypes.Types.{GoType, FuncType}
+use Rattle.go_rules.specs.GoTypes.Defined.{Defined}
+use Rattle.go_rules.specs.GoTypes.Entities.{run, exact, shift, Entity, variable, constant, refused, Env, meaning, package_of, type_of_name, Binds, extend, is_declared_here, defined_in}
+use Rattle.go_rules.specs.GoTypes.TypeNames.{func_type, written_type}
+use Rattle.go_rules.specs.GoTypes.Operands.{Operand, Typed, typed, all_typed, fits, settled}
+use Rattle.go_rules.specs.GoTypes.Statements.{constant_entity, may_declare, names_once, range_types, no_values, bound_names, Declared, constants_declared, variables_declared, some_declared, bind_all, bind_each, defined_by, assigns_to, variable_entity, range_binds, param_binding, param_binds, body_binds}
+use Rattle.go_rules.specs.GoTypes.Typing.{new_constants, new_variables, new_by_define, binds_or, binds_of, and_then, unused_after, declares, declares_first, declares_constants, declares_variables, range_declares, Repeated, nothing_to_repeat, right_values, places, all_parts, used_variables}
+use Rattle.go_rules.proofs.GoTypes.Agreeing.{from_given, from_both, from_only, some_same, binds_same, declared_as_constants, declared_as_variables, declared_as_some}
 use Rattle.used_names.proofs.Truths.{or_left, or_right, itself, among_left, among_right}
 
 none_some : {A B : Type 0} {x : B} → None ≡ Some x → A

@@ -1,10 +1,10 @@
 -- Where a walk stands: what a place in a function means as types and packages is told by the place outside all
 -- functions and by which names are local (Go specification, Declarations and scope; Types; Qualified identifiers).
 use Rattle.std.specs.Prelude.{◌≡◌, ℕ, true, List, Option, None, if◌then◌else◌}
-use Rattle.go_tree.specs.GoTypes.Types.{GoType}
-use Rattle.go_tree.specs.GoTypes.Defined.{under, has_keys}
-use Rattle.go_tree.specs.GoTypes.Entities.{Env, meaning, exported, package_of, type_of_name, defined_in}
-use Rattle.go_tree.specs.GoTypes.Entities.{is_declared_here}
+use Rattle.go_rules.specs.GoTypes.Types.{GoType}
+use Rattle.go_rules.specs.GoTypes.Defined.{under, has_keys}
+use Rattle.go_rules.specs.GoTypes.Entities.{Env, meaning, exported, package_of, type_of_name, defined_in}
+use Rattle.go_rules.specs.GoTypes.Entities.{is_declared_here}
 use Rattle.used_names.specs.Uses.{is_local}
 
 -- nothing, where a name is local

@@ -1,18 +1,18 @@
 -- Initialisers call no function.
 use Rattle.std.proofs.Common.{◌≡◌, refl, sym, ap, ◌∙◌, subst, ℕ, suc, ◌⊎◌, inl, inr, ⊎_elim, Bool, true, false, ◌&&◌, ◌||◌, List, [], ◌∷◌, ◌++◌, Option, Some, None, is_some, if◌then◌else◌}
 use Rattle.go_tree.specs.Tree.{Expr, ident, int_lit, rune_lit, str_lit, composite, selector, index, slice, call, func_lit, type_operand, unary, binary, star, Exprs, no_exprs, expr_and, Elems, no_elems, elem, Value, plain, braced, ValueOption, no_value, some_value}
-use Rattle.go_tree.specs.GoTypes.Answers.{given, meets}
-use Rattle.go_tree.specs.GoTypes.Types.{GoType, FuncType, basic, named_type, pointer_to, slice_of, map_of, struct_of, tuple_of, untyped, untyped_nil}
-use Rattle.go_tree.specs.GoTypes.Defined.{Defined, under}
-use Rattle.go_tree.specs.GoTypes.Entities.{Builtin, Append, Cap, Copy, Delete, Len, Make, New, Panic, Print, Println, Recover, Entity, variable, constant, stand_in, type_name, function, package_name, builtin, nil_name, iota_name, refused, Env, meaning, defined_in, run, exact, shift}
-use Rattle.go_tree.specs.GoTypes.TypeNames.{type_meant}
-use Rattle.go_tree.specs.GoTypes.Operands.{Operand, value, several, a_type, a_function, a_builtin, recovered, typed, named_operand, constant_of}
-use Rattle.go_tree.specs.GoTypes.Operators.{unary_of}
-use Rattle.go_tree.specs.GoTypes.Primary.{call_of}
-use Rattle.go_tree.specs.GoTypes.Literals.{is_struct, key_type, inner_type, literal_type, built, built_inside, Element, field_key, of_field, keyed}
-use Rattle.go_tree.specs.GoTypes.Typing.{parts, all_parts, elements, element, with_key, place}
-use Rattle.go_tree.specs.GoTypes.Initial.{means_maker, is_constant, all_constant, sizes_constant, is_nil_name, is_address, is_composite, is_initial, initial_elems, initial_key, initial_value}
-use Rattle.go_tree.proofs.GoTypes.Agreeing.{from_given, from_both, some_same}
+use Rattle.go_rules.specs.GoTypes.Answers.{given, meets}
+use Rattle.go_rules.specs.GoTypes.Types.{GoType, FuncType, basic, named_type, pointer_to, slice_of, map_of, struct_of, tuple_of, untyped, untyped_nil}
+use Rattle.go_rules.specs.GoTypes.Defined.{Defined, under}
+use Rattle.go_rules.specs.GoTypes.Entities.{Builtin, Append, Cap, Copy, Delete, Len, Make, New, Panic, Print, Println, Recover, Entity, variable, constant, stand_in, type_name, function, package_name, builtin, nil_name, iota_name, refused, Env, meaning, defined_in, run, exact, shift}
+use Rattle.go_rules.specs.GoTypes.TypeNames.{type_meant}
+use Rattle.go_rules.specs.GoTypes.Operands.{Operand, value, several, a_type, a_function, a_builtin, recovered, typed, named_operand, constant_of}
+use Rattle.go_rules.specs.GoTypes.Operators.{unary_of}
+use Rattle.go_rules.specs.GoTypes.Primary.{call_of}
+use Rattle.go_rules.specs.GoTypes.Literals.{is_struct, key_type, inner_type, literal_type, built, built_inside, Element, field_key, of_field, keyed}
+use Rattle.go_rules.specs.GoTypes.Typing.{parts, all_parts, elements, element, with_key, place}
+use Rattle.go_rules.specs.GoTypes.Initial.{means_maker, is_constant, all_constant, sizes_constant, is_nil_name, is_address, is_composite, is_initial, initial_elems, initial_key, initial_value}
+use Rattle.go_rules.proofs.GoTypes.Agreeing.{from_given, from_both, some_same}
 use Rattle.run_rules.specs.Surroundings.{Use, called, a_slot, Place, seen, into_type, into_or, arg_uses, unary_use, elem_use, key_use, inner_slot, last_slot, in_slot, callee_place, elem_closed}
 use Rattle.run_rules.specs.Places.{type_seen, expr_seen, all_seen, elems_seen, key_seen, value_seen}
 use Rattle.value_calls.specs.Calls.{CallNoFunction}

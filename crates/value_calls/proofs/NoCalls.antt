@@ -2,19 +2,19 @@
 use Rattle.std.proofs.Common.{◌≡◌, refl, sym, ◌∙◌, subst, ◌+◌, ℕ, Bool, true, false, List, [], ◌∷◌, ◌++◌, Option, Some, None}
 use Rattle.go_tree.specs.Tree.{Expr, ident, int_lit, rune_lit, str_lit, composite, selector, index, slice, call, func_lit, type_operand, unary, binary, star, Exprs, no_exprs, expr_and}
 use Rattle.go_tree.specs.GoWords.Terminals.{level_of}
-use Rattle.go_tree.specs.GoTypes.Answers.{given, meets, only_if}
-use Rattle.go_tree.specs.GoTypes.Types.{GoType, FuncType}
-use Rattle.go_tree.specs.GoTypes.Defined.{under}
-use Rattle.go_tree.specs.GoTypes.Entities.{Env, exported, extend, in_block, defined_in}
-use Rattle.go_tree.specs.GoTypes.TypeNames.{type_meant, func_type}
-use Rattle.go_tree.specs.GoTypes.Operands.{Operand, a_function, with_value, named_operand, plain_value}
-use Rattle.go_tree.specs.GoTypes.Operators.{binary_of, unary_of, star_of}
-use Rattle.go_tree.specs.GoTypes.Primary.{selected, call_of}
-use Rattle.go_tree.specs.GoTypes.Literals.{literal_takes, built, Element}
-use Rattle.go_tree.specs.GoTypes.Statements.{package_before}
-use Rattle.go_tree.specs.GoTypes.Typing.{parts, all_parts, elements, place, bound, stmts}
-use Rattle.go_tree.specs.GoTypes.Bodies.{body_binds, body_ctx, is_body}
-use Rattle.go_tree.proofs.GoTypes.Agreeing.{from_both, some_same}
+use Rattle.go_rules.specs.GoTypes.Answers.{given, meets, only_if}
+use Rattle.go_rules.specs.GoTypes.Types.{GoType, FuncType}
+use Rattle.go_rules.specs.GoTypes.Defined.{under}
+use Rattle.go_rules.specs.GoTypes.Entities.{Env, exported, extend, in_block, defined_in}
+use Rattle.go_rules.specs.GoTypes.TypeNames.{type_meant, func_type}
+use Rattle.go_rules.specs.GoTypes.Operands.{Operand, a_function, with_value, named_operand, plain_value}
+use Rattle.go_rules.specs.GoTypes.Operators.{binary_of, unary_of, star_of}
+use Rattle.go_rules.specs.GoTypes.Primary.{selected, call_of}
+use Rattle.go_rules.specs.GoTypes.Literals.{literal_takes, built, Element}
+use Rattle.go_rules.specs.GoTypes.Statements.{package_before}
+use Rattle.go_rules.specs.GoTypes.Typing.{parts, all_parts, elements, place, bound, stmts}
+use Rattle.go_rules.specs.GoTypes.Bodies.{body_binds, body_ctx, is_body}
+use Rattle.go_rules.proofs.GoTypes.Agreeing.{from_both, some_same}
 use Rattle.run_rules.specs.Surroundings.{Use, called, other, a_slot, Place, Slot, Seen, seen, head_use, later_uses, arg_uses, unary_use, operand_use, inner_slot, last_slot, in_slot, callee_place, comma_slot}
 use Rattle.run_rules.specs.Places.{expr_seen, all_seen}
 use Rattle.value_calls.specs.Calls.{CallNoFunction}

@@ -1,17 +1,17 @@
 -- Operands that are constants, types or predeclared functions: what they are made of is such too.
 use Rattle.std.proofs.Common.{◌≡◌, refl, ◌∙◌, ℕ, Bool, true, false, not, ◌&&◌, ◌||◌, List, [], ◌∷◌, map, Option, Some, None}
 use Rattle.std.specs.List.{list_all}
-use Rattle.go_tree.specs.declared.const_eval.kinds.Kind.TheVariants as kind
-use Rattle.go_tree.specs.ConstEval.Exact.{is_text_kind}
-use Rattle.go_tree.specs.ScopeNames.Means.{is_blank}
-use Rattle.go_tree.specs.GoTypes.Answers.{given, both, meets, only_if}
-use Rattle.go_tree.specs.GoTypes.Types.{GoType, basic, base_of, element_of, map_parts}
-use Rattle.go_tree.specs.GoTypes.Defined.{Defined, under, methods}
-use Rattle.go_tree.specs.GoTypes.Relations.{convertible}
-use Rattle.go_tree.specs.GoTypes.Entities.{Builtin, Append, Cap, Copy, Delete, Len, Make, New, Panic, Print, Println, Recover, Content, run, exact, shift, Place, is_exported}
-use Rattle.go_tree.specs.GoTypes.Operands.{Operand, value, several, a_type, a_function, a_builtin, recovered, Typed, typed, all_typed, with_value, plain_value, spread, results_operand, kind_passes, fits, takes_all, settled}
-use Rattle.go_tree.specs.GoTypes.Primary.{sees, find_method, is_addressable, home_of, is_index, lies_in, rise, is_bound, sliced_type, nothing_back, has_length, copies_from, is_printed, make_sizes, selected, field_type, method_value, method_of, index_of, string_element, sliced, converted, conversion, append_call, cap_call, copy_call, delete_call, length_of, len_call, panic_call, print_call, recover_call, make_call, new_call, on_values, builtin_call, call_of}
-use Rattle.go_tree.proofs.GoTypes.Agreeing.{from_both, some_same}
+use Rattle.go_rules.specs.declared.const_eval.kinds.Kind.TheVariants as kind
+use Rattle.go_rules.specs.ConstEval.Exact.{is_text_kind}
+use Rattle.go_rules.specs.ScopeNames.Means.{is_blank}
+use Rattle.go_rules.specs.GoTypes.Answers.{given, both, meets, only_if}
+use Rattle.go_rules.specs.GoTypes.Types.{GoType, basic, base_of, element_of, map_parts}
+use Rattle.go_rules.specs.GoTypes.Defined.{Defined, under, methods}
+use Rattle.go_rules.specs.GoTypes.Relations.{convertible}
+use Rattle.go_rules.specs.GoTypes.Entities.{Builtin, Append, Cap, Copy, Delete, Len, Make, New, Panic, Print, Println, Recover, Content, run, exact, shift, Place, is_exported}
+use Rattle.go_rules.specs.GoTypes.Operands.{Operand, value, several, a_type, a_function, a_builtin, recovered, Typed, typed, all_typed, with_value, plain_value, spread, results_operand, kind_passes, fits, takes_all, settled}
+use Rattle.go_rules.specs.GoTypes.Primary.{sees, find_method, is_addressable, home_of, is_index, lies_in, rise, is_bound, sliced_type, nothing_back, has_length, copies_from, is_printed, make_sizes, selected, field_type, method_value, method_of, index_of, string_element, sliced, converted, conversion, append_call, cap_call, copy_call, delete_call, length_of, len_call, panic_call, print_call, recover_call, make_call, new_call, on_values, builtin_call, call_of}
+use Rattle.go_rules.proofs.GoTypes.Agreeing.{from_both, some_same}
 
 -- ---- constants, types and predeclared functions
 

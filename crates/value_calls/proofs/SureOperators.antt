@@ -4,16 +4,16 @@ use Rattle.go_tree.specs.declared.operators.UnOp.{UnOp}
 use Rattle.go_tree.specs.declared.operators.UnOp.TheVariants.{Plus, Minus, Not, Flip, Address}
 use Rattle.go_tree.specs.declared.operators.BinOp.{BinOp}
 use Rattle.go_tree.specs.declared.operators.BinOp.TheVariants as op
-use Rattle.go_tree.specs.declared.const_eval.kinds.Kind.{Kind}
-use Rattle.go_tree.specs.declared.const_eval.kinds.Kind.TheVariants as kind
-use Rattle.go_tree.specs.ConstEval.Conditions.{unary_applies, binary_applies, is_number_kind}
-use Rattle.go_tree.specs.ConstEval.Operators.{is_comparison}
-use Rattle.go_tree.specs.GoTypes.Answers.{given, both, only_if}
-use Rattle.go_tree.specs.GoTypes.Types.{GoType, basic, named_type, pointer_to, slice_of, map_of, struct_of, tuple_of, untyped, untyped_nil, is_nil, base_of}
-use Rattle.go_tree.specs.GoTypes.Defined.{Defined, under}
-use Rattle.go_tree.specs.GoTypes.Entities.{Content, run, exact, shift, Place}
-use Rattle.go_tree.specs.GoTypes.Operands.{Operand, value, several, a_type, a_function, a_builtin, recovered, Typed, typed, with_value, leaves, kind_of, kind_passes}
-use Rattle.go_tree.specs.GoTypes.Operators.{a_comparison, divides_by_zero, has_address, common_type, joins, compared_at, joins_comparison, comparison_applies, is_count, is_equality, address_of, not_constant, calculated_operand, arithmetic, truth_operand, logic, comparison, shifted_operand, shifting, binary_value_operand, recover_compared, binary_of, changed_operand, unary_value_operand, unary_of, star_of}
+use Rattle.go_rules.specs.declared.const_eval.kinds.Kind.{Kind}
+use Rattle.go_rules.specs.declared.const_eval.kinds.Kind.TheVariants as kind
+use Rattle.go_rules.specs.ConstEval.Conditions.{unary_applies, binary_applies, is_number_kind}
+use Rattle.go_rules.specs.ConstEval.Operators.{is_comparison}
+use Rattle.go_rules.specs.GoTypes.Answers.{given, both, only_if}
+use Rattle.go_rules.specs.GoTypes.Types.{GoType, basic, named_type, pointer_to, slice_of, map_of, struct_of, tuple_of, untyped, untyped_nil, is_nil, base_of}
+use Rattle.go_rules.specs.GoTypes.Defined.{Defined, under}
+use Rattle.go_rules.specs.GoTypes.Entities.{Content, run, exact, shift, Place}
+use Rattle.go_rules.specs.GoTypes.Operands.{Operand, value, several, a_type, a_function, a_builtin, recovered, Typed, typed, with_value, leaves, kind_of, kind_passes}
+use Rattle.go_rules.specs.GoTypes.Operators.{a_comparison, divides_by_zero, has_address, common_type, joins, compared_at, joins_comparison, comparison_applies, is_count, is_equality, address_of, not_constant, calculated_operand, arithmetic, truth_operand, logic, comparison, shifted_operand, shifting, binary_value_operand, recover_compared, binary_of, changed_operand, unary_value_operand, unary_of, star_of}
 use Rattle.value_calls.proofs.Sure.{is_exact, sure, Sure, given-sure, both-sure, only-sure, plain-not, only-plain, typed-sure}
 
 module _ (ds : List Defined) where

@@ -4,7 +4,7 @@ use Rattle.std.specs.Prelude.{slice_get}
 use Rattle.go_tree.specs.Tree.{call}
 use Rattle.go_tree.specs.File.{Decl, values, types, func}
 use Rattle.go_tree.specs.declared.spans.Span.{Span}
-use Rattle.go_tree.specs.GoTypes.WellTyped.{well_typed}
+use Rattle.go_rules.specs.GoTypes.WellTyped.{well_typed}
 use Rattle.pkg_graph.specs.Package.{Package}
 use Rattle.order_runs.proofs.CycleRuns.StepCycles.StepAlike.{found-placed}
 use Rattle.order_runs.specs.CycleRuns.OrderCycles.Orders.{AllOrdered}

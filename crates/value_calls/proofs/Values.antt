@@ -5,23 +5,23 @@ use Rattle.std.proofs.Common.{arith}
 use Rattle.std.proofs.lemmas.Option.{same_Some}
 use Rattle.go_tree.specs.Tree.{NameAt, TypeExpr, Exprs, no_exprs, expr_and, const_decl, var_decl, empty, eval, step, assign, define, return_, break_, continue_, inner, if_, for_, range_, switch, defer, label, ValueSpecs, no_specs, spec}
 use Rattle.go_tree.specs.File.{TypeSpec, Func, Decl, values, types, func, File}
-use Rattle.go_tree.specs.ScopeNames.FreeNames.{names_of}
+use Rattle.go_rules.specs.ScopeNames.FreeNames.{names_of}
 use Rattle.pkg_graph.specs.Package.{SourceTree, Package}
-use Rattle.go_tree.specs.GoTypes.Answers.{given, both, meets, only_if}
-use Rattle.go_tree.specs.GoTypes.Types.{GoType}
-use Rattle.go_tree.specs.GoTypes.Entities.{Entity, variable, run, exact, shift, Env, Binds}
-use Rattle.go_tree.specs.GoTypes.TypeNames.{written_type}
-use Rattle.go_tree.specs.GoTypes.Operands.{Operand, value, several, a_type, a_function, a_builtin, recovered, Typed, typed, all_typed}
-use Rattle.go_tree.specs.GoTypes.Declarations.{bind_all, bind_each, constant_entity, variable_entity}
-use Rattle.go_tree.specs.ScopeNames.Means.{binding}
-use Rattle.go_tree.specs.GoTypes.Bodiless.{all_bodiless}
-use Rattle.go_tree.specs.GoTypes.Bodies.{no_values}
-use Rattle.go_tree.specs.GoTypes.Typing.{parts, all_parts}
-use Rattle.go_tree.specs.GoTypes.Programs.{Header, constants, variables, headed, headed_package, constant_headers, variable_headers, at_member, block_names, file_env}
-use Rattle.go_tree.specs.GoTypes.Collect.{DeclaredTypes, types_declared, package_constants, package_variables}
-use Rattle.go_tree.specs.GoTypes.Initial.{is_initial, all_initial}
-use Rattle.go_tree.specs.GoTypes.WellTyped.{well_typed}
-use Rattle.go_tree.proofs.GoTypes.Agreeing.{from_given, from_both, from_only, some_same}
+use Rattle.go_rules.specs.GoTypes.Answers.{given, both, meets, only_if}
+use Rattle.go_rules.specs.GoTypes.Types.{GoType}
+use Rattle.go_rules.specs.GoTypes.Entities.{Entity, variable, run, exact, shift, Env, Binds}
+use Rattle.go_rules.specs.GoTypes.TypeNames.{written_type}
+use Rattle.go_rules.specs.GoTypes.Operands.{Operand, value, several, a_type, a_function, a_builtin, recovered, Typed, typed, all_typed}
+use Rattle.go_rules.specs.GoTypes.Declarations.{bind_all, bind_each, constant_entity, variable_entity}
+use Rattle.go_rules.specs.ScopeNames.Means.{binding}
+use Rattle.go_rules.specs.GoTypes.Bodiless.{all_bodiless}
+use Rattle.go_rules.specs.GoTypes.Bodies.{no_values}
+use Rattle.go_rules.specs.GoTypes.Typing.{parts, all_parts}
+use Rattle.go_rules.specs.GoTypes.Programs.{Header, constants, variables, headed, headed_package, constant_headers, variable_headers, at_member, block_names, file_env}
+use Rattle.go_rules.specs.GoTypes.Collect.{DeclaredTypes, types_declared, package_constants, package_variables}
+use Rattle.go_rules.specs.GoTypes.Initial.{is_initial, all_initial}
+use Rattle.go_rules.specs.GoTypes.WellTyped.{well_typed}
+use Rattle.go_rules.proofs.GoTypes.Agreeing.{from_given, from_both, from_only, some_same}
 use Rattle.typed_in_place.specs.ProgramReplaced.{All, all_and}
 use Rattle.constant_steps.specs.StepLaws.DeclStands.{AtNth}
 use Rattle.constant_steps.specs.StepLaws.PartsTyped.{HeaderTyped}

@@ -3,9 +3,9 @@
 use Rattle.std.specs.Prelude.{◌≡◌, List, [], ◌∷◌, Some}
 use Rattle.go_tree.specs.declared.exprs.Rest.{Rest}
 use Rattle.go_tree.specs.Tree.{Expr, Exprs, call}
-use Rattle.go_tree.specs.GoTypes.Types.{FuncType}
-use Rattle.go_tree.specs.GoTypes.Operands.{a_function}
-use Rattle.go_tree.specs.GoTypes.Typing.{parts}
+use Rattle.go_rules.specs.GoTypes.Types.{FuncType}
+use Rattle.go_rules.specs.GoTypes.Operands.{a_function}
+use Rattle.go_rules.specs.GoTypes.Typing.{parts}
 use Rattle.run_rules.specs.Surroundings.{Seen, seen}
 use Rattle.run_rules.specs.FormTrees.{Form, as_expr, as_type}
 use Rattle.run_rules.specs.Sites.{Site, an_expr}

@@ -4,13 +4,13 @@ use mathlib.Core.Path.{ap, sym, ◌∙◌, subst}
 use Rattle.std.proofs.Common.{arith, inl, inr}
 use Rattle.std.proofs.lemmas.Slice.Eq.{bytes_eq-Decides}
 use Rattle.go_tree.specs.declared.spans.Span.{Span}
-use Rattle.go_tree.specs.ScopeNames.Means.{Environment, means, or_else, is_blank}
-use Rattle.go_tree.specs.GoTypes.Answers.{given, meets, only_if, is_among}
-use Rattle.go_tree.specs.GoTypes.Entities.{Entity, refused, World, block_of, Binds}
-use Rattle.go_tree.specs.GoTypes.Declarations.{bind_each}
-use Rattle.go_tree.specs.GoTypes.Programs.{Header, constants, variables, a_type_spec, a_func, Headed, header_names, Program, headed}
-use Rattle.go_tree.specs.GoTypes.TypeDeclarations.{DeclaredTypes}
-use Rattle.go_tree.specs.GoTypes.Collect.{good_entity, declared_by, entity_binds, binds_or_refused, block_by, blocks_by, types_declared, typed_world, valued_world}
+use Rattle.go_rules.specs.ScopeNames.Means.{Environment, means, or_else, is_blank}
+use Rattle.go_rules.specs.GoTypes.Answers.{given, meets, only_if, is_among}
+use Rattle.go_rules.specs.GoTypes.Entities.{Entity, refused, World, block_of, Binds}
+use Rattle.go_rules.specs.GoTypes.Declarations.{bind_each}
+use Rattle.go_rules.specs.GoTypes.Programs.{Header, constants, variables, a_type_spec, a_func, Headed, header_names, Program, headed}
+use Rattle.go_rules.specs.GoTypes.TypeDeclarations.{DeclaredTypes}
+use Rattle.go_rules.specs.GoTypes.Collect.{good_entity, declared_by, entity_binds, binds_or_refused, block_by, blocks_by, types_declared, typed_world, valued_world}
 use Rattle.typed_names.proofs.NameLaws.{turned}
 use Rattle.typed_in_place.specs.Known.{Clearer, as_before}
 use Rattle.typed_in_place.specs.Declared.{FirstWith, this_one, a_later_one, HasNumber}

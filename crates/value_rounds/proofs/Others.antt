@@ -3,15 +3,15 @@ use Rattle.std.specs.Prelude.{◌≡◌, refl, ℕ, Bool, true, false, not, ◌&
 use mathlib.Core.Path.{ap, ap₂, sym, ◌∙◌}
 use Rattle.go_tree.specs.declared.spans.Span.{Span}
 use Rattle.go_tree.specs.File.{TypeSpec, Receiver, Func}
-use Rattle.go_tree.specs.ScopeNames.Means.{Environment, means, binding, is_blank}
-use Rattle.go_tree.specs.GoTypes.Answers.{given, meets, only_if, otherwise, is_among}
-use Rattle.go_tree.specs.GoTypes.Types.{named_type}
-use Rattle.go_tree.specs.GoTypes.Entities.{Entity, refused, World, block_of, Binds}
-use Rattle.go_tree.specs.GoTypes.TypeNames.{resolved}
-use Rattle.go_tree.specs.GoTypes.Declarations.{bind_each}
-use Rattle.go_tree.specs.GoTypes.Programs.{Header, constants, variables, a_type_spec, a_func, Headed, header_names, Program, headed, env_of}
-use Rattle.go_tree.specs.GoTypes.TypeDeclarations.{DeclaredTypes, is_finite}
-use Rattle.go_tree.specs.GoTypes.Collect.{type_entity, good_entity, declared_by, entity_binds, binds_or_refused, blocks_by, types_declared, typed_world, valued_world}
+use Rattle.go_rules.specs.ScopeNames.Means.{Environment, means, binding, is_blank}
+use Rattle.go_rules.specs.GoTypes.Answers.{given, meets, only_if, otherwise, is_among}
+use Rattle.go_rules.specs.GoTypes.Types.{named_type}
+use Rattle.go_rules.specs.GoTypes.Entities.{Entity, refused, World, block_of, Binds}
+use Rattle.go_rules.specs.GoTypes.TypeNames.{resolved}
+use Rattle.go_rules.specs.GoTypes.Declarations.{bind_each}
+use Rattle.go_rules.specs.GoTypes.Programs.{Header, constants, variables, a_type_spec, a_func, Headed, header_names, Program, headed, env_of}
+use Rattle.go_rules.specs.GoTypes.TypeDeclarations.{DeclaredTypes, is_finite}
+use Rattle.go_rules.specs.GoTypes.Collect.{type_entity, good_entity, declared_by, entity_binds, binds_or_refused, blocks_by, types_declared, typed_world, valued_world}
 use Rattle.typed_in_place.proofs.Blocks.{Fits}
 use Rattle.typed_in_place.proofs.Headers.{declared_in, good_in, type_phase, value_phase}
 use Rattle.typed_in_place.proofs.Collected.{typed_settled, valued_settled}

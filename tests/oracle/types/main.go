@@ -1,4 +1,4 @@
-// Compares the examples of typing in crates/go_tree/proofs/GoTypes/Typed*.antt with go/types: each names its Go text in the
+// Compares the examples of typing in crates/go_rules/proofs/GoTypes/Typed*.antt with go/types: each names its Go text in the
 // comment above it, and says whether it is typed. Run it at the top of the repository, with Go 1.19:
 //
 //	go run tests/oracle/types/main.go
@@ -229,7 +229,7 @@ func profile(path string) map[string]string {
 }
 
 func main() {
-	paths, _ := filepath.Glob("crates/go_tree/proofs/GoTypes/Typed*.antt")
+	paths, _ := filepath.Glob("crates/go_rules/proofs/GoTypes/Typed*.antt")
 	reasons := profile("tests/oracle/types/profile.txt")
 	around, beside := library(settingLib), library(programLib)
 	alike, own, other := 0, 0, 0

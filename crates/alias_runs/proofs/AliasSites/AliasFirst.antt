@@ -6,15 +6,15 @@ use Rattle.std.proofs.Common.{arith}
 use Rattle.std.proofs.lemmas.Slice.Eq.{bytes_eq-Decides}
 use Rattle.go_tree.specs.Tree.{NameAt, TypeExpr, Exprs, no_exprs, expr_and, const_decl, var_decl, empty, eval, step, assign, define, return_, break_, continue_, inner, if_, for_, range_, switch, defer, label, ValueSpecs, no_specs, spec}
 use Rattle.go_tree.specs.File.{TypeSpec, Receiver, Func, Decl, values, types, func}
-use Rattle.go_tree.specs.ScopeNames.Means.{Environment, means, is_blank, binding, or_else}
-use Rattle.go_tree.specs.ScopeNames.FreeNames.{names_of}
+use Rattle.go_rules.specs.ScopeNames.Means.{Environment, means, is_blank, binding, or_else}
+use Rattle.go_rules.specs.ScopeNames.FreeNames.{names_of}
 use Rattle.pkg_graph.specs.Members.{Target, member, specs_names, unless_method, block_names, items_from, decls_from}
-use Rattle.go_tree.specs.GoTypes.Answers.{is_among, given, distinct_by}
-use Rattle.go_tree.specs.GoTypes.Entities.{Entity}
-use Rattle.go_tree.specs.GoTypes.Declarations.{names_once}
-use Rattle.go_tree.specs.GoTypes.Programs as typed
-use Rattle.go_tree.specs.GoTypes.Programs.{Header, a_type_spec, Headed, SourceFile, SourcePackage, Program, headers, all_headers, constant_headers, variable_headers, header_names, names_in, header_sound, headed_file, headed_files, headed_package, headed, file_block, at_member, is_init, is_main}
-use Rattle.go_tree.proofs.GoTypes.Agreeing.{some_same}
+use Rattle.go_rules.specs.GoTypes.Answers.{is_among, given, distinct_by}
+use Rattle.go_rules.specs.GoTypes.Entities.{Entity}
+use Rattle.go_rules.specs.GoTypes.Declarations.{names_once}
+use Rattle.go_rules.specs.GoTypes.Programs as typed
+use Rattle.go_rules.specs.GoTypes.Programs.{Header, a_type_spec, Headed, SourceFile, SourcePackage, Program, headers, all_headers, constant_headers, variable_headers, header_names, names_in, header_sound, headed_file, headed_files, headed_package, headed, file_block, at_member, is_init, is_main}
+use Rattle.go_rules.proofs.GoTypes.Agreeing.{some_same}
 use Rattle.typed_in_place.specs.Declared.{FirstWith, this_one, a_later_one, HasNumber}
 use Rattle.typed_in_place.specs.Declared as typing
 use Rattle.form_meaning.proofs.FormInPlace.Uses.{among_append}

@@ -4,10 +4,10 @@ use Rattle.std.specs.Prelude.{◌≡◌, refl, ℕ, List, [], ◌++◌, Some, No
 use mathlib.Core.Path.{ap, sym, ◌∙◌, subst}
 use Rattle.go_tree.specs.Tree.{NameAt, named}
 use Rattle.go_tree.specs.File.{TypeSpec}
-use Rattle.go_tree.specs.ScopeNames.Means.{Environment, means, or_else}
-use Rattle.go_tree.specs.GoTypes.Entities.{Entity, type_of_name, World, universe, block_of, meaning}
-use Rattle.go_tree.specs.GoTypes.Programs.{Headed, Program, headed}
-use Rattle.go_tree.specs.GoTypes.Collect.{env_of, file_env}
+use Rattle.go_rules.specs.ScopeNames.Means.{Environment, means, or_else}
+use Rattle.go_rules.specs.GoTypes.Entities.{Entity, type_of_name, World, universe, block_of, meaning}
+use Rattle.go_rules.specs.GoTypes.Programs.{Headed, Program, headed}
+use Rattle.go_rules.specs.GoTypes.Collect.{env_of, file_env}
 use Rattle.typed_in_place.specs.Aliases.{SameText, same_name, DeclaresAlias}
 use Rattle.typed_in_place.proofs.DeclaredAliases.{alias_means}
 use Rattle.constant_steps.proofs.WrittenLiteral.NamesMeant.{means_join}

@@ -4,14 +4,14 @@ use mathlib.Core.Path.{ap, sym, ◌∙◌}
 use Rattle.std.proofs.Common.{arith}
 use Rattle.go_tree.specs.Tree.{named}
 use Rattle.go_tree.specs.File.{ImportSpec}
-use Rattle.go_tree.specs.ScopeNames.Means.{Environment, means, is_blank, or_else, numbered}
-use Rattle.go_tree.specs.ScopeNames.Means as names
+use Rattle.go_rules.specs.ScopeNames.Means.{Environment, means, is_blank, or_else, numbered}
+use Rattle.go_rules.specs.ScopeNames.Means as names
 use Rattle.pkg_graph.specs.Package.{Package, import_specs}
 use Rattle.pkg_graph.specs.Members.{Target, local, imported, member, predeclared, package_block, import_name}
-use Rattle.go_tree.specs.GoTypes.Entities.{Entity, World}
-use Rattle.go_tree.specs.GoTypes.Programs.{SourcePackage, Program, file_block, block_names, import_sound, import_entity}
-use Rattle.go_tree.specs.GoTypes.Collect.{file_env}
-use Rattle.go_tree.proofs.GoTypes.Agreeing.{some_same}
+use Rattle.go_rules.specs.GoTypes.Entities.{Entity, World}
+use Rattle.go_rules.specs.GoTypes.Programs.{SourcePackage, Program, file_block, block_names, import_sound, import_entity}
+use Rattle.go_rules.specs.GoTypes.Collect.{file_env}
+use Rattle.go_rules.proofs.GoTypes.Agreeing.{some_same}
 use Rattle.constant_steps.proofs.WrittenLiteral.NamesMeant.{means_join}
 use Rattle.run_rules.specs.Surroundings.{Place, is_local}
 use Rattle.run_rules.specs.Programs.{linked_file, linked_import, linked_imports, package_number}

@@ -5,21 +5,21 @@ use Rattle.std.proofs.Common.{arith}
 use Rattle.std.proofs.lemmas.Slice.Eq.{bytes_eq-Decides}
 use Rattle.go_tree.specs.Tree.{NameAt, TypeExpr, named, pointer, slice_type, map_type, struct_type, Fields, no_fields, field, Expr, composite, Stmt, const_decl, var_decl, ValueSpecs, no_specs, spec, empty, eval, step, assign, define, return_, break_, continue_, inner, if_, for_, range_, switch, defer, label}
 use Rattle.go_tree.specs.File.{TypeSpec, Receiver, Decl, values, types, func, File}
-use Rattle.go_tree.specs.ScopeNames.Means.{Environment, means, is_blank}
+use Rattle.go_rules.specs.ScopeNames.Means.{Environment, means, is_blank}
 use Rattle.pkg_graph.specs.Package.{Package}
 use Rattle.pkg_graph.specs.Members.{member, specs_names, unless_method, block_names, items_from, decls_from}
-use Rattle.go_tree.specs.GoTypes.Entities.{Entity, World, Env}
-use Rattle.go_tree.specs.GoTypes.TypeNames.{resolved}
-use Rattle.go_tree.specs.GoTypes.Programs as typed
-use Rattle.go_tree.specs.GoTypes.Programs.{SourceFile, SourcePackage, Program, headed, file_block}
-use Rattle.go_tree.specs.GoTypes.Collect.{file_env, aliased_world}
-use Rattle.go_tree.proofs.GoTypes.Agreeing.{some_same}
+use Rattle.go_rules.specs.GoTypes.Entities.{Entity, World, Env}
+use Rattle.go_rules.specs.GoTypes.TypeNames.{resolved}
+use Rattle.go_rules.specs.GoTypes.Programs as typed
+use Rattle.go_rules.specs.GoTypes.Programs.{SourceFile, SourcePackage, Program, headed, file_block}
+use Rattle.go_rules.specs.GoTypes.Collect.{file_env, aliased_world}
+use Rattle.go_rules.proofs.GoTypes.Agreeing.{some_same}
 use Rattle.typed_in_place.specs.Aliases.{TypesEnd}
 use Rattle.typed_in_place.specs.Aliases as ends
 use Rattle.typed_in_place.specs.ProgramReplaced.{ValuesEnd, after_names, after_values, at_last}
 use Rattle.run_rules.specs.FormTrees.{Form, as_type}
 use Rattle.run_rules.specs.Surroundings.{Place, Use, Seen, seen, seen_type, seen_stmt, plain_slot, after_constants, repeated_by, is_local}
-use Rattle.go_tree.specs.GoTypes.Typing.{Repeated, nothing_to_repeat}
+use Rattle.go_rules.specs.GoTypes.Typing.{Repeated, nothing_to_repeat}
 use Rattle.run_rules.specs.Programs.{linked_file, linked_imports, top_place, types_at_top, decl_seen}
 use Rattle.run_rules.specs.Rewriting.{Changes}
 use Rattle.run_rules.specs.Sites.{MarkRef, Site, part_span}
@@ -39,7 +39,7 @@ use Rattle.alias_runs.proofs.AliasSteps.AliasNamed.{alias-resolved, alias-use}
 use Rattle.alias_runs.proofs.AliasSteps.PlainAliasForms.{alias-clear, alias-name-free}
 use Rattle.alias_runs.proofs.AliasSteps.AliasStepLaw.{alias-step-means-the-same}
 use Rattle.std.specs.List.{list_all}
-use Rattle.go_tree.specs.GoTypes.Collect.{collected}
+use Rattle.go_rules.specs.GoTypes.Collect.{collected}
 use Rattle.typed_in_place.specs.ImportRule.{package_imports}
 use Rattle.go_translation.specs.Packages as translated
 use Rattle.go_translation.specs.Packages.{sources}

@@ -4,15 +4,15 @@ use Rattle.std.specs.Prelude.{◌≡◌, refl, ℕ, suc, Bool, true, List, [], �
 use mathlib.Core.Path.{ap, sym, ◌∙◌, subst}
 use Rattle.go_tree.specs.Tree.{NameAt, TypeExpr, Exprs, no_exprs, expr_and, const_decl, var_decl, empty, eval, step, assign, define, return_, break_, continue_, inner, if_, for_, range_, switch, defer, label, ValueSpecs, no_specs, spec}
 use Rattle.go_tree.specs.File.{TypeSpec, Func, Decl, values, types, func, File}
-use Rattle.go_tree.specs.ScopeNames.Means.{Environment}
-use Rattle.go_tree.specs.ScopeNames.FreeNames.{names_of, sig_names}
+use Rattle.go_rules.specs.ScopeNames.Means.{Environment}
+use Rattle.go_rules.specs.ScopeNames.FreeNames.{names_of, sig_names}
 use Rattle.pkg_graph.specs.Package.{Package}
-use Rattle.go_tree.specs.GoTypes.Answers.{is_among}
-use Rattle.go_tree.specs.GoTypes.Entities.{Entity, World, Env}
-use Rattle.go_tree.specs.GoTypes.TypeNames.{resolved}
-use Rattle.go_tree.specs.GoTypes.Programs.{Header, constants, a_type_spec, a_func, Headed, headers, constant_headers, variable_headers, at_member}
-use Rattle.go_tree.specs.GoTypes.Collect.{file_env}
-use Rattle.go_tree.specs.GoTypes.WellTyped.{receiver_names}
+use Rattle.go_rules.specs.GoTypes.Answers.{is_among}
+use Rattle.go_rules.specs.GoTypes.Entities.{Entity, World, Env}
+use Rattle.go_rules.specs.GoTypes.TypeNames.{resolved}
+use Rattle.go_rules.specs.GoTypes.Programs.{Header, constants, a_type_spec, a_func, Headed, headers, constant_headers, variable_headers, at_member}
+use Rattle.go_rules.specs.GoTypes.Collect.{file_env}
+use Rattle.go_rules.specs.GoTypes.WellTyped.{receiver_names}
 use Rattle.typed_in_place.specs.Replaced.{TypeReplaced}
 use Rattle.typed_in_place.specs.ProgramsAlike.{OneByOne, no_more, and_more}
 use Rattle.typed_in_place.specs.HeaderReplaced.{SameReceiver}

@@ -5,13 +5,13 @@ use mathlib.Core.Path.{ap, sym, ◌∙◌}
 use Rattle.std.proofs.Common.{arith}
 use Rattle.std.proofs.lemmas.Slice.Eq.{bytes_eq-Decides}
 use Rattle.go_tree.specs.Tree.{TypeExpr, named, pointer, slice_type, map_type, struct_type, Fields, no_fields, field, Expr}
-use Rattle.go_tree.specs.ScopeNames.FreeNames.{free_type, free_fields}
-use Rattle.go_tree.specs.GoTypes.Answers.{given, both, only_if, is_among}
-use Rattle.go_tree.specs.GoTypes.Types.{GoType, pointer_to, slice_of, map_of, struct_of}
-use Rattle.go_tree.specs.GoTypes.Defined.{has_keys}
-use Rattle.go_tree.specs.GoTypes.Entities.{Entity, type_of_name, Env, meaning, exported, package_of}
-use Rattle.go_tree.specs.GoTypes.TypeNames.{resolved, resolved_fields, field_before, type_meant}
-use Rattle.go_tree.specs.GoTypes.Typing.{used}
+use Rattle.go_rules.specs.ScopeNames.FreeNames.{free_type, free_fields}
+use Rattle.go_rules.specs.GoTypes.Answers.{given, both, only_if, is_among}
+use Rattle.go_rules.specs.GoTypes.Types.{GoType, pointer_to, slice_of, map_of, struct_of}
+use Rattle.go_rules.specs.GoTypes.Defined.{has_keys}
+use Rattle.go_rules.specs.GoTypes.Entities.{Entity, type_of_name, Env, meaning, exported, package_of}
+use Rattle.go_rules.specs.GoTypes.TypeNames.{resolved, resolved_fields, field_before, type_meant}
+use Rattle.go_rules.specs.GoTypes.Typing.{used}
 use Rattle.form_meaning.proofs.FormInPlace.Uses.{among_left}
 use Rattle.typed_in_place.specs.SameFacts.{NoneAround, SameType}
 use Rattle.typed_in_place.specs.Leaves.{Names, plain_name, qualified_name, NamesType, type_by_star}

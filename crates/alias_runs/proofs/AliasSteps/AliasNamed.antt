@@ -5,13 +5,13 @@ use mathlib.Core.Path.{ap, sym, ◌∙◌}
 use Rattle.std.proofs.Common.{arith}
 use Rattle.go_tree.specs.Tree.{NameAt, TypeExpr, named, Expr}
 use Rattle.go_tree.specs.File.{TypeSpec}
-use Rattle.go_tree.specs.ScopeNames.Means.{means, is_blank}
-use Rattle.go_tree.specs.ScopeNames.FreeNames.{free_type, named_use}
-use Rattle.go_tree.specs.GoTypes.Types.{GoType}
-use Rattle.go_tree.specs.GoTypes.Entities.{Entity, type_of_name, World, Env, block_of}
-use Rattle.go_tree.specs.GoTypes.TypeNames.{resolved, type_meant}
-use Rattle.go_tree.specs.GoTypes.Programs.{Headed, Program, headed}
-use Rattle.go_tree.specs.GoTypes.Collect.{env_of, aliased_world}
+use Rattle.go_rules.specs.ScopeNames.Means.{means, is_blank}
+use Rattle.go_rules.specs.ScopeNames.FreeNames.{free_type, named_use}
+use Rattle.go_rules.specs.GoTypes.Types.{GoType}
+use Rattle.go_rules.specs.GoTypes.Entities.{Entity, type_of_name, World, Env, block_of}
+use Rattle.go_rules.specs.GoTypes.TypeNames.{resolved, type_meant}
+use Rattle.go_rules.specs.GoTypes.Programs.{Headed, Program, headed}
+use Rattle.go_rules.specs.GoTypes.Collect.{env_of, aliased_world}
 use Rattle.typed_in_place.specs.SameFacts.{NoneAround, SameType}
 use Rattle.typed_in_place.specs.Leaves.{Names}
 use Rattle.typed_in_place.specs.Aliases.{DeclaresAlias, TypesEnd, after_types, after_names, after_values, at_last}

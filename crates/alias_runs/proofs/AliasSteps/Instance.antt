@@ -8,14 +8,14 @@ use Rattle.std.proofs.lemmas.Slice.Eq.{bytes_eq-Decides}
 use Rattle.go_tree.specs.declared.exprs.Rest.TheVariants.{Plain}
 use Rattle.go_tree.specs.Tree.{NameAt, TypeExpr, named, Expr, ident, call, no_exprs, expr_and, return_, no_stmts, stmt_and}
 use Rattle.go_tree.specs.File.{Decl, types, func, File}
-use Rattle.go_tree.specs.ScopeNames.Means.{is_blank}
+use Rattle.go_rules.specs.ScopeNames.Means.{is_blank}
 use Rattle.pkg_graph.specs.Package as run
-use Rattle.go_tree.specs.GoTypes.Types.{GoType, named_type}
-use Rattle.go_tree.specs.GoTypes.Entities.{type_name, World, Env, meaning}
-use Rattle.go_tree.specs.GoTypes.TypeNames.{type_meant}
-use Rattle.go_tree.specs.GoTypes.Programs.{Program}
-use Rattle.go_tree.specs.GoTypes.Collect.{file_env}
-use Rattle.go_tree.specs.GoTypes.WellTyped.{well_typed}
+use Rattle.go_rules.specs.GoTypes.Types.{GoType, named_type}
+use Rattle.go_rules.specs.GoTypes.Entities.{type_name, World, Env, meaning}
+use Rattle.go_rules.specs.GoTypes.TypeNames.{type_meant}
+use Rattle.go_rules.specs.GoTypes.Programs.{Program}
+use Rattle.go_rules.specs.GoTypes.Collect.{file_env}
+use Rattle.go_rules.specs.GoTypes.WellTyped.{well_typed}
 use Rattle.typed_in_place.specs.Leaves.{plain_name}
 use Rattle.typed_in_place.specs.ProgramReplaced.{ValuesEnd, after_names, after_values, at_last, all_of_none}
 use Rattle.typed_in_place.proofs.ProgramsReplaced.{stays_well_typed_beside}

@@ -4,10 +4,10 @@ use Rattle.std.specs.Prelude.{◌≡◌, refl, ℕ, Bool, true, false, not, ◌&
 use mathlib.Core.Path.{ap, sym, ◌∙◌, subst}
 use Rattle.std.proofs.Common.{arith}
 use Rattle.go_tree.specs.Tree.{TypeExpr, named}
-use Rattle.go_tree.specs.ScopeNames.Means.{means}
+use Rattle.go_rules.specs.ScopeNames.Means.{means}
 use Rattle.pkg_graph.specs.Package.{Package}
 use Rattle.pkg_graph.specs.Members.{Target}
-use Rattle.go_tree.specs.GoTypes.Answers.{given, one_of}
+use Rattle.go_rules.specs.GoTypes.Answers.{given, one_of}
 use Rattle.run_rules.specs.Surroundings.{Place, Seen, seen_type, is_local}
 use Rattle.run_rules.specs.Sites.{MarkRef, Part, an_expr, a_type_part, Site, part_span, mark_of, outer, outer_meaning}
 use Rattle.run_rules.specs.Naming.{Names, names_by, named_packages, unnamed, unnamed_in, qualified}

@@ -1,10 +1,10 @@
 -- A program with types written otherwise stands in place of the one before, beside further packages.
 use Rattle.std.specs.Prelude.{refl, ℕ, Bool, List, [], ◌∷◌, Option, Some, None}
 use Rattle.go_tree.specs.File.{Func}
-use Rattle.go_tree.specs.ScopeNames.Means.{Environment}
-use Rattle.go_tree.specs.GoTypes.Entities.{Entity, World, Env}
-use Rattle.go_tree.specs.GoTypes.Programs.{Header, constants, variables, a_type_spec, a_func, SourceFile, Program, headed}
-use Rattle.go_tree.specs.GoTypes.Collect.{file_env}
+use Rattle.go_rules.specs.ScopeNames.Means.{Environment}
+use Rattle.go_rules.specs.GoTypes.Entities.{Entity, World, Env}
+use Rattle.go_rules.specs.GoTypes.Programs.{Header, constants, variables, a_type_spec, a_func, SourceFile, Program, headed}
+use Rattle.go_rules.specs.GoTypes.Collect.{file_env}
 use Rattle.go_tree.specs.Tree.{NameAt, Param, TypeExpr}
 use Rattle.typed_in_place.specs.Replaced.{TypeOptionReplaced, no_type, some_type, same_type, SameName, no_name, one_name, ParamsReplaced, no_params, in_param}
 use Rattle.typed_in_place.proofs.Leaves.{type_itself, exprs_themselves}

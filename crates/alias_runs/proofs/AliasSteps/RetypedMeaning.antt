@@ -3,11 +3,11 @@
 use Rattle.std.specs.Prelude.{◌≡◌, refl, ℕ, Bool, true, false, not, ◌&&◌, ◌||◌, List, [], ◌∷◌, ◌++◌, map, length}
 use Rattle.std.specs.List.{list_all, list_any}
 use mathlib.Core.Path.{ap, ap₂, sym, ◌∙◌, subst}
-use Rattle.go_tree.specs.ScopeNames.Means.{Environment}
-use Rattle.go_tree.specs.GoTypes.Entities.{Entity, World}
-use Rattle.go_tree.specs.GoTypes.Programs.{Header, Headed, SourceFile, SourcePackage, headed, headed_package}
-use Rattle.go_tree.specs.GoTypes.Collect.{collected}
-use Rattle.go_tree.specs.GoTypes.WellTyped.{well_typed}
+use Rattle.go_rules.specs.ScopeNames.Means.{Environment}
+use Rattle.go_rules.specs.GoTypes.Entities.{Entity, World}
+use Rattle.go_rules.specs.GoTypes.Programs.{Header, Headed, SourceFile, SourcePackage, headed, headed_package}
+use Rattle.go_rules.specs.GoTypes.Collect.{collected}
+use Rattle.go_rules.specs.GoTypes.WellTyped.{well_typed}
 use Rattle.go_kernel.specs.Kernel.{ImportPath, FuncName, Let}
 use Rattle.typed_in_place.specs.ImportRule.{package_imports}
 use Rattle.typed_in_place.specs.ProgramsAlike.{OneByOne, no_more, and_more}

@@ -4,18 +4,18 @@ use mathlib.Core.Path.{ap, sym, ◌∙◌, subst}
 use Rattle.go_tree.specs.declared.exprs.Rest.{Rest}
 use Rattle.go_tree.specs.declared.operators.BinOp.{BinOp}
 use Rattle.go_tree.specs.declared.operators.BinOp.TheVariants.{Mul, Div, Rem, Shl, Shr, And, AndNot, Add, Sub, Or, Xor, Eq, Ne, Lt, Le, Gt, Ge, LogAnd, LogOr}
-use Rattle.go_tree.proofs.GoTypes.Agreeing.{some_same}
+use Rattle.go_rules.proofs.GoTypes.Agreeing.{some_same}
 use Rattle.go_tree.specs.Tree.{NameAt, Expr, ident, int_lit, rune_lit, str_lit, composite, selector, index, slice, call, func_lit, type_operand, unary, binary, star, Exprs, no_exprs, expr_and, ExprOption, no_expr, some_expr, Elems, no_elems, elem, Value, plain, braced, ValueOption, no_value, some_value, Stmt, const_decl, var_decl, empty, eval, step, assign, define, return_, break_, continue_, inner, if_, for_, range_, switch, defer, label, Stmts, no_stmts, stmt_and, StmtOption, no_stmt, some_stmt, BlockOption, no_block, some_block, RangeLeft, nothing, assigns, defines, Arms, no_arms, arm, Cases, no_cases, case, ValueSpecs, no_specs, spec}
 use Rattle.go_tree.specs.GoWords.Terminals.{level_of}
-use Rattle.go_tree.specs.ScopeNames.FreeNames.{names_of, sig_names, declared, declared_option, defined}
-use Rattle.go_tree.specs.GoTypes.Answers.{given, meets, otherwise}
-use Rattle.go_tree.specs.GoTypes.Types.{GoType}
-use Rattle.go_tree.specs.GoTypes.Defined.{under}
-use Rattle.go_tree.specs.GoTypes.Entities.{Env, defined_in, extend, in_block, Entity}
-use Rattle.go_tree.specs.GoTypes.TypeNames.{type_meant, written_type}
-use Rattle.go_tree.specs.GoTypes.Literals.{is_struct, key_type, inner_type, literal_type}
-use Rattle.go_tree.specs.GoTypes.Statements.{no_values}
-use Rattle.go_tree.specs.GoTypes.Typing.{parts, all_parts, places, declares, declares_first, range_declares, binds_of, literal_env, right_values, labelled, nothing_to_repeat}
+use Rattle.go_rules.specs.ScopeNames.FreeNames.{names_of, sig_names, declared, declared_option, defined}
+use Rattle.go_rules.specs.GoTypes.Answers.{given, meets, otherwise}
+use Rattle.go_rules.specs.GoTypes.Types.{GoType}
+use Rattle.go_rules.specs.GoTypes.Defined.{under}
+use Rattle.go_rules.specs.GoTypes.Entities.{Env, defined_in, extend, in_block, Entity}
+use Rattle.go_rules.specs.GoTypes.TypeNames.{type_meant, written_type}
+use Rattle.go_rules.specs.GoTypes.Literals.{is_struct, key_type, inner_type, literal_type}
+use Rattle.go_rules.specs.GoTypes.Statements.{no_values}
+use Rattle.go_rules.specs.GoTypes.Typing.{parts, all_parts, places, declares, declares_first, range_declares, binds_of, literal_env, right_values, labelled, nothing_to_repeat}
 use Rattle.run_rules.specs.Surroundings.{Slot, Use, whole, stored, updated, called, deferred_call, alone, other, a_slot, Place, Seen, seen, seen_stmt, alike, into_type, head_use, later_uses, arg_uses, unary_use, operand_use, first_operand_use, right_uses, every_use, value_use, return_uses, elem_use, key_use, inner_slot, last_slot, in_slot, callee_place, comma_slot, elem_closed, after_stmt, after_first, block, looping, switching, in_heading, at_stmt, plain_slot, ranged, in_literal, after_variables, seen_type}
 use Rattle.run_rules.specs.Places.{type_seen, written_seen, sig_seen, old_seen, after_arms, expr_seen, all_seen, option_seen, elems_seen, key_seen, value_seen, stmt_seen, stmts_seen, first_seen, block_seen, left_seen, arms_seen, cases_seen, constants_seen, variables_seen}
 use Rattle.run_rules.specs.Rewriting.{Changes, new_all, new_written, new_names, new_label, new_expr, new_option, new_elems, new_key, new_value, new_stmt, new_stmts, new_first, new_block, new_left, new_arms, new_cases, new_variables}
@@ -28,14 +28,14 @@ use Rattle.run_rules.specs.Steps.{changes_for}
 use Rattle.constant_steps.proofs.StepLaws.SpansKept.{value-kept}
 use Rattle.constant_steps.proofs.StepLaws.Walking.{at-callee, sig-walks, written-walks, constants-walk}
 use Rattle.constant_steps.specs.StepLaws.SwapUses.{BracesKnown, KeyKnown, ValueKnown}
-use Rattle.go_tree.specs.GoTypes.Bodiless.{bodiless}
+use Rattle.go_rules.specs.GoTypes.Bodiless.{bodiless}
 use Rattle.typed_in_place.specs.Leaves.{Names, plain_name, qualified_name, NamesType, type_by_name, type_by_text, type_by_star}
 use Rattle.typed_in_place.proofs.TypeLeaves.{same_type_operand}
 use Rattle.alias_runs.specs.AliasTexts.Retyped as retyped
 use Rattle.alias_runs.specs.AliasTexts.Retyped.{PlainType, by_name, by_text, ExprRetyped, same_expr, a_type, in_composite, in_selector, in_index, in_slice, in_conversion, in_call, in_type_operand, in_unary, in_binary, in_star, ExprsRetyped, same_exprs, in_exprs, OptionRetyped, same_option, in_option, ElemsRetyped, no_more_elems, in_elems, KeyRetyped, no_key, same_field, in_key, ValueRetyped, in_plain, in_braces, StmtRetyped, same_stmt, in_const, in_var, in_eval, in_step, in_assign, in_define, in_return, in_block_stmt, in_if, in_for, in_range, in_switch, in_defer, in_label, StmtsRetyped, same_stmts, in_stmts, FirstRetyped, same_first, in_first, BlockRetyped, same_block, in_last, LeftRetyped, same_left, in_assigned, ArmsRetyped, no_arm, in_arm, CasesRetyped, no_more_cases, in_case, SpecsRetyped, no_more_specs, in_spec}
 use Rattle.alias_runs.proofs.AliasTexts.RetypedTyping.{plain-type}
 use Rattle.alias_runs.specs.AliasSteps.Retypable.{SameTypeUse, OneTypePut, as_part, as_callee, AllRetypable}
-use Rattle.go_tree.specs.GoTypes.Typing as typing
+use Rattle.go_rules.specs.GoTypes.Typing as typing
 use Rattle.std.proofs.Common.{arith, ◌≤◌}
 
 put-or : {S : Type 0} {around : List (List ℕ)} {env : Env} {x d : Expr S} (o : Option (Expr S)) → ((f : Expr S) → o ≡ Some f → ExprRetyped around env x f) → ExprRetyped around env x d → ExprRetyped around env x (otherwise o d)

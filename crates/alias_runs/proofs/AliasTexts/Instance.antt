@@ -8,22 +8,22 @@ use mathlib.Core.Path.{sym, ◌∙◌}
 use Rattle.std.proofs.Common.{arith}
 use Rattle.go_tree.specs.declared.operators.UnOp.TheVariants.{Address}
 use Rattle.go_tree.specs.Tree.{TypeExpr, Expr, Stmts, plain, some_value}
-use Rattle.go_tree.specs.declared.const_eval.kinds.Kind.TheVariants as kind
-use Rattle.go_tree.specs.ScopeNames.Means.{Environment}
-use Rattle.go_tree.specs.declared.const_eval.consts.Const.TheVariants.{Whole}
-use Rattle.go_tree.specs.GoTypes.Answers.{is_among}
-use Rattle.go_tree.specs.GoTypes.Operands.{value}
-use Rattle.go_tree.specs.GoTypes.Types.{GoType, basic, named_type, pointer_to, struct_of, go_field, no_go_fields}
-use Rattle.go_tree.specs.GoTypes.Defined.{Defined}
-use Rattle.go_tree.specs.GoTypes.Entities.{Entity, exact, type_name, variable, universe, Env}
-use Rattle.go_tree.specs.GoTypes.TypeNames.{type_meant}
-use Rattle.go_tree.specs.GoTypes.Typing.{parts}
+use Rattle.go_rules.specs.declared.const_eval.kinds.Kind.TheVariants as kind
+use Rattle.go_rules.specs.ScopeNames.Means.{Environment}
+use Rattle.go_rules.specs.declared.const_eval.consts.Const.TheVariants.{Whole}
+use Rattle.go_rules.specs.GoTypes.Answers.{is_among}
+use Rattle.go_rules.specs.GoTypes.Operands.{value}
+use Rattle.go_rules.specs.GoTypes.Types.{GoType, basic, named_type, pointer_to, struct_of, go_field, no_go_fields}
+use Rattle.go_rules.specs.GoTypes.Defined.{Defined}
+use Rattle.go_rules.specs.GoTypes.Entities.{Entity, exact, type_name, variable, universe, Env}
+use Rattle.go_rules.specs.GoTypes.TypeNames.{type_meant}
+use Rattle.go_rules.specs.GoTypes.Typing.{parts}
 use Rattle.go_translation.specs.Here.{Here}
 use Rattle.go_translation.specs.Translation.{stmts_term}
 use Rattle.typed_in_place.specs.Leaves.{plain_name, type_by_name, type_by_star}
 use Rattle.typed_in_place.specs.Replaced.{TypeReplaced, same_type, some_type, no_params, in_param, one_name}
 use Rattle.typed_in_place.proofs.Leaves.{never}
-use Rattle.go_tree.proofs.GoTypes.Trees.{n, ty, par, sig, v, int, der, un, app, comp, lit, ss, asg, def, vr, dfr}
+use Rattle.go_rules.proofs.GoTypes.Trees.{n, ty, par, sig, v, int, der, un, app, comp, lit, ss, asg, def, vr, dfr}
 use Rattle.alias_runs.specs.AliasTexts.Retyped.{same_expr, in_conversion, in_composite, in_call, in_literal, same_exprs, in_exprs, no_more_elems, in_elems, same_field, in_plain, in_var, in_define, in_defer, in_stmts, same_stmts, StmtsRetyped, in_spec, no_more_specs}
 use Rattle.alias_runs.proofs.AliasTexts.RetypedTerms.{stmts_term-swap}
 

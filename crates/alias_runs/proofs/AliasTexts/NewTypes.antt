@@ -3,11 +3,11 @@ use Rattle.std.specs.Prelude.{◌≡◌, ℕ, List, [], ◌∷◌, Option, Some}
 use mathlib.Core.Path.{ap, sym, ◌∙◌}
 use Rattle.go_tree.specs.declared.exprs.Rest.{Rest}
 use Rattle.go_tree.specs.Tree.{Expr, call, no_exprs, expr_and}
-use Rattle.go_tree.specs.GoTypes.Answers.{both}
-use Rattle.go_tree.specs.GoTypes.Types.{GoType}
-use Rattle.go_tree.specs.GoTypes.Entities.{Entity, New, builtin, Env}
-use Rattle.go_tree.specs.GoTypes.Operands.{Operand, named_operand, spread}
-use Rattle.go_tree.specs.GoTypes.Typing.{all_parts}
+use Rattle.go_rules.specs.GoTypes.Answers.{both}
+use Rattle.go_rules.specs.GoTypes.Types.{GoType}
+use Rattle.go_rules.specs.GoTypes.Entities.{Entity, New, builtin, Env}
+use Rattle.go_rules.specs.GoTypes.Operands.{Operand, named_operand, spread}
+use Rattle.go_rules.specs.GoTypes.Typing.{all_parts}
 use Rattle.go_translation.specs.Values.{path_of}
 use Rattle.go_translation.specs.Here.{Here, defined_here}
 use Rattle.go_translation.specs.Operators.{operand_list}

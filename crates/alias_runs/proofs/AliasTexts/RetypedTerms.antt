@@ -1,19 +1,19 @@
 -- Trees with types written otherwise have the same terms: the translation reads a type by what it means.
 use Rattle.std.specs.Prelude.{◌≡◌, refl, ℕ, suc, true, false, ◌||◌, List, [], ◌∷◌, ◌++◌, length, Option, Some, None, if◌then◌else◌, is_some, pos}
 use Rattle.go_tree.specs.Tree.{NameAt, TypeExpr, Expr, Exprs, ExprOption, Elems, Value, braced, ValueOption, some_value, Stmt, Stmts, StmtOption, BlockOption, RangeLeft, Arms, Cases, ValueSpecs, Param, Sig, func_lit}
-use Rattle.go_tree.specs.declared.const_eval.kinds.Kind.TheVariants as kind
-use Rattle.go_tree.specs.declared.const_eval.consts.Const.TheVariants.{Whole}
-use Rattle.go_tree.specs.ScopeNames.FreeNames.{names_of, defined, sig_names}
-use Rattle.go_tree.specs.GoTypes.Answers.{given, meets}
-use Rattle.go_tree.specs.GoTypes.Types.{GoType, basic, untyped, is_untyped, GoFields, fields_of, FuncType}
-use Rattle.go_tree.specs.GoTypes.Defined.{Defined, under}
-use Rattle.go_tree.specs.GoTypes.Entities.{run, Env, meaning, exported, extend, in_block, package_of, defined_in, Entity, variable, constant, stand_in, type_name, function, package_name, builtin, nil_name, iota_name, refused, Binds}
-use Rattle.go_tree.specs.GoTypes.TypeNames.{written_type}
-use Rattle.go_tree.specs.GoTypes.Operands.{Operand, Typed, named_operand, spread}
-use Rattle.go_tree.specs.GoTypes.Literals.{inner_type, key_type, literal_type, is_struct}
-use Rattle.go_tree.specs.GoTypes.Jumps.{is_breakable}
-use Rattle.go_tree.specs.GoTypes.Statements.{bound_names, body_binds, no_values, is_blank_name}
-use Rattle.go_tree.specs.GoTypes.Typing.{parts, all_parts, place, places, range_declares, binds_of, new_variables, new_by_define, right_values, package_before, step_op, binds_or, literal_env}
+use Rattle.go_rules.specs.declared.const_eval.kinds.Kind.TheVariants as kind
+use Rattle.go_rules.specs.declared.const_eval.consts.Const.TheVariants.{Whole}
+use Rattle.go_rules.specs.ScopeNames.FreeNames.{names_of, defined, sig_names}
+use Rattle.go_rules.specs.GoTypes.Answers.{given, meets}
+use Rattle.go_rules.specs.GoTypes.Types.{GoType, basic, untyped, is_untyped, GoFields, fields_of, FuncType}
+use Rattle.go_rules.specs.GoTypes.Defined.{Defined, under}
+use Rattle.go_rules.specs.GoTypes.Entities.{run, Env, meaning, exported, extend, in_block, package_of, defined_in, Entity, variable, constant, stand_in, type_name, function, package_name, builtin, nil_name, iota_name, refused, Binds}
+use Rattle.go_rules.specs.GoTypes.TypeNames.{written_type}
+use Rattle.go_rules.specs.GoTypes.Operands.{Operand, Typed, named_operand, spread}
+use Rattle.go_rules.specs.GoTypes.Literals.{inner_type, key_type, literal_type, is_struct}
+use Rattle.go_rules.specs.GoTypes.Jumps.{is_breakable}
+use Rattle.go_rules.specs.GoTypes.Statements.{bound_names, body_binds, no_values, is_blank_name}
+use Rattle.go_rules.specs.GoTypes.Typing.{parts, all_parts, place, places, range_declares, binds_of, new_variables, new_by_define, right_values, package_before, step_op, binds_or, literal_env}
 use Rattle.go_kernel.specs.Kernel as k
 use Rattle.go_kernel.specs.Kernel.{Name, Truth, Checked, Load, Alloc, Slicing, MapGet, MapTry, Compare, Equal, in_cells, temporary, return_label, break_label, Term, Vals, Local, Both, Prim, If, Let, Leave, Catch}
 use Rattle.go_translation.specs.Values.{one_value, path_of, as_value, zero_of, typed_of}
@@ -25,15 +25,15 @@ use Rattle.go_translation.specs.Operators.{no_type, answer_or, type_or, own_type
 use Rattle.go_translation.specs.Calls.{selected_field, is_pointer_value, struct_value, constant_place, literal_term, keyed_term, inner_literal, Callee, to_literal, to_nothing, named_callee, type_callee, method_callee, callee_wants, call_term, defer_term, to_type}
 use mathlib.Core.Path.{ap, sym, ◌∙◌, subst}
 use Rattle.std.proofs.Common.{arith}
-use Rattle.go_tree.specs.GoTypes.Types as t
-use Rattle.go_tree.specs.GoTypes.Operators.{star_of}
+use Rattle.go_rules.specs.GoTypes.Types as t
+use Rattle.go_rules.specs.GoTypes.Operators.{star_of}
 use Rattle.go_translation.specs.Statements.{RangeForm, return_term, loop_term, renewed, range_form, turn_values, range_term, new_names, variable_names, old_stored, defined_types, spec_types, tag_type, first_place, truth_type, int_type, update_type, element_type}
 use Rattle.go_translation.specs.Names.{entity_root, entity_term, name_term, gives_two, first_value, element_of_map, index_op}
 use Rattle.go_translation.specs.Facts.{has_bound, typed_at, typed_option, first_typed, value_types, target_types, count_exprs, range_type, key_place, element_place, element_places, literal_names, binds_after, binds_first, spec_binds, define_binds, following, after}
 use Rattle.go_translation.specs.Translation.{expr_term, args_term, values_term, try_term, option_term, elems_term, key_term, element_term, place_term, place_terms, address, callee, stmts_term, stmt_term, first_term, test_term, tag_term, block_term, arms_term, turn_term, cases_term, fits_term, default_term, deferred_term, specs_term}
-use Rattle.go_tree.specs.GoTypes.Operands as operands
-use Rattle.go_tree.specs.GoTypes.Declarations.{binds_or}
-use Rattle.go_tree.specs.ScopeNames.Means.{is_blank}
+use Rattle.go_rules.specs.GoTypes.Operands as operands
+use Rattle.go_rules.specs.GoTypes.Declarations.{binds_or}
+use Rattle.go_rules.specs.ScopeNames.Means.{is_blank}
 use Rattle.go_translation.specs.Swapped.{loop_mentions, switch_mentions, arm_mentions, loop_uses, loop_here, range_bound, range_uses, range_here, switch_uses, switch_here, arm_uses, arm_here, spec_uses}
 use Rattle.typed_in_place.specs.Leaves.{Names, plain_name, qualified_name, NamesType, type_by_name, type_by_text, type_by_star}
 use Rattle.typed_in_place.specs.Replaced.{TypeOptionReplaced, ParamsReplaced, no_params, in_param, no_name, one_name, SigReplaced}

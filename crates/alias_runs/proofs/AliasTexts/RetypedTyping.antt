@@ -3,11 +3,11 @@ use Rattle.std.specs.Prelude.{refl, ℕ, List, Option, Some, None}
 use mathlib.Core.Path.{ap, sym, subst}
 use Rattle.go_tree.specs.Tree.{NameAt, Expr, Exprs, ExprOption, no_expr, some_expr, Elems, Value, ValueOption, Stmt, Stmts, StmtOption, no_stmt, some_stmt, BlockOption, no_block, some_block, RangeLeft, nothing, assigns, defines, Arms, Cases, ValueSpecs}
 use Rattle.go_tree.specs.File.{Receiver, Func}
-use Rattle.go_tree.specs.GoTypes.Answers.{given}
-use Rattle.go_tree.specs.GoTypes.Types.{GoType}
-use Rattle.go_tree.specs.GoTypes.Defined.{under}
-use Rattle.go_tree.specs.GoTypes.Entities.{Env, defined_in}
-use Rattle.go_tree.specs.GoTypes.Programs.{Header}
+use Rattle.go_rules.specs.GoTypes.Answers.{given}
+use Rattle.go_rules.specs.GoTypes.Types.{GoType}
+use Rattle.go_rules.specs.GoTypes.Defined.{under}
+use Rattle.go_rules.specs.GoTypes.Entities.{Env, defined_in}
+use Rattle.go_rules.specs.GoTypes.Programs.{Header}
 use Rattle.typed_in_place.specs.Replaced as typed
 use Rattle.typed_in_place.specs.Replaced.{ExprReplaced, ExprsReplaced, ExprOptionReplaced, ElemsReplaced, KeyReplaced, ValueReplaced, StmtReplaced, StmtsReplaced, FirstReplaced, BlockReplaced, LeftReplaced, ArmsReplaced, CasesReplaced, VariablesReplaced, SameName}
 use Rattle.typed_in_place.specs.Leaves.{NamesType, type_by_name, type_by_text}

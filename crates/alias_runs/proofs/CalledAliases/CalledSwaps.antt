@@ -5,18 +5,18 @@ use Rattle.std.proofs.Common.{arith}
 use Rattle.std.proofs.lemmas.Slice.Eq.{bytes_eq-Decides}
 use Rattle.go_tree.specs.Tree.{TypeExpr, named, pointer, slice_type, map_type, struct_type, Expr, star, composite, Stmt, const_decl, ValueSpecs, no_specs, spec}
 use Rattle.go_tree.specs.File.{Decl, File}
-use Rattle.go_tree.specs.ScopeNames.FreeNames.{free_type}
-use Rattle.go_tree.specs.ScopeNames.Means.{Environment, means, is_blank}
+use Rattle.go_rules.specs.ScopeNames.FreeNames.{free_type}
+use Rattle.go_rules.specs.ScopeNames.Means.{Environment, means, is_blank}
 use Rattle.pkg_graph.specs.Package.{Package}
-use Rattle.go_tree.specs.GoTypes.Answers.{given, only_if}
-use Rattle.go_tree.specs.GoTypes.Types.{GoType, pointer_to}
-use Rattle.go_tree.specs.GoTypes.Defined.{Defined, has_keys}
-use Rattle.go_tree.specs.GoTypes.Entities.{Entity, type_name, type_of_name, World, Env, block_of, meaning, exported, package_of, defined_in}
-use Rattle.go_tree.specs.GoTypes.TypeNames.{resolved, type_meant}
-use Rattle.go_tree.specs.GoTypes.Typing.{Repeated, nothing_to_repeat}
-use Rattle.go_tree.specs.GoTypes.Programs.{Program, headed, block_names, file_block}
-use Rattle.go_tree.specs.GoTypes.Collect.{env_of, file_env, aliased_world, types_declared, typed_world, collected}
-use Rattle.go_tree.proofs.GoTypes.Agreeing.{from_given, from_only, some_same}
+use Rattle.go_rules.specs.GoTypes.Answers.{given, only_if}
+use Rattle.go_rules.specs.GoTypes.Types.{GoType, pointer_to}
+use Rattle.go_rules.specs.GoTypes.Defined.{Defined, has_keys}
+use Rattle.go_rules.specs.GoTypes.Entities.{Entity, type_name, type_of_name, World, Env, block_of, meaning, exported, package_of, defined_in}
+use Rattle.go_rules.specs.GoTypes.TypeNames.{resolved, type_meant}
+use Rattle.go_rules.specs.GoTypes.Typing.{Repeated, nothing_to_repeat}
+use Rattle.go_rules.specs.GoTypes.Programs.{Program, headed, block_names, file_block}
+use Rattle.go_rules.specs.GoTypes.Collect.{env_of, file_env, aliased_world, types_declared, typed_world, collected}
+use Rattle.go_rules.proofs.GoTypes.Agreeing.{from_given, from_only, some_same}
 use Rattle.typed_in_place.specs.Aliases.{TypesEnd}
 use Rattle.typed_in_place.specs.Aliases as ends
 use Rattle.typed_in_place.specs.Leaves.{plain_name, qualified_name}

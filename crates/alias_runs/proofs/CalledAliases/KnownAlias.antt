@@ -3,13 +3,13 @@ use Rattle.std.specs.Prelude.{◌≡◌, refl, ℕ, true, ◌||◌, List, Option
 use mathlib.Core.Path.{ap, ap₂, sym, ◌∙◌}
 use Rattle.std.proofs.Common.{arith}
 use Rattle.go_tree.specs.File.{TypeSpec}
-use Rattle.go_tree.specs.ScopeNames.Means.{binding}
-use Rattle.go_tree.specs.GoTypes.Answers.{given, only_if}
-use Rattle.go_tree.specs.GoTypes.Types.{GoType, named_type}
-use Rattle.go_tree.specs.GoTypes.Entities.{type_name, World}
-use Rattle.go_tree.specs.GoTypes.TypeNames.{resolved, type_meant}
-use Rattle.go_tree.specs.GoTypes.Programs.{a_type_spec, Program, Headed, headed}
-use Rattle.go_tree.specs.GoTypes.Collect.{env_of, DeclaredTypes, is_finite, type_entity, declared_by, types_declared, collected}
+use Rattle.go_rules.specs.ScopeNames.Means.{binding}
+use Rattle.go_rules.specs.GoTypes.Answers.{given, only_if}
+use Rattle.go_rules.specs.GoTypes.Types.{GoType, named_type}
+use Rattle.go_rules.specs.GoTypes.Entities.{type_name, World}
+use Rattle.go_rules.specs.GoTypes.TypeNames.{resolved, type_meant}
+use Rattle.go_rules.specs.GoTypes.Programs.{a_type_spec, Program, Headed, headed}
+use Rattle.go_rules.specs.GoTypes.Collect.{env_of, DeclaredTypes, is_finite, type_entity, declared_by, types_declared, collected}
 use Rattle.typed_in_place.specs.Aliases.{DeclaresAlias}
 use Rattle.typed_in_place.specs.ProgramReplaced.{All}
 use Rattle.typed_in_place.proofs.Headers.{good_in, declared_in}

@@ -3,12 +3,12 @@ use Rattle.std.specs.Prelude.{◌≡◌, refl, ℕ, zero, suc, Bool, List, [], �
 use mathlib.Core.Path.{ap, ◌∙◌}
 use Rattle.go_tree.specs.Tree.{TypeExpr, Expr}
 use Rattle.go_tree.specs.File.{TypeSpec, Receiver, Decl, values, types, func, File}
-use Rattle.go_tree.specs.ScopeNames.Means.{Environment}
+use Rattle.go_rules.specs.ScopeNames.Means.{Environment}
 use Rattle.pkg_graph.specs.Package.{Package}
-use Rattle.go_tree.specs.GoTypes.Entities.{Entity, World}
-use Rattle.go_tree.specs.GoTypes.TypeNames.{resolved}
-use Rattle.go_tree.specs.GoTypes.Programs.{SourceFile, SourcePackage, Program, headed, block_names, file_block}
-use Rattle.go_tree.specs.GoTypes.Collect.{file_env, declared_types, types_declared, aliased_world, typed_world}
+use Rattle.go_rules.specs.GoTypes.Entities.{Entity, World}
+use Rattle.go_rules.specs.GoTypes.TypeNames.{resolved}
+use Rattle.go_rules.specs.GoTypes.Programs.{SourceFile, SourcePackage, Program, headed, block_names, file_block}
+use Rattle.go_rules.specs.GoTypes.Collect.{file_env, declared_types, types_declared, aliased_world, typed_world}
 use Rattle.typed_in_place.specs.ProgramsAlike.{OneByOne, AliasesStand, TypesStand}
 use Rattle.typed_in_place.proofs.SamePrograms.{declared_types_same, aliases_same, types_same}
 use Rattle.typed_in_place.proofs.ProgramsReplaced.{one_by_one, replaced_aliases_stand, replaced_types_stand}

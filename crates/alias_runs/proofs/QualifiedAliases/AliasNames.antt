@@ -2,13 +2,13 @@
 use Rattle.std.specs.Prelude.{◌≡◌, ℕ, Bool, List, [], map, Option, Some, None, if◌then◌else◌}
 use mathlib.Core.Path.{ap, sym, ◌∙◌, subst}
 use Rattle.go_tree.specs.Tree.{TypeExpr, Expr}
-use Rattle.go_tree.specs.ScopeNames.Means.{Environment, means, or_else}
-use Rattle.go_tree.specs.ScopeNames.FreeNames.{free_type}
+use Rattle.go_rules.specs.ScopeNames.Means.{Environment, means, or_else}
+use Rattle.go_rules.specs.ScopeNames.FreeNames.{free_type}
 use Rattle.pkg_graph.specs.Package.{Package}
-use Rattle.go_tree.specs.GoTypes.Entities.{Entity, World, Env, universe, block_of, meaning, exported}
-use Rattle.go_tree.specs.GoTypes.Programs.{Program, block_names, file_block}
-use Rattle.go_tree.specs.GoTypes.Collect.{env_of, file_env}
-use Rattle.go_tree.proofs.GoTypes.Agreeing.{from_given}
+use Rattle.go_rules.specs.GoTypes.Entities.{Entity, World, Env, universe, block_of, meaning, exported}
+use Rattle.go_rules.specs.GoTypes.Programs.{Program, block_names, file_block}
+use Rattle.go_rules.specs.GoTypes.Collect.{env_of, file_env}
+use Rattle.go_rules.proofs.GoTypes.Agreeing.{from_given}
 use Rattle.typed_in_place.specs.Aliases.{SameText}
 use Rattle.typed_in_place.specs.ImportRule.{imports_sound}
 use Rattle.typed_in_place.specs.Leaves.{Names, plain_name, qualified_name}

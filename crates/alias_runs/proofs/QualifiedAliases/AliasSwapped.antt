@@ -4,14 +4,14 @@ use Rattle.std.specs.List.{list_all}
 use mathlib.Core.Path.{ap, sym, ◌∙◌, subst}
 use Rattle.go_tree.specs.Tree.{TypeExpr, named, pointer, slice_type, map_type, struct_type, Expr, ident, selector, star}
 use Rattle.go_tree.specs.File.{File}
-use Rattle.go_tree.specs.ScopeNames.Means.{Environment, means}
+use Rattle.go_rules.specs.ScopeNames.Means.{Environment, means}
 use Rattle.pkg_graph.specs.Package.{Package}
-use Rattle.go_tree.specs.GoTypes.Answers.{given}
-use Rattle.go_tree.specs.GoTypes.Entities.{Entity, type_of_name, World, Env, block_of, exported}
-use Rattle.go_tree.specs.GoTypes.TypeNames.{resolved}
-use Rattle.go_tree.specs.GoTypes.Programs.{Program, headed, block_names, file_block}
-use Rattle.go_tree.specs.GoTypes.Collect.{file_env, aliased_world, typed_world, collected}
-use Rattle.go_tree.specs.GoTypes.WellTyped.{well_typed}
+use Rattle.go_rules.specs.GoTypes.Answers.{given}
+use Rattle.go_rules.specs.GoTypes.Entities.{Entity, type_of_name, World, Env, block_of, exported}
+use Rattle.go_rules.specs.GoTypes.TypeNames.{resolved}
+use Rattle.go_rules.specs.GoTypes.Programs.{Program, headed, block_names, file_block}
+use Rattle.go_rules.specs.GoTypes.Collect.{file_env, aliased_world, typed_world, collected}
+use Rattle.go_rules.specs.GoTypes.WellTyped.{well_typed}
 use Rattle.typed_in_place.specs.Aliases.{TypesEnd}
 use Rattle.typed_in_place.specs.ImportRule.{package_imports}
 use Rattle.typed_in_place.specs.Aliases as ends

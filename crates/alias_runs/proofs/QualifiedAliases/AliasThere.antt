@@ -3,12 +3,12 @@ use Rattle.std.specs.Prelude.{◌≡◌, refl, ℕ, zero, suc, Bool, true, false
 use mathlib.Core.Path.{ap, sym, ◌∙◌, subst}
 use Rattle.std.proofs.Common.{arith}
 use Rattle.go_tree.specs.File.{Decl, File}
-use Rattle.go_tree.specs.ScopeNames.Means.{means, is_blank}
-use Rattle.go_tree.specs.ScopeNames.FreeNames.{names_of}
+use Rattle.go_rules.specs.ScopeNames.Means.{means, is_blank}
+use Rattle.go_rules.specs.ScopeNames.FreeNames.{names_of}
 use Rattle.pkg_graph.specs.Package.{Package}
 use Rattle.pkg_graph.specs.Members.{member}
-use Rattle.go_tree.specs.GoTypes.Entities.{World, block_of}
-use Rattle.go_tree.specs.GoTypes.Programs.{SourceFile, SourcePackage, Program, all_headers, headers, names_in, block_names, file_block}
+use Rattle.go_rules.specs.GoTypes.Entities.{World, block_of}
+use Rattle.go_rules.specs.GoTypes.Programs.{SourceFile, SourcePackage, Program, all_headers, headers, names_in, block_names, file_block}
 use Rattle.run_rules.specs.Rewriting.{Changes}
 use Rattle.run_rules.specs.Programs.{linked_file, linked_imports}
 use Rattle.run_rules.specs.Sites.{MarkRef, Where, Site, an_alias, part_span}
@@ -22,7 +22,7 @@ use Rattle.constant_steps.proofs.AfterStep.{same_number, nth_changed, nth_stays,
 use Rattle.constant_steps.proofs.MarksFound.{StandsThere, DeclaredThere, declared_there, nth_mapped}
 use Rattle.constant_steps.proofs.NamesOutside.{equal_numbers}
 use Rattle.constant_steps.proofs.PlainImports.{Distinct}
-use Rattle.go_tree.proofs.GoTypes.Agreeing.{some_same}
+use Rattle.go_rules.proofs.GoTypes.Agreeing.{some_same}
 use Rattle.constant_steps.specs.QualifiedSteps.MemberNames.{member_name}
 use Rattle.constant_steps.specs.QualifiedSteps.NamedUse.{PackageStands}
 use Rattle.constant_steps.proofs.QualifiedSteps.MembersNamed.{named_in_home}

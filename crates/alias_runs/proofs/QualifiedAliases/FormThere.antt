@@ -3,13 +3,13 @@ use Rattle.std.specs.Prelude.{◌≡◌, refl, ℕ, Bool, false, not, List, [], 
 use mathlib.Core.Path.{ap, sym, ◌∙◌, subst}
 use Rattle.std.proofs.Common.{arith}
 use Rattle.go_tree.specs.Tree.{TypeExpr, named, pointer, slice_type, map_type, struct_type, Expr}
-use Rattle.go_tree.specs.ScopeNames.Identifiers.{type_identifiers, expr_identifiers}
-use Rattle.go_tree.specs.ScopeNames.Means.{is_blank}
+use Rattle.go_rules.specs.ScopeNames.Identifiers.{type_identifiers, expr_identifiers}
+use Rattle.go_rules.specs.ScopeNames.Means.{is_blank}
 use Rattle.pkg_graph.specs.Package.{Package, import_specs}
 use Rattle.pkg_graph.specs.Members.{member, import_name}
-use Rattle.go_tree.specs.GoTypes.Answers.{given, one_of}
-use Rattle.go_tree.specs.GoTypes.Entities.{World}
-use Rattle.go_tree.proofs.GoTypes.Agreeing.{from_given}
+use Rattle.go_rules.specs.GoTypes.Answers.{given, one_of}
+use Rattle.go_rules.specs.GoTypes.Entities.{World}
+use Rattle.go_rules.proofs.GoTypes.Agreeing.{from_given}
 use Rattle.run_rules.specs.Surroundings.{Place, Seen, seen_type, is_local}
 use Rattle.run_rules.specs.Sites.{MarkRef, Part, an_expr, a_type_part, Site, part_span, qualifier, member_of}
 use Rattle.run_rules.specs.Naming.{Named, Names, names_by, named_packages, imports_added, unnamed, unnamed_in}

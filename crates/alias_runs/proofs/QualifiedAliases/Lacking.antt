@@ -4,14 +4,14 @@ use mathlib.Core.Path.{ap, sym, ◌∙◌}
 use Rattle.std.proofs.Common.{arith}
 use Rattle.std.proofs.lemmas.Bool.{or_parts}
 use Rattle.std.proofs.lemmas.Slice.Eq.{bytes_eq-Decides}
-use Rattle.go_tree.specs.ScopeNames.Means.{Environment, means, is_blank, or_else}
-use Rattle.go_tree.specs.GoTypes.Answers.{is_among}
-use Rattle.go_tree.specs.GoTypes.Entities.{Entity, refused, universe, World, Binds, block_of, is_exported}
-use Rattle.go_tree.specs.GoTypes.Statements.{bind_each, bound_names}
-use Rattle.go_tree.specs.GoTypes.Programs as source
-use Rattle.go_tree.specs.GoTypes.Programs.{Header, Headed, SourceFile, SourcePackage, Program, all_headers, header_names, names_in, headed_file, headed_files, headed_package, headed, file_block, is_main}
-use Rattle.go_tree.specs.GoTypes.Collect.{alias_entity, good_entity, declared_by, entity_binds, binds_or_refused, block_by, DeclaredTypes, value_round, aliased_world, types_declared, typed_world, named_world, valued_world}
-use Rattle.go_tree.specs.GoTypes.SingleNames.{by_names}
+use Rattle.go_rules.specs.ScopeNames.Means.{Environment, means, is_blank, or_else}
+use Rattle.go_rules.specs.GoTypes.Answers.{is_among}
+use Rattle.go_rules.specs.GoTypes.Entities.{Entity, refused, universe, World, Binds, block_of, is_exported}
+use Rattle.go_rules.specs.GoTypes.Statements.{bind_each, bound_names}
+use Rattle.go_rules.specs.GoTypes.Programs as source
+use Rattle.go_rules.specs.GoTypes.Programs.{Header, Headed, SourceFile, SourcePackage, Program, all_headers, header_names, names_in, headed_file, headed_files, headed_package, headed, file_block, is_main}
+use Rattle.go_rules.specs.GoTypes.Collect.{alias_entity, good_entity, declared_by, entity_binds, binds_or_refused, block_by, DeclaredTypes, value_round, aliased_world, types_declared, typed_world, named_world, valued_world}
+use Rattle.go_rules.specs.GoTypes.SingleNames.{by_names}
 use Rattle.typed_in_place.specs.Aliases.{after_types, after_names, after_values, at_last}
 use Rattle.typed_in_place.specs.Declared.{HasNumber}
 use Rattle.typed_in_place.specs.Known.{BlockClearer, end_of_block, was_refused, was_known}

@@ -4,18 +4,18 @@ use mathlib.Core.Path.{ap, sym, ◌∙◌, subst}
 use Rattle.std.proofs.Common.{arith}
 use Rattle.go_tree.specs.Tree.{NameAt, TypeExpr, named, pointer, slice_type, map_type, struct_type, Fields, no_fields, field}
 use Rattle.go_tree.specs.File.{ImportSpec}
-use Rattle.go_tree.specs.ScopeNames.Means as names
-use Rattle.go_tree.specs.ScopeNames.Means.{Environment, means, is_blank, numbered, or_else}
-use Rattle.go_tree.specs.ScopeNames.FreeNames.{free_type, free_fields}
-use Rattle.go_tree.specs.ScopeNames.Identifiers.{type_identifiers, fields_identifiers}
+use Rattle.go_rules.specs.ScopeNames.Means as names
+use Rattle.go_rules.specs.ScopeNames.Means.{Environment, means, is_blank, numbered, or_else}
+use Rattle.go_rules.specs.ScopeNames.FreeNames.{free_type, free_fields}
+use Rattle.go_rules.specs.ScopeNames.Identifiers.{type_identifiers, fields_identifiers}
 use Rattle.pkg_graph.specs.Package.{Package, import_specs}
 use Rattle.pkg_graph.specs.Members.{Target, local, imported, member, predeclared, import_name, package_block}
-use Rattle.go_tree.specs.GoTypes.Answers.{given, one_of, is_among}
-use Rattle.go_tree.specs.GoTypes.Entities.{Entity, type_of_name, World, Env, universe, block_of, meaning, exported, package_of, is_exported}
-use Rattle.go_tree.specs.GoTypes.TypeNames.{field_package}
-use Rattle.go_tree.specs.GoTypes.Programs.{file_block}
-use Rattle.go_tree.specs.GoTypes.Collect.{file_env}
-use Rattle.go_tree.proofs.GoTypes.Agreeing.{from_given}
+use Rattle.go_rules.specs.GoTypes.Answers.{given, one_of, is_among}
+use Rattle.go_rules.specs.GoTypes.Entities.{Entity, type_of_name, World, Env, universe, block_of, meaning, exported, package_of, is_exported}
+use Rattle.go_rules.specs.GoTypes.TypeNames.{field_package}
+use Rattle.go_rules.specs.GoTypes.Programs.{file_block}
+use Rattle.go_rules.specs.GoTypes.Collect.{file_env}
+use Rattle.go_rules.proofs.GoTypes.Agreeing.{from_given}
 use Rattle.typed_in_place.specs.Aliases.{SameText, same_name, same_pointer, same_slice, same_map, same_struct, SameFields, same_end, same_field}
 use Rattle.typed_in_place.specs.ImportRule.{imports_sound}
 use Rattle.form_meaning.proofs.FormInPlace.Uses.{among_append}

@@ -4,13 +4,13 @@ use mathlib.Core.Path.{ap, sym, ◌∙◌, subst}
 use Rattle.std.proofs.Common.{arith}
 use Rattle.go_tree.specs.Tree.{TypeExpr, Expr, composite, Stmt, const_decl, ValueSpecs, no_specs, spec}
 use Rattle.go_tree.specs.File.{TypeSpec, Decl, values, types, func, File}
-use Rattle.go_tree.specs.ScopeNames.Means.{Environment}
+use Rattle.go_rules.specs.ScopeNames.Means.{Environment}
 use Rattle.pkg_graph.specs.Package.{Package}
-use Rattle.go_tree.specs.GoTypes.Entities.{Entity, World, Env}
-use Rattle.go_tree.specs.GoTypes.TypeNames.{resolved}
-use Rattle.go_tree.specs.GoTypes.Typing.{Repeated, nothing_to_repeat}
-use Rattle.go_tree.specs.GoTypes.Programs.{Program, headed, block_names, file_block}
-use Rattle.go_tree.specs.GoTypes.Collect.{file_env, aliased_world, typed_world}
+use Rattle.go_rules.specs.GoTypes.Entities.{Entity, World, Env}
+use Rattle.go_rules.specs.GoTypes.TypeNames.{resolved}
+use Rattle.go_rules.specs.GoTypes.Typing.{Repeated, nothing_to_repeat}
+use Rattle.go_rules.specs.GoTypes.Programs.{Program, headed, block_names, file_block}
+use Rattle.go_rules.specs.GoTypes.Collect.{file_env, aliased_world, typed_world}
 use Rattle.typed_in_place.specs.ProgramReplaced.{ValuesEnd}
 use Rattle.run_rules.specs.FormTrees.{Form, as_type}
 use Rattle.run_rules.specs.Surroundings.{Place, Use, Seen, seen, seen_type, seen_stmt, plain_slot, after_constants, repeated_by}

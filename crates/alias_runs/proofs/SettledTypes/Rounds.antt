@@ -2,14 +2,14 @@
 use Rattle.std.specs.Prelude.{◌≡◌, refl, ℕ, zero, suc, Bool, true, false, List, [], ◌∷◌, ◌++◌, Option, Some, None, if◌then◌else◌, nat_eq}
 use mathlib.Core.Path.{ap, sym, ◌∙◌, subst}
 use Rattle.go_tree.specs.Tree.{TypeExpr}
-use Rattle.go_tree.specs.ScopeNames.Means.{Environment, means}
-use Rattle.go_tree.specs.GoTypes.Entities.{Entity, type_of_name, World, Binds, block_of}
-use Rattle.go_tree.specs.GoTypes.Answers.{given, only_if}
-use Rattle.go_tree.specs.GoTypes.Defined.{has_keys}
-use Rattle.go_tree.specs.GoTypes.TypeNames.{resolved, type_meant}
-use Rattle.go_tree.specs.GoTypes.Programs.{Headed, Program, headed}
-use Rattle.go_tree.specs.GoTypes.Collect.{times, DeclaredTypes, env_of, file_env, good_entity, declared_by, entity_binds, binds_or_refused, block_by, blocks_by, type_round, value_round, types_declared, methods_from, typed_world, named_world, valued_world, rounds}
-use Rattle.go_tree.specs.GoTypes.SingleNames.{by_names}
+use Rattle.go_rules.specs.ScopeNames.Means.{Environment, means}
+use Rattle.go_rules.specs.GoTypes.Entities.{Entity, type_of_name, World, Binds, block_of}
+use Rattle.go_rules.specs.GoTypes.Answers.{given, only_if}
+use Rattle.go_rules.specs.GoTypes.Defined.{has_keys}
+use Rattle.go_rules.specs.GoTypes.TypeNames.{resolved, type_meant}
+use Rattle.go_rules.specs.GoTypes.Programs.{Headed, Program, headed}
+use Rattle.go_rules.specs.GoTypes.Collect.{times, DeclaredTypes, env_of, file_env, good_entity, declared_by, entity_binds, binds_or_refused, block_by, blocks_by, type_round, value_round, types_declared, methods_from, typed_world, named_world, valued_world, rounds}
+use Rattle.go_rules.specs.GoTypes.SingleNames.{by_names}
 use Rattle.typed_in_place.specs.ProgramReplaced.{ValuesEnd, after_names, after_values, at_last}
 use Rattle.typed_in_place.proofs.Collected.{typed_settled, named_is, valued_is}
 use Rattle.typed_in_place.proofs.NameRounds.TypeBlocks.{typed_by_names}

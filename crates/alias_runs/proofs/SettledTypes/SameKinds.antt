@@ -1,12 +1,12 @@
 -- Names that stand for the same types and packages: a text names the same type.
 use Rattle.std.specs.Prelude.{◌≡◌, refl, ℕ, Bool, true, false, List, [], ◌∷◌, ◌++◌, Option, Some, None, if◌then◌else◌, bytes_eq, nat_eq}
 use Rattle.go_tree.specs.Tree.{TypeExpr, named, pointer, slice_type, map_type, struct_type, Fields, no_fields, field}
-use Rattle.go_tree.specs.ScopeNames.Means.{Environment, means, is_blank, binding}
-use Rattle.go_tree.specs.GoTypes.Answers.{given, both}
-use Rattle.go_tree.specs.GoTypes.Types.{pointer_to, slice_of, map_of, struct_of}
-use Rattle.go_tree.specs.GoTypes.Entities.{Entity, refused, universe, World, Env, meaning, block_of, exported, is_exported, package_of, type_of_name, Binds}
-use Rattle.go_tree.specs.GoTypes.TypeNames.{resolved, resolved_fields, field_before}
-use Rattle.go_tree.specs.GoTypes.Collect.{file_env}
+use Rattle.go_rules.specs.ScopeNames.Means.{Environment, means, is_blank, binding}
+use Rattle.go_rules.specs.GoTypes.Answers.{given, both}
+use Rattle.go_rules.specs.GoTypes.Types.{pointer_to, slice_of, map_of, struct_of}
+use Rattle.go_rules.specs.GoTypes.Entities.{Entity, refused, universe, World, Env, meaning, block_of, exported, is_exported, package_of, type_of_name, Binds}
+use Rattle.go_rules.specs.GoTypes.TypeNames.{resolved, resolved_fields, field_before}
+use Rattle.go_rules.specs.GoTypes.Collect.{file_env}
 use Rattle.typed_in_place.specs.Known.{BlockClearer, end_of_block, was_refused, was_known}
 
 -- two meanings: the same type or none, the same package or none

@@ -4,22 +4,22 @@ use mathlib.Core.Path.{sym, subst}
 use Rattle.std.proofs.Common.{arith}
 use Rattle.go_tree.specs.Tree.{NameAt, TypeExpr, Exprs}
 use Rattle.go_tree.specs.File.{Receiver, Func}
-use Rattle.go_tree.specs.ScopeNames.FreeNames.{names_of}
-use Rattle.go_tree.specs.ScopeNames.Means.{is_blank, binding}
-use Rattle.go_tree.specs.GoTypes.Answers.{given, only_if, otherwise, meets}
-use Rattle.go_tree.specs.GoTypes.Defined.{Defined, has_keys}
-use Rattle.go_tree.specs.GoTypes.Types.{GoType, named_type, FuncType}
-use Rattle.go_tree.specs.GoTypes.Entities.{run, exact, shift, Entity, variable, constant, function, refused, World, Env, Binds}
-use Rattle.go_tree.specs.GoTypes.Operands.{Operand, Typed, all_typed, settled}
-use Rattle.go_tree.specs.GoTypes.Declarations.{bind_all, bind_each, constant_entity, variable_entity}
-use Rattle.go_tree.specs.GoTypes.TypeNames.{resolved, written_type, func_type}
-use Rattle.go_tree.specs.GoTypes.Typing.{all_parts}
-use Rattle.go_tree.specs.GoTypes.Bodies.{no_values, body_binds}
-use Rattle.go_tree.specs.GoTypes.Bodiless.{all_bodiless}
-use Rattle.go_tree.specs.GoTypes.Initial.{all_initial}
-use Rattle.go_tree.specs.GoTypes.Programs.{spec_of, Header, constants, variables, a_type_spec, a_func, Headed, header_names}
-use Rattle.go_tree.specs.GoTypes.Collect.{env_of, DeclaredTypes, is_finite, type_entity, good_entity, package_constants, package_variables, may_be_main, function_declared, func_declared, declared_by, entity_binds, binds_or_refused}
-use Rattle.go_tree.proofs.GoTypes.Agreeing.{from_given, from_both, from_only, some_same}
+use Rattle.go_rules.specs.ScopeNames.FreeNames.{names_of}
+use Rattle.go_rules.specs.ScopeNames.Means.{is_blank, binding}
+use Rattle.go_rules.specs.GoTypes.Answers.{given, only_if, otherwise, meets}
+use Rattle.go_rules.specs.GoTypes.Defined.{Defined, has_keys}
+use Rattle.go_rules.specs.GoTypes.Types.{GoType, named_type, FuncType}
+use Rattle.go_rules.specs.GoTypes.Entities.{run, exact, shift, Entity, variable, constant, function, refused, World, Env, Binds}
+use Rattle.go_rules.specs.GoTypes.Operands.{Operand, Typed, all_typed, settled}
+use Rattle.go_rules.specs.GoTypes.Declarations.{bind_all, bind_each, constant_entity, variable_entity}
+use Rattle.go_rules.specs.GoTypes.TypeNames.{resolved, written_type, func_type}
+use Rattle.go_rules.specs.GoTypes.Typing.{all_parts}
+use Rattle.go_rules.specs.GoTypes.Bodies.{no_values, body_binds}
+use Rattle.go_rules.specs.GoTypes.Bodiless.{all_bodiless}
+use Rattle.go_rules.specs.GoTypes.Initial.{all_initial}
+use Rattle.go_rules.specs.GoTypes.Programs.{spec_of, Header, constants, variables, a_type_spec, a_func, Headed, header_names}
+use Rattle.go_rules.specs.GoTypes.Collect.{env_of, DeclaredTypes, is_finite, type_entity, good_entity, package_constants, package_variables, may_be_main, function_declared, func_declared, declared_by, entity_binds, binds_or_refused}
+use Rattle.go_rules.proofs.GoTypes.Agreeing.{from_given, from_both, from_only, some_same}
 use Rattle.typed_in_place.specs.Known.{BlockClearer}
 use Rattle.typed_in_place.proofs.Headers.{good_in, declared_in, value_phase}
 use Rattle.alias_runs.proofs.SettledTypes.SameKinds.{SameEntries, no_entries, and_entry, kind-itself, entries-themselves, NoType, NoTypes, no-types-append, one-no-type, refused-same}

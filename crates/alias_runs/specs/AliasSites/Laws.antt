@@ -4,9 +4,9 @@ use Rattle.std.specs.Prelude.{◌≡◌, ℕ, Bool, true, false, List, [], ◌++
 use Rattle.go_tree.specs.declared.spans.Span.{Span}
 use Rattle.go_tree.specs.Tree.{NameAt, TypeExpr, named}
 use Rattle.go_tree.specs.File.{Decl}
-use Rattle.go_tree.specs.ScopeNames.Means.{Environment, means}
+use Rattle.go_rules.specs.ScopeNames.Means.{Environment, means}
 use Rattle.pkg_graph.specs.Members.{member}
-use Rattle.go_tree.specs.GoTypes.Programs.{SourceFile, SourcePackage, Program, headed, block_names, file_block, is_init}
+use Rattle.go_rules.specs.GoTypes.Programs.{SourceFile, SourcePackage, Program, headed, block_names, file_block, is_init}
 use Rattle.run_rules.specs.Sites.{MarkRef, Site, part_span, an_alias, inlinable_in}
 use Rattle.pkg_graph.specs.Package.{Package}
 use Rattle.run_rules.specs.Programs.{linked_imports}
@@ -14,8 +14,8 @@ use Rattle.constant_steps.specs.Alone.{block_from, PackageAt}
 use Rattle.constant_steps.specs.PlainUse.{linked_at}
 use Rattle.alias_runs.specs.AliasSteps.PlainAlias.{PlainAliasUse}
 use Rattle.alias_runs.specs.AliasSites.NamedUse.{NamedUse}
-use Rattle.go_tree.specs.GoTypes.Entities.{Entity, World}
-use Rattle.go_tree.specs.GoTypes.Collect.{file_env, collected}
+use Rattle.go_rules.specs.GoTypes.Entities.{Entity, World}
+use Rattle.go_rules.specs.GoTypes.Collect.{file_env, collected}
 use Rattle.alias_runs.specs.AliasSteps.AliasUses.{NamesAlias}
 use Rattle.alias_runs.specs.AliasSites.FirstAlias.{FirstAlias, AliasEnd}
 use Rattle.alias_runs.specs.AliasSites.TypeUse.{TypeUseStands}

@@ -2,7 +2,7 @@
 use Rattle.std.specs.Prelude.{◌≡◌, false, List, Some, slice_get}
 use Rattle.go_tree.specs.Tree.{NameAt}
 use Rattle.pkg_graph.specs.Package.{Package}
-use Rattle.go_tree.specs.GoTypes.Programs.{is_init}
+use Rattle.go_rules.specs.GoTypes.Programs.{is_init}
 use Rattle.run_rules.specs.Sites.{MarkRef, Site, not_function, name_mark, marked_as}
 
 -- the name of the use, in an expression or a type, names the declaration that the mark holds for; the use stands in a

@@ -3,7 +3,7 @@
 use Rattle.std.specs.Prelude.{◌≡◌, ℕ, Bool, false, ◌&&◌, List, [], ◌∷◌, None, Some, nat_eq, slice_get}
 use Rattle.go_tree.specs.Tree.{TypeExpr, named}
 use Rattle.go_tree.specs.File.{Decl, func}
-use Rattle.go_tree.specs.ScopeNames.Means.{is_blank}
+use Rattle.go_rules.specs.ScopeNames.Means.{is_blank}
 use Rattle.pkg_graph.specs.Package.{Package}
 use Rattle.run_rules.specs.FormTrees.{Form, as_type}
 use Rattle.run_rules.specs.Surroundings.{Seen, seen, seen_type, seen_stmt}

@@ -5,14 +5,14 @@ use Rattle.std.specs.Prelude.{◌≡◌, ℕ, true, false, Bool, List, [], ◌�
 use Rattle.go_tree.specs.Tree.{NameAt, TypeExpr, named, pointer, slice_type, map_type, struct_type, Fields, no_fields}
 use Rattle.go_tree.specs.Tree.{field, Expr, type_operand, star}
 use Rattle.go_tree.specs.File.{TypeSpec}
-use Rattle.go_tree.specs.ScopeNames.Means.{is_blank, means}
-use Rattle.go_tree.specs.ScopeNames.FreeNames.{free_type}
-use Rattle.go_tree.specs.GoTypes.Answers.{is_among}
-use Rattle.go_tree.specs.GoTypes.Types.{GoType, pointer_to}
-use Rattle.go_tree.specs.GoTypes.Entities.{Entity, type_name, type_of_name, World, Env, block_of}
-use Rattle.go_tree.specs.GoTypes.TypeNames.{resolved, type_meant}
-use Rattle.go_tree.specs.GoTypes.Programs.{Program, Headed, headed}
-use Rattle.go_tree.specs.GoTypes.Collect.{env_of}
+use Rattle.go_rules.specs.ScopeNames.Means.{is_blank, means}
+use Rattle.go_rules.specs.ScopeNames.FreeNames.{free_type}
+use Rattle.go_rules.specs.GoTypes.Answers.{is_among}
+use Rattle.go_rules.specs.GoTypes.Types.{GoType, pointer_to}
+use Rattle.go_rules.specs.GoTypes.Entities.{Entity, type_name, type_of_name, World, Env, block_of}
+use Rattle.go_rules.specs.GoTypes.TypeNames.{resolved, type_meant}
+use Rattle.go_rules.specs.GoTypes.Programs.{Program, Headed, headed}
+use Rattle.go_rules.specs.GoTypes.Collect.{env_of}
 use Rattle.typed_in_place.specs.Aliases.{SameText, DeclaresAlias}
 use Rattle.typed_in_place.specs.Leaves.{Names}
 use Rattle.run_rules.specs.FormTrees.{Form, as_expr, as_dropped, as_block, as_type}

@@ -5,14 +5,14 @@ use Rattle.std.specs.List.{list_all}
 use Rattle.go_tree.specs.declared.spans.Span.{Span}
 use Rattle.go_tree.specs.Tree.{NameAt, TypeExpr, named, Expr}
 use Rattle.go_tree.specs.File.{TypeSpec, File}
-use Rattle.go_tree.specs.ScopeNames.Means.{means, is_blank}
-use Rattle.go_tree.specs.ScopeNames.FreeNames.{free_type}
+use Rattle.go_rules.specs.ScopeNames.Means.{means, is_blank}
+use Rattle.go_rules.specs.ScopeNames.FreeNames.{free_type}
 use Rattle.pkg_graph.specs.Package as run
-use Rattle.go_tree.specs.GoTypes.Types.{GoType}
-use Rattle.go_tree.specs.GoTypes.Entities.{Entity, World, Env, block_of}
-use Rattle.go_tree.specs.GoTypes.TypeNames.{resolved, type_meant}
-use Rattle.go_tree.specs.GoTypes.Programs.{Program, Headed, headed}
-use Rattle.go_tree.specs.GoTypes.Collect.{aliased_world, collected}
+use Rattle.go_rules.specs.GoTypes.Types.{GoType}
+use Rattle.go_rules.specs.GoTypes.Entities.{Entity, World, Env, block_of}
+use Rattle.go_rules.specs.GoTypes.TypeNames.{resolved, type_meant}
+use Rattle.go_rules.specs.GoTypes.Programs.{Program, Headed, headed}
+use Rattle.go_rules.specs.GoTypes.Collect.{aliased_world, collected}
 use Rattle.typed_in_place.specs.Aliases.{TypesEnd}
 use Rattle.typed_in_place.specs.ImportRule.{package_imports}
 use Rattle.typed_in_place.specs.Leaves.{Names}

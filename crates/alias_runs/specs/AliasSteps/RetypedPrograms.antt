@@ -2,10 +2,10 @@
 -- step from the one to the other (Go specification, Alias declarations; Packages; Program execution).
 use Rattle.std.specs.Prelude.{◌≡◌, true, ℕ, Bool, List, ◌++◌}
 use Rattle.std.specs.List.{list_all}
-use Rattle.go_tree.specs.ScopeNames.Means.{Environment}
-use Rattle.go_tree.specs.GoTypes.Entities.{Entity, World}
-use Rattle.go_tree.specs.GoTypes.Programs.{Header, Program, headed}
-use Rattle.go_tree.specs.GoTypes.Collect.{file_env, aliased_world, typed_world, collected}
+use Rattle.go_rules.specs.ScopeNames.Means.{Environment}
+use Rattle.go_rules.specs.GoTypes.Entities.{Entity, World}
+use Rattle.go_rules.specs.GoTypes.Programs.{Header, Program, headed}
+use Rattle.go_rules.specs.GoTypes.Collect.{file_env, aliased_world, typed_world, collected}
 use Rattle.typed_in_place.specs.ImportRule.{package_imports}
 use Rattle.typed_in_place.specs.ProgramsAlike.{OneByOne}
 use Rattle.typed_in_place.specs.ProgramReplaced.{ValuesEnd}

@@ -5,11 +5,11 @@ use Rattle.go_tree.specs.declared.spans.Span.{Span}
 use Rattle.go_tree.specs.declared.exprs.Rest.{Rest}
 use Rattle.go_tree.specs.Tree.{Expr, call, no_exprs, expr_and, Stmts}
 use Rattle.go_tree.specs.File.{Func}
-use Rattle.go_tree.specs.GoTypes.Types.{GoType}
-use Rattle.go_tree.specs.GoTypes.Entities.{New, builtin, World, Env}
-use Rattle.go_tree.specs.GoTypes.Programs.{Header, Headed}
-use Rattle.go_tree.specs.GoTypes.Collect.{env_of}
-use Rattle.go_tree.specs.GoTypes.WellTyped.{body_env}
+use Rattle.go_rules.specs.GoTypes.Types.{GoType}
+use Rattle.go_rules.specs.GoTypes.Entities.{New, builtin, World, Env}
+use Rattle.go_rules.specs.GoTypes.Programs.{Header, Headed}
+use Rattle.go_rules.specs.GoTypes.Collect.{env_of}
+use Rattle.go_rules.specs.GoTypes.WellTyped.{body_env}
 use Rattle.go_kernel.specs.Kernel.{ImportPath}
 use Rattle.go_translation.specs.Here.{Here}
 use Rattle.go_translation.specs.Translation.{expr_term, stmts_term}

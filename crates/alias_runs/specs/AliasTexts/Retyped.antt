@@ -14,16 +14,16 @@ use Rattle.go_tree.specs.Tree.{switch, defer, label, Stmts, stmt_and, StmtOption
 use Rattle.go_tree.specs.Tree.{RangeLeft, assigns, Arms, no_arms, arm, Cases, no_cases, case, ValueSpecs, no_specs}
 use Rattle.go_tree.specs.Tree.{spec}
 use Rattle.go_tree.specs.File.{TypeSpec, Func}
-use Rattle.go_tree.specs.ScopeNames.Means.{is_blank}
-use Rattle.go_tree.specs.ScopeNames.FreeNames.{names_of, sig_names, declared, declared_option, defined}
-use Rattle.go_tree.specs.GoTypes.Types.{GoType}
-use Rattle.go_tree.specs.GoTypes.Defined.{under}
-use Rattle.go_tree.specs.GoTypes.Entities.{Entity, type_name, Env, defined_in, extend, in_block}
-use Rattle.go_tree.specs.GoTypes.TypeNames.{type_meant}
-use Rattle.go_tree.specs.GoTypes.Literals.{is_struct, key_type, inner_type, literal_type}
-use Rattle.go_tree.specs.GoTypes.Typing.{parts, range_declares, binds_of, literal_env, nothing_to_repeat, used}
-use Rattle.go_tree.specs.GoTypes.Programs.{Header, constants, variables, a_type_spec, a_func}
-use Rattle.go_tree.specs.GoTypes.WellTyped.{receiver_names}
+use Rattle.go_rules.specs.ScopeNames.Means.{is_blank}
+use Rattle.go_rules.specs.ScopeNames.FreeNames.{names_of, sig_names, declared, declared_option, defined}
+use Rattle.go_rules.specs.GoTypes.Types.{GoType}
+use Rattle.go_rules.specs.GoTypes.Defined.{under}
+use Rattle.go_rules.specs.GoTypes.Entities.{Entity, type_name, Env, defined_in, extend, in_block}
+use Rattle.go_rules.specs.GoTypes.TypeNames.{type_meant}
+use Rattle.go_rules.specs.GoTypes.Literals.{is_struct, key_type, inner_type, literal_type}
+use Rattle.go_rules.specs.GoTypes.Typing.{parts, range_declares, binds_of, literal_env, nothing_to_repeat, used}
+use Rattle.go_rules.specs.GoTypes.Programs.{Header, constants, variables, a_type_spec, a_func}
+use Rattle.go_rules.specs.GoTypes.WellTyped.{receiver_names}
 use Rattle.go_translation.specs.Facts.{binds_after, binds_first, spec_binds}
 use Rattle.typed_in_place.specs.SameFacts.{NoneAround}
 use Rattle.typed_in_place.specs.Leaves.{Names, NamesType}

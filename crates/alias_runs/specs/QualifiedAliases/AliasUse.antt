@@ -5,7 +5,7 @@ use Rattle.std.specs.Prelude.{◌≡◌, ℕ, Bool, true, false, ◌&&◌, List,
 use Rattle.go_tree.specs.Tree.{NameAt, TypeExpr}
 use Rattle.go_tree.specs.File.{Decl}
 use Rattle.pkg_graph.specs.Package.{Package}
-use Rattle.go_tree.specs.GoTypes.Programs.{Program, is_init, block_names}
+use Rattle.go_rules.specs.GoTypes.Programs.{Program, is_init, block_names}
 use Rattle.typed_in_place.specs.ImportRule.{imports_sound}
 use Rattle.run_rules.specs.Programs.{linked_file, linked_imports, decl_seen}
 use Rattle.run_rules.specs.Sites.{MarkRef, Where, Site, an_alias, a_type_part, where_is, inlinable}

@@ -4,8 +4,8 @@ use Rattle.std.specs.Prelude.{◌≡◌, ℕ, Bool, true, List, ◌++◌}
 use Rattle.std.specs.List.{list_all}
 use Rattle.go_tree.specs.declared.spans.Span.{Span}
 use Rattle.pkg_graph.specs.Package.{Package}
-use Rattle.go_tree.specs.GoTypes.Programs.{Program, headed}
-use Rattle.go_tree.specs.GoTypes.Collect.{collected}
+use Rattle.go_rules.specs.GoTypes.Programs.{Program, headed}
+use Rattle.go_rules.specs.GoTypes.Collect.{collected}
 use Rattle.typed_in_place.specs.ImportRule.{package_imports}
 use Rattle.go_translation.specs.Packages as translated
 use Rattle.go_translation.specs.Packages.{sources, are_distinct, are_well_typed}

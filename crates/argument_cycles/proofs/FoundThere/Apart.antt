@@ -4,11 +4,11 @@ use Rattle.std.proofs.lemmas.Slice.Eq.{bytes_eq-Decides}
 use Rattle.go_tree.specs.Tree.{NameAt}
 use Rattle.go_tree.specs.File.{Decl}
 use Rattle.go_tree.specs.GoWords.Tokens.Pieces.{is_among, keyword_spellings}
-use Rattle.go_tree.specs.declared.scope_names.names.ImportName.{ImportName}
-use Rattle.go_tree.specs.ScopeNames.Fresh.{is_new}
-use Rattle.go_tree.specs.ScopeNames.Identifiers.{identifiers}
-use Rattle.go_tree.specs.ScopeNames.Means.{Environment, means, is_blank, numbered}
-use Rattle.go_tree.specs.ScopeNames.Means as scope
+use Rattle.go_rules.specs.declared.scope_names.names.ImportName.{ImportName}
+use Rattle.go_rules.specs.ScopeNames.Fresh.{is_new}
+use Rattle.go_rules.specs.ScopeNames.Identifiers.{identifiers}
+use Rattle.go_rules.specs.ScopeNames.Means.{Environment, means, is_blank, numbered}
+use Rattle.go_rules.specs.ScopeNames.Means as scope
 use Rattle.pkg_graph.specs.Members.{Target, member, predeclared, block_names, items_from, decls_from, files_from, package_block, package_name, name_or, import_name}
 use Rattle.pkg_graph.specs.Package.{SourceTree, Package, specs_in}
 use Rattle.constant_steps.specs.FormImports.ImportLaws.Steps.{binders_of}

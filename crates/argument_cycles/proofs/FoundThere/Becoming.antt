@@ -1,7 +1,7 @@
 -- The use of a step that settles its file becomes the step's form with the imports of the form added, so what is put there is this form.
 use Rattle.std.proofs.Common.{◌≡◌, sym, ap, ◌∙◌, List, Option, Some}
-use Rattle.go_tree.specs.ScopeNames.Binders.{func_binders}
-use Rattle.go_tree.specs.GoTypes.Answers.{meets}
+use Rattle.go_rules.specs.ScopeNames.Binders.{func_binders}
+use Rattle.go_rules.specs.GoTypes.Answers.{meets}
 use Rattle.run_rules.specs.FormTrees.{FormKind, ExprForm, LiteralForm, Form}
 use Rattle.run_rules.specs.Reduced.{Reduced, becomes}
 use Rattle.run_rules.specs.Run.{Standing, Logged, Next, is_commented}

@@ -6,26 +6,26 @@ use Rattle.std.specs.List.{list_any, count_by}
 use Rattle.go_tree.specs.declared.operators.UnOp.TheVariants.{Address}
 use Rattle.go_tree.specs.Tree.{NameAt, TypeExpr, Param, Expr, ident, int_lit, rune_lit, str_lit, composite, selector, index, slice, call, func_lit, type_operand, unary, binary, star, Exprs, no_exprs, expr_and, Stmt, Stmts}
 use Rattle.go_tree.specs.File.{Receiver, Func}
-use Rattle.go_tree.specs.ScopeNames.FreeNames.{names_of, free_expr, free_type}
-use Rattle.go_tree.specs.ScopeNames.Identifiers.{type_identifiers, expr_identifiers, exprs_identifiers, stmts_identifiers}
-use Rattle.go_tree.specs.ScopeNames.Means.{binding}
-use Rattle.go_tree.specs.ScopeNames.Scopes.{not_blank, param_names}
+use Rattle.go_rules.specs.ScopeNames.FreeNames.{names_of, free_expr, free_type}
+use Rattle.go_rules.specs.ScopeNames.Identifiers.{type_identifiers, expr_identifiers, exprs_identifiers, stmts_identifiers}
+use Rattle.go_rules.specs.ScopeNames.Means.{binding}
+use Rattle.go_rules.specs.ScopeNames.Scopes.{not_blank, param_names}
 use Rattle.order_hazards.specs.declared.facts.Item.{Item}
 use Rattle.order_hazards.specs.declared.facts.Item.TheVariants.{Write}
 use Rattle.order_hazards.specs.Items.{is_write}
 use Rattle.param_choice.specs.Chosen.{has}
 use Rattle.pkg_graph.specs.Package.{Package}
-use Rattle.go_tree.specs.GoTypes.Agreement.{In, head}
-use Rattle.go_tree.specs.GoTypes.Answers.{given, meets, otherwise, is_among}
-use Rattle.go_tree.specs.GoTypes.Types.{GoType, untyped_nil, base_of, is_untyped}
-use Rattle.go_tree.specs.GoTypes.Identical.{identical}
-use Rattle.go_tree.specs.GoTypes.Bodies.{is_body}
-use Rattle.go_tree.specs.GoTypes.Defined.{Method, methods}
-use Rattle.go_tree.specs.GoTypes.Entities.{run, World, Env, Binds, defined_in}
-use Rattle.go_tree.specs.GoTypes.Operands.{Typed, typed}
-use Rattle.go_tree.specs.GoTypes.Primary.{find_method}
-use Rattle.go_tree.specs.GoTypes.Recorded.{recorded_stmts, hardens}
-use Rattle.go_tree.specs.GoTypes.Typing.{parts, all_parts, stmts}
+use Rattle.go_rules.specs.GoTypes.Agreement.{In, head}
+use Rattle.go_rules.specs.GoTypes.Answers.{given, meets, otherwise, is_among}
+use Rattle.go_rules.specs.GoTypes.Types.{GoType, untyped_nil, base_of, is_untyped}
+use Rattle.go_rules.specs.GoTypes.Identical.{identical}
+use Rattle.go_rules.specs.GoTypes.Bodies.{is_body}
+use Rattle.go_rules.specs.GoTypes.Defined.{Method, methods}
+use Rattle.go_rules.specs.GoTypes.Entities.{run, World, Env, Binds, defined_in}
+use Rattle.go_rules.specs.GoTypes.Operands.{Typed, typed}
+use Rattle.go_rules.specs.GoTypes.Primary.{find_method}
+use Rattle.go_rules.specs.GoTypes.Recorded.{recorded_stmts, hardens}
+use Rattle.go_rules.specs.GoTypes.Typing.{parts, all_parts, stmts}
 use Rattle.typed_in_place.specs.ProgramsAlike.{no_more, and_more}
 use Rattle.typed_in_place.specs.SameWorlds.SameWorlds.{SameWorld}
 use Rattle.run_rules.specs.BodyItems.{up_to_stop, stmts_items}

@@ -4,22 +4,22 @@ use Rattle.std.proofs.Common.{◌≡◌, refl, sym, ap, subst, ◌∙◌, ◌⊎
 use Rattle.go_tree.specs.Tree.{Sig, TypeExpr, Expr, Exprs, ValueOption, no_value, some_value, Stmt, StmtOption, RangeLeft}
 use Rattle.go_tree.specs.Tree.{NameAt, ident, call, no_exprs, expr_and, Stmts}
 use Rattle.go_tree.specs.declared.operators.BinOp.{BinOp}
-use Rattle.go_tree.specs.ScopeNames.FreeNames.{names_of}
-use Rattle.go_tree.specs.ScopeNames.Identifiers.{stmts_identifiers, type_identifiers, type_option_identifiers, params_identifiers, sig_identifiers, expr_identifiers, exprs_identifiers, stmt_identifiers, stmt_option_identifiers, left_identifiers}
-use Rattle.go_tree.specs.GoTypes.Answers.{given, meets}
-use Rattle.go_tree.specs.GoTypes.Types.{GoType, GoFields, fields_of, element_of, map_parts}
-use Rattle.go_tree.specs.GoTypes.Defined.{under, methods}
-use Rattle.go_tree.specs.GoTypes.Operands.{Operand, several, a_function, a_builtin, typed}
-use Rattle.go_tree.specs.GoTypes.Entities.{Builtin, Append, Delete, World, Env, Entity, Binds, meaning, defined_in, package_of, extend, in_block}
-use Rattle.go_tree.specs.GoTypes.TypeNames.{type_meant, func_type, written_type}
-use Rattle.go_tree.specs.GoTypes.Literals.{literal_type}
-use Rattle.go_tree.specs.GoTypes.Statements.{is_blank_name, package_before, right_values}
-use Rattle.go_tree.specs.GoTypes.Typing.{parts, all_parts, places, declares, declares_first, range_declares, stmt, stmts, is_call}
-use Rattle.go_tree.specs.GoTypes.Bodies.{Ctx, no_values}
-use Rattle.go_tree.specs.GoTypes.Declarations.{Repeated, nothing_to_repeat, new_constants, new_variables}
-use Rattle.go_tree.specs.GoTypes.Agreement.{In, head, Same, On, Agrees, with_names}
-use Rattle.go_tree.proofs.GoTypes.Agreeing.{agrees_in_block, under_same}
-use Rattle.go_tree.proofs.GoTypes.TypingAlike.{parts-alike, all_parts-alike, places-alike, declares-alike, declares_first-alike, range_declares-alike, stmt-alike, stmts-alike}
+use Rattle.go_rules.specs.ScopeNames.FreeNames.{names_of}
+use Rattle.go_rules.specs.ScopeNames.Identifiers.{stmts_identifiers, type_identifiers, type_option_identifiers, params_identifiers, sig_identifiers, expr_identifiers, exprs_identifiers, stmt_identifiers, stmt_option_identifiers, left_identifiers}
+use Rattle.go_rules.specs.GoTypes.Answers.{given, meets}
+use Rattle.go_rules.specs.GoTypes.Types.{GoType, GoFields, fields_of, element_of, map_parts}
+use Rattle.go_rules.specs.GoTypes.Defined.{under, methods}
+use Rattle.go_rules.specs.GoTypes.Operands.{Operand, several, a_function, a_builtin, typed}
+use Rattle.go_rules.specs.GoTypes.Entities.{Builtin, Append, Delete, World, Env, Entity, Binds, meaning, defined_in, package_of, extend, in_block}
+use Rattle.go_rules.specs.GoTypes.TypeNames.{type_meant, func_type, written_type}
+use Rattle.go_rules.specs.GoTypes.Literals.{literal_type}
+use Rattle.go_rules.specs.GoTypes.Statements.{is_blank_name, package_before, right_values}
+use Rattle.go_rules.specs.GoTypes.Typing.{parts, all_parts, places, declares, declares_first, range_declares, stmt, stmts, is_call}
+use Rattle.go_rules.specs.GoTypes.Bodies.{Ctx, no_values}
+use Rattle.go_rules.specs.GoTypes.Declarations.{Repeated, nothing_to_repeat, new_constants, new_variables}
+use Rattle.go_rules.specs.GoTypes.Agreement.{In, head, Same, On, Agrees, with_names}
+use Rattle.go_rules.proofs.GoTypes.Agreeing.{agrees_in_block, under_same}
+use Rattle.go_rules.proofs.GoTypes.TypingAlike.{parts-alike, all_parts-alike, places-alike, declares-alike, declares_first-alike, range_declares-alike, stmt-alike, stmts-alike}
 use Rattle.typed_in_place.specs.SameWorlds.SameWorlds.{SameWorld, at}
 use Rattle.typed_in_place.proofs.ImportsMoved.{func_type-moved}
 use Rattle.typed_in_place.proofs.SameWorlds.DefinedSame.{under-same, methods-same}

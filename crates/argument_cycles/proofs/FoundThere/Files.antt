@@ -6,14 +6,14 @@ use Rattle.std.proofs.lemmas.Option.{same_Some}
 use Rattle.go_tree.specs.declared.spans.Span.{Span}
 use Rattle.go_tree.specs.Tree.{NameAt}
 use Rattle.go_tree.specs.File.{ImportSpec, ImportDecl, Decl}
-use Rattle.go_tree.specs.ScopeNames.FreeNames.{names_of}
-use Rattle.go_tree.specs.ScopeNames.Identifiers.{decl_identifiers}
-use Rattle.go_tree.specs.ScopeNames.Means.{Environment, means, is_blank, numbered}
-use Rattle.go_tree.specs.ScopeNames.Means as scope
+use Rattle.go_rules.specs.ScopeNames.FreeNames.{names_of}
+use Rattle.go_rules.specs.ScopeNames.Identifiers.{decl_identifiers}
+use Rattle.go_rules.specs.ScopeNames.Means.{Environment, means, is_blank, numbered}
+use Rattle.go_rules.specs.ScopeNames.Means as scope
 use Rattle.pkg_graph.specs.Members.{Target, local, imported, member, predeclared, block_names, items_from, decls_from, files_from, package_block, name_or, import_name}
 use Rattle.pkg_graph.specs.Package.{SourceTree, Package, specs_in, import_specs}
-use Rattle.go_tree.specs.GoTypes.Agreement.{In}
-use Rattle.go_tree.specs.GoTypes.Answers.{given, is_among}
+use Rattle.go_rules.specs.GoTypes.Agreement.{In}
+use Rattle.go_rules.specs.GoTypes.Answers.{given, is_among}
 use Rattle.typed_in_place.specs.ProgramsAlike.{OneByOne, no_more, and_more}
 use Rattle.typed_in_place.proofs.ProgramsReplaced.{each_one}
 use Rattle.run_rules.specs.Naming.{imports_added, package_path}

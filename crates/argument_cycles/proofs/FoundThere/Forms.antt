@@ -5,21 +5,21 @@ use Rattle.std.specs.List.{list_any, list_all, count_by}
 use Rattle.go_tree.specs.declared.exprs.Rest.TheVariants.{Plain}
 use Rattle.go_tree.specs.Tree.{NameAt, TypeExpr, Param, Expr, ident, selector, call, func_lit, Exprs, no_exprs, expr_and, Stmt, eval, assign, define, inner, return_, label, Stmts, no_stmts, stmt_and}
 use Rattle.go_tree.specs.File.{Func}
-use Rattle.go_tree.specs.ScopeNames.Identifiers.{name_option, type_identifiers, params_identifiers, expr_identifiers, exprs_identifiers, stmt_identifiers, stmts_identifiers}
-use Rattle.go_tree.specs.ScopeNames.Scopes.{expr_span}
-use Rattle.go_tree.specs.ScopeNames.Means.{means}
-use Rattle.go_tree.specs.declared.const_eval.consts.Const.{Const}
+use Rattle.go_rules.specs.ScopeNames.Identifiers.{name_option, type_identifiers, params_identifiers, expr_identifiers, exprs_identifiers, stmt_identifiers, stmts_identifiers}
+use Rattle.go_rules.specs.ScopeNames.Scopes.{expr_span}
+use Rattle.go_rules.specs.ScopeNames.Means.{means}
+use Rattle.go_rules.specs.declared.const_eval.consts.Const.{Const}
 use Rattle.param_choice.specs.Chosen.{has}
 use Rattle.pkg_graph.specs.Package.{Package}
-use Rattle.go_tree.specs.GoTypes.Agreement.{In, head, tail}
-use Rattle.go_tree.specs.GoTypes.Answers.{given, meets, otherwise}
-use Rattle.go_tree.specs.GoTypes.Bodies.{has_names}
-use Rattle.go_tree.specs.GoTypes.Entities.{World, Env, Entity, variable, stand_in, elsewhere, exact}
-use Rattle.go_tree.specs.GoTypes.Operands.{Operand, several, Typed, typed}
-use Rattle.go_tree.specs.GoTypes.Primary.{stands_alone}
-use Rattle.go_tree.specs.GoTypes.Recorded.{recorded_stmt, hardens}
-use Rattle.go_tree.specs.GoTypes.Types.{GoType}
-use Rattle.go_tree.specs.GoTypes.Typing.{parts, stmt, is_call}
+use Rattle.go_rules.specs.GoTypes.Agreement.{In, head, tail}
+use Rattle.go_rules.specs.GoTypes.Answers.{given, meets, otherwise}
+use Rattle.go_rules.specs.GoTypes.Bodies.{has_names}
+use Rattle.go_rules.specs.GoTypes.Entities.{World, Env, Entity, variable, stand_in, elsewhere, exact}
+use Rattle.go_rules.specs.GoTypes.Operands.{Operand, several, Typed, typed}
+use Rattle.go_rules.specs.GoTypes.Primary.{stands_alone}
+use Rattle.go_rules.specs.GoTypes.Recorded.{recorded_stmt, hardens}
+use Rattle.go_rules.specs.GoTypes.Types.{GoType}
+use Rattle.go_rules.specs.GoTypes.Typing.{parts, stmt, is_call}
 use Rattle.typed_in_place.specs.SameWorlds.SameWorlds.{SameWorld}
 use Rattle.run_rules.specs.BodyItems.{number_of}
 use Rattle.run_rules.specs.Rewriting.{new_params}

@@ -7,21 +7,21 @@ use Rattle.go_tree.specs.declared.operators.UnOp.TheVariants.{Address}
 use Rattle.go_tree.specs.declared.operators.BinOp.{BinOp}
 use Rattle.go_tree.specs.declared.operators.BinOp.TheVariants.{Div, Rem, Shl, Shr}
 use Rattle.go_tree.specs.Tree.{NameAt, TypeExpr, Expr, ident, int_lit, rune_lit, str_lit, composite, selector, index, slice, call, func_lit, type_operand, unary, binary, star, Exprs, no_exprs, expr_and, Elems, no_elems, elem, Value, plain, braced, Stmt}
-use Rattle.go_tree.specs.declared.const_eval.kinds.Kind.{Kind}
-use Rattle.go_tree.specs.ConstEval.Exact.{is_text_kind}
-use Rattle.go_tree.specs.ScopeNames.FreeNames.{names_of}
-use Rattle.go_tree.specs.ScopeNames.Identifiers.{type_identifiers, expr_identifiers, exprs_identifiers, elems_identifiers, value_identifiers, value_option_identifiers}
+use Rattle.go_rules.specs.declared.const_eval.kinds.Kind.{Kind}
+use Rattle.go_rules.specs.ConstEval.Exact.{is_text_kind}
+use Rattle.go_rules.specs.ScopeNames.FreeNames.{names_of}
+use Rattle.go_rules.specs.ScopeNames.Identifiers.{type_identifiers, expr_identifiers, exprs_identifiers, elems_identifiers, value_identifiers, value_option_identifiers}
 use Rattle.order_hazards.specs.declared.facts.Class.{Class}
 use Rattle.order_hazards.specs.declared.facts.Class.TheVariants.{Steady, Looks, Acts}
-use Rattle.go_tree.specs.GoTypes.Agreement.{In, head}
-use Rattle.go_tree.specs.GoTypes.Answers.{given, meets, is_among}
-use Rattle.go_tree.specs.GoTypes.Types.{GoType, base_of, element_of, map_parts}
-use Rattle.go_tree.specs.GoTypes.Defined.{under, methods}
-use Rattle.go_tree.specs.GoTypes.Entities.{Cap, Len, World, Env, defined_in}
-use Rattle.go_tree.specs.GoTypes.Literals.{is_struct}
-use Rattle.go_tree.specs.GoTypes.Operands.{Operand, a_type, a_builtin, typed, kind_passes}
-use Rattle.go_tree.specs.GoTypes.Primary.{find_method}
-use Rattle.go_tree.specs.GoTypes.Typing.{parts}
+use Rattle.go_rules.specs.GoTypes.Agreement.{In, head}
+use Rattle.go_rules.specs.GoTypes.Answers.{given, meets, is_among}
+use Rattle.go_rules.specs.GoTypes.Types.{GoType, base_of, element_of, map_parts}
+use Rattle.go_rules.specs.GoTypes.Defined.{under, methods}
+use Rattle.go_rules.specs.GoTypes.Entities.{Cap, Len, World, Env, defined_in}
+use Rattle.go_rules.specs.GoTypes.Literals.{is_struct}
+use Rattle.go_rules.specs.GoTypes.Operands.{Operand, a_type, a_builtin, typed, kind_passes}
+use Rattle.go_rules.specs.GoTypes.Primary.{find_method}
+use Rattle.go_rules.specs.GoTypes.Typing.{parts}
 use Rattle.typed_in_place.specs.ProgramsAlike.{OneByOne, no_more, and_more}
 use Rattle.typed_in_place.specs.SameWorlds.SameWorlds.{SameWorld}
 use Rattle.typed_in_place.proofs.SameWorlds.OperandsSame.{kind_passes-same}

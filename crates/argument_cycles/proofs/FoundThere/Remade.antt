@@ -2,10 +2,10 @@
 use Rattle.std.proofs.Common.{◌≡◌, refl, sym, ◌∙◌, ◌⊎◌, ℕ, Bool, false, List, [], ◌∷◌, ◌++◌, map, Option, Some, None}
 use Rattle.go_tree.specs.Tree.{TypeExpr, Expr}
 use Rattle.go_tree.specs.File.{Func}
-use Rattle.go_tree.specs.ScopeNames.Binders.{func_binders}
-use Rattle.go_tree.specs.ScopeNames.Identifiers.{params_identifiers}
-use Rattle.go_tree.specs.ScopeNames.Scopes.{expr_span}
-use Rattle.go_tree.specs.GoTypes.Answers.{given}
+use Rattle.go_rules.specs.ScopeNames.Binders.{func_binders}
+use Rattle.go_rules.specs.ScopeNames.Identifiers.{params_identifiers}
+use Rattle.go_rules.specs.ScopeNames.Scopes.{expr_span}
+use Rattle.go_rules.specs.GoTypes.Answers.{given}
 use Rattle.pkg_graph.specs.Package.{SourceTree, Package}
 use Rattle.typed_in_place.specs.SameWorlds.SameWorlds.{SameWorld}
 use Rattle.run_rules.specs.Calls.{Call}

@@ -4,14 +4,14 @@ use Rattle.std.specs.Prelude.{slice_get, is_none}
 use Rattle.std.proofs.lemmas.Option.{same_Some}
 use Rattle.go_tree.specs.Tree.{TypeExpr, named, pointer, Param, Expr}
 use Rattle.go_tree.specs.File.{Receiver, Func, Decl, func}
-use Rattle.go_tree.specs.ScopeNames.Binders.{func_binders}
-use Rattle.go_tree.specs.ScopeNames.Identifiers.{name_option, type_identifiers, params_identifiers, sig_identifiers, expr_identifiers, stmts_identifiers, receiver_identifiers, decl_identifiers}
-use Rattle.go_tree.specs.ScopeNames.Scopes.{expr_span}
+use Rattle.go_rules.specs.ScopeNames.Binders.{func_binders}
+use Rattle.go_rules.specs.ScopeNames.Identifiers.{name_option, type_identifiers, params_identifiers, sig_identifiers, expr_identifiers, stmts_identifiers, receiver_identifiers, decl_identifiers}
+use Rattle.go_rules.specs.ScopeNames.Scopes.{expr_span}
 use Rattle.pkg_graph.specs.Package.{Package}
-use Rattle.go_tree.specs.GoTypes.Agreement.{head}
-use Rattle.go_tree.specs.GoTypes.Answers.{given, only_if}
-use Rattle.go_tree.specs.GoTypes.Entities.{type_of_name}
-use Rattle.go_tree.specs.GoTypes.Types.{GoType, named_type, pointer_to, type_name_of, base_of}
+use Rattle.go_rules.specs.GoTypes.Agreement.{head}
+use Rattle.go_rules.specs.GoTypes.Answers.{given, only_if}
+use Rattle.go_rules.specs.GoTypes.Entities.{type_of_name}
+use Rattle.go_rules.specs.GoTypes.Types.{GoType, named_type, pointer_to, type_name_of, base_of}
 use Rattle.typed_in_place.specs.SameWorlds.SameWorlds.{SameWorld}
 use Rattle.typed_in_place.proofs.SameWorlds.DefinedSame.{under-same}
 use Rattle.run_rules.specs.Calls.{Call}

@@ -1,15 +1,15 @@
 -- A place of a body as a walk has it, where chosen parameters mean their arguments, beside what the rules of typing have there: both declare the same names, which mean variables and constants to typing, and all else means what it does at the top of the file.
 use Rattle.std.proofs.Common.{◌≡◌, refl, sym, ◌∙◌, subst, ℕ, suc, true, false, ◌||◌, List, [], ◌++◌, Option, Some, None, if◌then◌else◌}
 use Rattle.go_tree.specs.Tree.{NameAt, Sig, TypeExpr, Expr, Exprs, Stmt, StmtOption, some_stmt, RangeLeft, func_lit}
-use Rattle.go_tree.specs.ScopeNames.FreeNames.{names_of}
-use Rattle.go_tree.specs.ScopeNames.Scopes as scopes
-use Rattle.go_tree.specs.ScopeNames.Scopes.{not_blank, sig_declares}
-use Rattle.go_tree.specs.GoTypes.Answers.{is_among}
-use Rattle.go_tree.specs.GoTypes.Types.{FuncType}
-use Rattle.go_tree.specs.GoTypes.Entities.{Env, Binds, meaning, extend, in_block}
-use Rattle.go_tree.specs.GoTypes.TypeNames.{func_type}
-use Rattle.go_tree.specs.GoTypes.Declarations.{bound_names, binds_of, new_constants, Repeated}
-use Rattle.go_tree.specs.GoTypes.Bodies.{body_ctx, literal_env}
+use Rattle.go_rules.specs.ScopeNames.FreeNames.{names_of}
+use Rattle.go_rules.specs.ScopeNames.Scopes as scopes
+use Rattle.go_rules.specs.ScopeNames.Scopes.{not_blank, sig_declares}
+use Rattle.go_rules.specs.GoTypes.Answers.{is_among}
+use Rattle.go_rules.specs.GoTypes.Types.{FuncType}
+use Rattle.go_rules.specs.GoTypes.Entities.{Env, Binds, meaning, extend, in_block}
+use Rattle.go_rules.specs.GoTypes.TypeNames.{func_type}
+use Rattle.go_rules.specs.GoTypes.Declarations.{bound_names, binds_of, new_constants, Repeated}
+use Rattle.go_rules.specs.GoTypes.Bodies.{body_ctx, literal_env}
 use Rattle.form_meaning.specs.FormInPlace.Bound.{stmt_binds, first_binds, range_left_binds, literal_binds, variable_binds}
 use Rattle.form_meaning.proofs.FormInPlace.Uses.{among_append, among_left}
 use Rattle.run_rules.specs.Surroundings.{Slot, callee_place, Place, after_stmt, after_first, block, ranged, in_literal, in_constant, after_constants, after_variables, first_declares, left_declares}

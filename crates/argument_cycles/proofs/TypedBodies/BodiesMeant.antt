@@ -2,18 +2,18 @@
 use Rattle.std.proofs.Common.{◌≡◌, refl, ◌∙◌, subst, ℕ, Bool, false, ◌&&◌, ◌||◌, List, ◌++◌, Some, None, bytes_eq}
 use Rattle.std.specs.Prelude.{slice_get}
 use Rattle.go_tree.specs.File.{Func, func}
-use Rattle.go_tree.specs.GoTypes.Answers.{given, is_empty, distinct_by}
-use Rattle.go_tree.specs.GoTypes.Types.{FuncType}
-use Rattle.go_tree.specs.GoTypes.Entities.{Env}
-use Rattle.go_tree.specs.GoTypes.TypeNames.{func_type}
-use Rattle.go_tree.specs.GoTypes.Bodies.{body_ctx, is_body}
-use Rattle.go_tree.specs.GoTypes.Jumps.{labels_in}
-use Rattle.go_tree.specs.GoTypes.Typing.{stmts}
-use Rattle.go_tree.specs.GoTypes.Programs.{Headed, headed, block_names, is_main, file_env}
-use Rattle.go_tree.specs.GoTypes.Collect.{DeclaredTypes, types_declared}
-use Rattle.go_tree.specs.GoTypes.WellTyped.{receiver_names}
-use Rattle.go_tree.specs.ScopeNames.FreeNames.{sig_names}
-use Rattle.go_tree.proofs.GoTypes.Agreeing.{from_given, some_same}
+use Rattle.go_rules.specs.GoTypes.Answers.{given, is_empty, distinct_by}
+use Rattle.go_rules.specs.GoTypes.Types.{FuncType}
+use Rattle.go_rules.specs.GoTypes.Entities.{Env}
+use Rattle.go_rules.specs.GoTypes.TypeNames.{func_type}
+use Rattle.go_rules.specs.GoTypes.Bodies.{body_ctx, is_body}
+use Rattle.go_rules.specs.GoTypes.Jumps.{labels_in}
+use Rattle.go_rules.specs.GoTypes.Typing.{stmts}
+use Rattle.go_rules.specs.GoTypes.Programs.{Headed, headed, block_names, is_main, file_env}
+use Rattle.go_rules.specs.GoTypes.Collect.{DeclaredTypes, types_declared}
+use Rattle.go_rules.specs.GoTypes.WellTyped.{receiver_names}
+use Rattle.go_rules.specs.ScopeNames.FreeNames.{sig_names}
+use Rattle.go_rules.proofs.GoTypes.Agreeing.{from_given, some_same}
 use Rattle.typed_in_place.specs.ProgramReplaced.{all_and}
 use Rattle.pkg_graph.specs.Package.{Package}
 use Rattle.run_rules.specs.Calls.{Call, start, start_with, given_params, chosen_binds}

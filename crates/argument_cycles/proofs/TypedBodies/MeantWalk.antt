@@ -3,23 +3,23 @@ use Rattle.std.proofs.Common.{◌≡◌, refl, sym, ap, ◌∙◌, ℕ, suc, ◌
 use Rattle.std.specs.Prelude.{is_some, bytes_eq}
 use Rattle.go_tree.specs.Tree.{NameAt, Param, Sig, TypeExpr, Expr, ident, int_lit, rune_lit, str_lit, composite, selector, index, slice, call, func_lit, type_operand, unary, binary, star, Exprs, no_exprs, expr_and, ExprOption, no_expr, some_expr, Elems, no_elems, elem, Value, plain, braced, ValueOption, no_value, some_value, Stmt, const_decl, var_decl, empty, eval, step, assign, define, return_, break_, continue_, inner, if_, for_, range_, switch, defer, label, Stmts, no_stmts, stmt_and, StmtOption, no_stmt, some_stmt, BlockOption, no_block, some_block, RangeLeft, nothing, assigns, defines, Arms, no_arms, arm, Cases, no_cases, case, ValueSpecs, no_specs, spec}
 use Rattle.go_tree.specs.GoWords.Terminals.{level_of}
-use Rattle.go_tree.specs.ScopeNames.FreeNames.{names_of, sig_names, declared}
-use Rattle.go_tree.specs.GoTypes.Answers.{given, both, meets, only_if, is_empty, distinct_by}
-use Rattle.go_tree.specs.GoTypes.Types.{GoType, FuncType}
-use Rattle.go_tree.specs.GoTypes.Defined.{under}
-use Rattle.go_tree.specs.GoTypes.Entities.{Env, Binds, exported, defined_in, extend, in_block}
-use Rattle.go_tree.specs.GoTypes.TypeNames.{type_meant, func_type, written_type}
-use Rattle.go_tree.specs.GoTypes.Operands.{Operand, Typed, typed, with_value, named_operand, a_function, takes_all, spread}
-use Rattle.go_tree.specs.GoTypes.Operators.{unary_of, binary_of, star_of}
-use Rattle.go_tree.specs.GoTypes.Primary.{selected, index_of, sliced, call_of, stands_alone, may_be_deferred}
-use Rattle.go_tree.specs.GoTypes.Literals.{Element, is_struct, built, built_inside, inner_type, literal_type}
-use Rattle.go_tree.specs.GoTypes.Declarations.{Declared, new_constants, new_variables, new_by_define, binds_or, binds_of, and_then, unused_after, all_used, Repeated, nothing_to_repeat}
-use Rattle.go_tree.specs.GoTypes.Bodies.{Ctx, in_loop, in_switch, body_binds, body_ctx, no_values, literal_env, is_body, labelled, returns}
-use Rattle.go_tree.specs.GoTypes.Statements.{Target, blank, target_at, stores_all, updates, step_op, one_more, right_values, package_before, is_blank_name, is_panic, is_empty_stmt, range_assigns, has_last, Clauses, assigned_values}
-use Rattle.go_tree.specs.GoTypes.Typing.{parts, all_parts, bound, elements, element, with_key, place, places, used_stmts, used_block, used_variables, declares, declares_constants, declares_variables, targets, stmt, stmts, first, block, is_call, ranges, arms, clauses}
-use Rattle.go_tree.proofs.GoTypes.Agreeing.{from_given, from_both, from_only}
+use Rattle.go_rules.specs.ScopeNames.FreeNames.{names_of, sig_names, declared}
+use Rattle.go_rules.specs.GoTypes.Answers.{given, both, meets, only_if, is_empty, distinct_by}
+use Rattle.go_rules.specs.GoTypes.Types.{GoType, FuncType}
+use Rattle.go_rules.specs.GoTypes.Defined.{under}
+use Rattle.go_rules.specs.GoTypes.Entities.{Env, Binds, exported, defined_in, extend, in_block}
+use Rattle.go_rules.specs.GoTypes.TypeNames.{type_meant, func_type, written_type}
+use Rattle.go_rules.specs.GoTypes.Operands.{Operand, Typed, typed, with_value, named_operand, a_function, takes_all, spread}
+use Rattle.go_rules.specs.GoTypes.Operators.{unary_of, binary_of, star_of}
+use Rattle.go_rules.specs.GoTypes.Primary.{selected, index_of, sliced, call_of, stands_alone, may_be_deferred}
+use Rattle.go_rules.specs.GoTypes.Literals.{Element, is_struct, built, built_inside, inner_type, literal_type}
+use Rattle.go_rules.specs.GoTypes.Declarations.{Declared, new_constants, new_variables, new_by_define, binds_or, binds_of, and_then, unused_after, all_used, Repeated, nothing_to_repeat}
+use Rattle.go_rules.specs.GoTypes.Bodies.{Ctx, in_loop, in_switch, body_binds, body_ctx, no_values, literal_env, is_body, labelled, returns}
+use Rattle.go_rules.specs.GoTypes.Statements.{Target, blank, target_at, stores_all, updates, step_op, one_more, right_values, package_before, is_blank_name, is_panic, is_empty_stmt, range_assigns, has_last, Clauses, assigned_values}
+use Rattle.go_rules.specs.GoTypes.Typing.{parts, all_parts, bound, elements, element, with_key, place, places, used_stmts, used_block, used_variables, declares, declares_constants, declares_variables, targets, stmt, stmts, first, block, is_call, ranges, arms, clauses}
+use Rattle.go_rules.proofs.GoTypes.Agreeing.{from_given, from_both, from_only}
 use Rattle.go_tree.specs.declared.exprs.Rest.{Rest}
-use Rattle.go_tree.specs.GoTypes.Jumps.{breaks, labels_in}
+use Rattle.go_rules.specs.GoTypes.Jumps.{breaks, labels_in}
 use Rattle.form_meaning.specs.FormInPlace.Bound.{stmt_binds, first_binds, range_left_binds, variable_binds, literal_under}
 use Rattle.pkg_graph.specs.Package.{Package}
 use Rattle.run_rules.specs.Surroundings.{Use, whole, stored, updated, called, deferred_call, alone, other, a_slot, Place, Seen, seen, seen_type, seen_stmt, alike, into_type, head_use, later_uses, arg_uses, unary_use, operand_use, first_operand_use, right_uses, every_use, value_use, return_uses, elem_use, key_use, inner_slot, last_slot, in_slot, callee_place, comma_slot, elem_closed, after_stmt, after_first, looping, switching, in_heading, at_stmt, plain_slot, ranged, in_literal, after_variables, is_old, repeated_by, in_constant, after_constants, before_repeats}

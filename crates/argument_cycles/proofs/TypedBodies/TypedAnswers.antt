@@ -2,15 +2,15 @@
 use Rattle.std.proofs.Common.{◌≡◌, refl, ap, ◌∙◌, ℕ, suc, ◌+◌, Bool, true, false, not, List, [], Option, Some, None, if◌then◌else◌, arith}
 use Rattle.std.specs.Prelude.{is_some}
 use Rattle.go_tree.specs.Tree.{StmtOption, no_stmt, some_stmt}
-use Rattle.go_tree.specs.ScopeNames.FreeNames.{declared_option}
-use Rattle.go_tree.specs.GoTypes.Answers.{given, both, meets, only_if, is_empty}
-use Rattle.go_tree.specs.GoTypes.Types.{GoType}
-use Rattle.go_tree.specs.GoTypes.Entities.{variable, Env, Binds, defined_in, extend}
-use Rattle.go_tree.specs.GoTypes.Operands.{Operand, Typed, all_typed}
-use Rattle.go_tree.specs.GoTypes.Declarations.{Declared, bound_names, bind_all, bind_each, constant_entity, variable_entity, constants_declared, variables_declared, some_declared, new_constants, new_variables, new_by_define, names_once, may_declare, defined_by, binds_of}
-use Rattle.go_tree.specs.GoTypes.Bodies.{Ctx}
-use Rattle.go_tree.specs.GoTypes.Typing.{declares, declares_first, stmt, first}
-use Rattle.go_tree.proofs.GoTypes.Agreeing.{from_given, from_both, from_only}
+use Rattle.go_rules.specs.ScopeNames.FreeNames.{declared_option}
+use Rattle.go_rules.specs.GoTypes.Answers.{given, both, meets, only_if, is_empty}
+use Rattle.go_rules.specs.GoTypes.Types.{GoType}
+use Rattle.go_rules.specs.GoTypes.Entities.{variable, Env, Binds, defined_in, extend}
+use Rattle.go_rules.specs.GoTypes.Operands.{Operand, Typed, all_typed}
+use Rattle.go_rules.specs.GoTypes.Declarations.{Declared, bound_names, bind_all, bind_each, constant_entity, variable_entity, constants_declared, variables_declared, some_declared, new_constants, new_variables, new_by_define, names_once, may_declare, defined_by, binds_of}
+use Rattle.go_rules.specs.GoTypes.Bodies.{Ctx}
+use Rattle.go_rules.specs.GoTypes.Typing.{declares, declares_first, stmt, first}
+use Rattle.go_rules.proofs.GoTypes.Agreeing.{from_given, from_both, from_only}
 use Rattle.form_meaning.specs.FormInPlace.Bound.{first_binds}
 
 pub passed : {A : Type 0} (b : Bool) (r : Option A) (x : A) → only_if b r ≡ Some x → b ≡ true

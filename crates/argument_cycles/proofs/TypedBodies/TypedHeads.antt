@@ -2,16 +2,16 @@
 use Rattle.std.proofs.Common.{◌≡◌, ap, ◌∙◌, ℕ, ◌+◌, Bool, true, false, not, ◌&&◌, List, ◌++◌, Option, Some, None}
 use Rattle.std.specs.List.{list_all}
 use Rattle.go_tree.specs.Tree.{Expr, Exprs, ExprOption, for_, range_, switch, Stmts, StmtOption, RangeLeft, Arms, arm, Cases, case}
-use Rattle.go_tree.specs.ScopeNames.FreeNames.{defined}
-use Rattle.go_tree.specs.GoTypes.Answers.{given, both, meets, only_if, unless_missing}
-use Rattle.go_tree.specs.GoTypes.Entities.{Env, defined_in, extend, in_block}
-use Rattle.go_tree.specs.GoTypes.Operands.{Operand, Typed, all_typed, value}
-use Rattle.go_tree.specs.GoTypes.Declarations.{Declared, binds_of, all_used}
-use Rattle.go_tree.specs.GoTypes.Bodies.{Ctx, in_loop, in_switch}
-use Rattle.go_tree.specs.GoTypes.Statements.{is_test, is_condition, tag_of, choice, is_define, case_value, Clauses, tag_value, case_constants, is_absent, is_default}
-use Rattle.go_tree.specs.GoTypes.Typing.{parts, all_parts, bound, used, used_option, used_stmts, used_first, used_arms, used_cases, range_declares, stmt, stmts, first, ranges, arms, clauses}
-use Rattle.go_tree.proofs.GoTypes.Agreeing.{from_given, from_both, from_only}
-use Rattle.go_tree.specs.GoTypes.Jumps.{breaks_in}
+use Rattle.go_rules.specs.ScopeNames.FreeNames.{defined}
+use Rattle.go_rules.specs.GoTypes.Answers.{given, both, meets, only_if, unless_missing}
+use Rattle.go_rules.specs.GoTypes.Entities.{Env, defined_in, extend, in_block}
+use Rattle.go_rules.specs.GoTypes.Operands.{Operand, Typed, all_typed, value}
+use Rattle.go_rules.specs.GoTypes.Declarations.{Declared, binds_of, all_used}
+use Rattle.go_rules.specs.GoTypes.Bodies.{Ctx, in_loop, in_switch}
+use Rattle.go_rules.specs.GoTypes.Statements.{is_test, is_condition, tag_of, choice, is_define, case_value, Clauses, tag_value, case_constants, is_absent, is_default}
+use Rattle.go_rules.specs.GoTypes.Typing.{parts, all_parts, bound, used, used_option, used_stmts, used_first, used_arms, used_cases, range_declares, stmt, stmts, first, ranges, arms, clauses}
+use Rattle.go_rules.proofs.GoTypes.Agreeing.{from_given, from_both, from_only}
+use Rattle.go_rules.specs.GoTypes.Jumps.{breaks_in}
 use Rattle.typed_in_place.proofs.Rising.{and_second}
 use Rattle.form_meaning.specs.FormInPlace.Bound.{first_binds, range_left_binds}
 use Rattle.argument_cycles.proofs.TypedBodies.TypedAnswers.{passed, met, first_then}

@@ -2,12 +2,12 @@
 use Rattle.std.proofs.Common.{◌≡◌, refl, sym, ap, ◌∙◌, ℕ, Bool, true, false, List, [], ◌∷◌, Option, Some, None}
 use Rattle.std.specs.Prelude.{is_some}
 use Rattle.go_tree.specs.Tree.{Param, Sig, TypeExpr, named, pointer, slice_type, map_type, struct_type, Fields, no_fields, field}
-use Rattle.go_tree.specs.GoTypes.Answers.{given, both, only_if}
-use Rattle.go_tree.specs.GoTypes.Types.{GoType, pointer_to, slice_of, map_of, struct_of, GoFields, FuncType}
-use Rattle.go_tree.specs.GoTypes.Defined.{has_keys}
-use Rattle.go_tree.specs.GoTypes.Entities.{Entity, type_name, package_name, Env, meaning, package_of, type_of_name, exported, defined_in}
-use Rattle.go_tree.specs.GoTypes.TypeNames.{resolved, resolved_fields, field_before, type_meant, params_meant, func_type}
-use Rattle.go_tree.proofs.GoTypes.Agreeing.{from_given, from_both}
+use Rattle.go_rules.specs.GoTypes.Answers.{given, both, only_if}
+use Rattle.go_rules.specs.GoTypes.Types.{GoType, pointer_to, slice_of, map_of, struct_of, GoFields, FuncType}
+use Rattle.go_rules.specs.GoTypes.Defined.{has_keys}
+use Rattle.go_rules.specs.GoTypes.Entities.{Entity, type_name, package_name, Env, meaning, package_of, type_of_name, exported, defined_in}
+use Rattle.go_rules.specs.GoTypes.TypeNames.{resolved, resolved_fields, field_before, type_meant, params_meant, func_type}
+use Rattle.go_rules.proofs.GoTypes.Agreeing.{from_given, from_both}
 use Rattle.run_rules.specs.Surroundings.{Place, is_local}
 use Rattle.literal_steps.specs.TypedParts.{is_value}
 use Rattle.literal_cycles.proofs.BodyForms.FormsWritten.{apart}

@@ -3,8 +3,8 @@ use Rattle.std.proofs.Common.{◌≡◌, refl, sym, ap, ◌∙◌, ◌⊎◌, in
 use Rattle.std.specs.Prelude.{is_some}
 use Rattle.go_tree.specs.declared.exprs.Rest.{Rest}
 use Rattle.go_tree.specs.Tree.{NameAt, Expr, ident, selector, call, Exprs, Stmt, inner}
-use Rattle.go_tree.specs.ScopeNames.FreeNames.{names_of}
-use Rattle.go_tree.specs.GoTypes.Answers.{meets}
+use Rattle.go_rules.specs.ScopeNames.FreeNames.{names_of}
+use Rattle.go_rules.specs.GoTypes.Answers.{meets}
 use Rattle.pkg_graph.specs.Package.{Package}
 use Rattle.run_rules.specs.Cycles.{LeadsTo, function_marks}
 use Rattle.run_rules.specs.FormTrees.{FormKind, LiteralForm}

@@ -1,7 +1,7 @@
 -- The laws of uses whose steps add imports. Each is the contract of a function of this crate (Go specification, Calls;
 -- Import declarations; Qualified identifiers; Declarations and scope).
 use Rattle.std.specs.Prelude.{List}
-use Rattle.go_tree.specs.ScopeNames.Binders.{func_binders}
+use Rattle.go_rules.specs.ScopeNames.Binders.{func_binders}
 use Rattle.run_rules.specs.Run.{Standing, Logged, Next, is_commented}
 use Rattle.run_rules.specs.Sites.{MarkRef}
 use Rattle.run_rules.specs.Steps.{same_here}

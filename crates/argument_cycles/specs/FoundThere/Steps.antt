@@ -2,7 +2,7 @@
 -- specification, Calls; Import declarations; Qualified identifiers; Blocks; Function literals).
 use Rattle.std.specs.Prelude.{◌≡◌, List, Some, slice_get}
 use Rattle.go_tree.specs.File.{Func, func}
-use Rattle.go_tree.specs.ScopeNames.Binders.{func_binders}
+use Rattle.go_rules.specs.ScopeNames.Binders.{func_binders}
 use Rattle.run_rules.specs.Places.{stmts_seen}
 use Rattle.run_rules.specs.Programs.{body_place}
 use Rattle.run_rules.specs.Run.{Standing, Logged, Next, is_commented}

@@ -2,8 +2,8 @@
 -- identifiers; Declarations and scope).
 use Rattle.std.specs.Prelude.{◌≡◌, ◌⊎◌, ℕ, false, List, map, ◌++◌, Some, None, slice_get}
 use Rattle.go_tree.specs.File.{Decl}
-use Rattle.go_tree.specs.ScopeNames.Means.{means, numbered}
-use Rattle.go_tree.specs.ScopeNames.Means as scope
+use Rattle.go_rules.specs.ScopeNames.Means.{means, numbered}
+use Rattle.go_rules.specs.ScopeNames.Means as scope
 use Rattle.go_tree.specs.Tree.{Expr}
 use Rattle.pkg_graph.specs.Members.{Target, predeclared, package_block}
 use Rattle.pkg_graph.specs.Package.{specs_in}

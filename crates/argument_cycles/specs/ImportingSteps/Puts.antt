@@ -3,7 +3,7 @@
 use Rattle.std.specs.Prelude.{◌≡◌, ℕ, Bool, true, List, Some, slice_get}
 use Rattle.go_tree.specs.Tree.{Expr, Stmts}
 use Rattle.go_tree.specs.File.{Func, Decl, func}
-use Rattle.go_tree.specs.GoTypes.Answers.{meets}
+use Rattle.go_rules.specs.GoTypes.Answers.{meets}
 use Rattle.pkg_graph.specs.Package.{Package}
 use Rattle.run_rules.specs.Calls.{given_params}
 use Rattle.run_rules.specs.FormTrees.{FormKind, LiteralForm, as_expr, as_block}

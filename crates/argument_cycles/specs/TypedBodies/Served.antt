@@ -2,7 +2,7 @@
 -- specification, Calls; Qualified identifiers; Method declarations; Composite literals).
 use Rattle.std.specs.Prelude.{◌≡◌, ℕ, Bool, true, false, List, [], ◌∷◌, Some, None, is_some, nat_eq}
 use Rattle.go_tree.specs.Tree.{ident, selector, call, func_lit}
-use Rattle.go_tree.specs.GoTypes.Answers.{given}
+use Rattle.go_rules.specs.GoTypes.Answers.{given}
 use Rattle.pkg_graph.specs.Package.{Package}
 use Rattle.run_rules.specs.Calls.{start_with}
 use Rattle.run_rules.specs.Cycles.{LeadsTo}

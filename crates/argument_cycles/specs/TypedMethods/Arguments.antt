@@ -3,8 +3,8 @@
 use Rattle.std.specs.Prelude.{◌≡◌, ℕ, Bool, true, false, List, [], ◌∷◌}
 use Rattle.go_tree.specs.Tree.{Expr, ident, composite, selector, index, slice, call, func_lit, unary, binary, star}
 use Rattle.go_tree.specs.Tree.{Exprs, no_exprs, expr_and, ExprOption, no_expr, some_expr}
-use Rattle.go_tree.specs.GoTypes.Answers.{meets, is_among}
-use Rattle.go_tree.specs.ScopeNames.Binders.{func_binders}
+use Rattle.go_rules.specs.GoTypes.Answers.{meets, is_among}
+use Rattle.go_rules.specs.ScopeNames.Binders.{func_binders}
 use Rattle.pkg_graph.specs.Package.{Package}
 use Rattle.run_rules.specs.Calls.{Given, arg_typed, given_params}
 use Rattle.run_rules.specs.Conversions.{converts}

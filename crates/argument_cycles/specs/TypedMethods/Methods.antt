@@ -3,7 +3,7 @@
 -- declarations; Method sets; Blocks; Function literals).
 use Rattle.std.specs.Prelude.{◌≡◌, ℕ, ◌⊎◌, Bool, true, false, List, [], ◌∷◌, Some}
 use Rattle.go_tree.specs.Tree.{Expr, selector, call, Stmts}
-use Rattle.go_tree.specs.GoTypes.Answers.{meets}
+use Rattle.go_rules.specs.GoTypes.Answers.{meets}
 use Rattle.pkg_graph.specs.Package.{Package}
 use Rattle.run_rules.specs.Calls.{given_params}
 use Rattle.run_rules.specs.Cycles.{LeadsTo}

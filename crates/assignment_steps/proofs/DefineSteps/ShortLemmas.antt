@@ -1,13 +1,13 @@
 -- Short declarations, by the answers for their values.
 use Rattle.std.proofs.Common.{◌≡◌, ◌∙◌, ◌++◌, ◌||◌, not, ℕ, Bool, true, false, cond, List, [], ◌∷◌, map, Option, Some, None, Result, Ok, Err, refl, sym, ap, ap₂, subst}
-use Rattle.go_tree.specs.declared.const_eval.consts.Const.{Const}
-use Rattle.go_tree.specs.ScopeNames.Means.{is_blank}
-use Rattle.go_tree.specs.GoTypes.Answers.{both, given, is_empty, only_if}
-use Rattle.go_tree.specs.GoTypes.Defined.{Defined}
-use Rattle.go_tree.specs.GoTypes.Entities as go
-use Rattle.go_tree.specs.GoTypes.Entities.{Binds, variable, constant, stand_in, type_name, function, package_name, builtin, nil_name, iota_name, refused, is_declared_here, meaning}
-use Rattle.go_tree.specs.GoTypes.Operands.{Typed}
-use Rattle.go_tree.specs.GoTypes.Declarations.{Declared, assigns_to, defined_by, some_declared}
+use Rattle.go_rules.specs.declared.const_eval.consts.Const.{Const}
+use Rattle.go_rules.specs.ScopeNames.Means.{is_blank}
+use Rattle.go_rules.specs.GoTypes.Answers.{both, given, is_empty, only_if}
+use Rattle.go_rules.specs.GoTypes.Defined.{Defined}
+use Rattle.go_rules.specs.GoTypes.Entities as go
+use Rattle.go_rules.specs.GoTypes.Entities.{Binds, variable, constant, stand_in, type_name, function, package_name, builtin, nil_name, iota_name, refused, is_declared_here, meaning}
+use Rattle.go_rules.specs.GoTypes.Operands.{Typed}
+use Rattle.go_rules.specs.GoTypes.Declarations.{Declared, assigns_to, defined_by, some_declared}
 use Rattle.type_table.specs.TypeRelations.Environment.{Environment}
 use Rattle.type_table.specs.declared.operand_rules.values.Value.{Value}
 use Rattle.type_table.specs.declared.operand_rules.values.Refusal.{Refusal}

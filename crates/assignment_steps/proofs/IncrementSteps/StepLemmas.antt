@@ -1,19 +1,19 @@
 -- Updates by the constant 1.
 use Rattle.std.proofs.Common.{◌≡◌, ◌∙◌, Bool, false, List, [], ◌∷◌, Option, Some, None, Result, Ok, Err, refl, sym, ap, ap₂, subst, pos}
 use Rattle.go_tree.specs.declared.operators.BinOp.{BinOp}
-use Rattle.go_tree.specs.declared.const_eval.kinds.Kind.TheVariants as kind
-use Rattle.go_tree.specs.declared.const_eval.consts.Const.{Const}
-use Rattle.go_tree.specs.declared.const_eval.consts.Const.TheVariants.{Whole}
-use Rattle.go_tree.specs.GoTypes.Answers.{given, meets, only_if}
-use Rattle.go_tree.specs.GoTypes.Types.{GoType, untyped}
-use Rattle.go_tree.specs.GoTypes.Defined.{Defined}
-use Rattle.go_tree.specs.GoTypes.Entities as go_entity
-use Rattle.go_tree.specs.GoTypes.Entities.{run, exact, shift}
-use Rattle.go_tree.specs.GoTypes.Operands as go
-use Rattle.go_tree.specs.GoTypes.Operands.{value, several, a_type, a_function, a_builtin, recovered, Typed, typed, with_value}
-use Rattle.go_tree.specs.GoTypes.Operators.{binary_of}
-use Rattle.go_tree.specs.GoTypes.Statements as statement
-use Rattle.go_tree.specs.GoTypes.Statements.{one_more, stores, target_at, updates}
+use Rattle.go_rules.specs.declared.const_eval.kinds.Kind.TheVariants as kind
+use Rattle.go_rules.specs.declared.const_eval.consts.Const.{Const}
+use Rattle.go_rules.specs.declared.const_eval.consts.Const.TheVariants.{Whole}
+use Rattle.go_rules.specs.GoTypes.Answers.{given, meets, only_if}
+use Rattle.go_rules.specs.GoTypes.Types.{GoType, untyped}
+use Rattle.go_rules.specs.GoTypes.Defined.{Defined}
+use Rattle.go_rules.specs.GoTypes.Entities as go_entity
+use Rattle.go_rules.specs.GoTypes.Entities.{run, exact, shift}
+use Rattle.go_rules.specs.GoTypes.Operands as go
+use Rattle.go_rules.specs.GoTypes.Operands.{value, several, a_type, a_function, a_builtin, recovered, Typed, typed, with_value}
+use Rattle.go_rules.specs.GoTypes.Operators.{binary_of}
+use Rattle.go_rules.specs.GoTypes.Statements as statement
+use Rattle.go_rules.specs.GoTypes.Statements.{one_more, stores, target_at, updates}
 use Rattle.type_table.specs.TypeRelations.Environment.{Environment}
 use Rattle.type_table.specs.declared.operand_rules.values.Value.{Value}
 use Rattle.type_table.specs.declared.operand_rules.values.Refusal.{Refusal}

@@ -1,19 +1,19 @@
 -- What specs declare, by the answers for their parts.
 use Rattle.std.proofs.Common.{◌≡◌, ◌∙◌, ◌++◌, ℕ, Bool, true, false, List, [], ◌∷◌, map, length, Option, Some, None, Result, Ok, Err, refl, sym, ap, ap₂, subst}
 use Rattle.std.specs.Prelude.{if◌then◌else◌}
-use Rattle.go_tree.specs.declared.const_eval.consts.Const.{Const}
+use Rattle.go_rules.specs.declared.const_eval.consts.Const.{Const}
 use Rattle.std.proofs.lemmas.List.{length-map}
 use Rattle.go_tree.specs.declared.texts.NameAt as source
 use Rattle.go_tree.specs.View.{name_at_of}
-use Rattle.go_tree.specs.ScopeNames.FreeNames.{names_of}
-use Rattle.go_tree.specs.ScopeNames.Means.{binding}
-use Rattle.go_tree.specs.GoTypes.Answers.{both, given, only_if}
-use Rattle.go_tree.specs.GoTypes.Types.{GoType}
-use Rattle.go_tree.specs.GoTypes.Defined.{Defined}
-use Rattle.go_tree.specs.GoTypes.Entities as go
-use Rattle.go_tree.specs.GoTypes.Entities.{Binds, run, exact, shift}
-use Rattle.go_tree.specs.GoTypes.Operands.{Operand, value, several, a_type, a_function, a_builtin, recovered, Typed, all_typed, spread}
-use Rattle.go_tree.specs.GoTypes.Declarations.{bind_all, bind_each, constant_entity, constants_declared, variable_entity, variables_declared}
+use Rattle.go_rules.specs.ScopeNames.FreeNames.{names_of}
+use Rattle.go_rules.specs.ScopeNames.Means.{binding}
+use Rattle.go_rules.specs.GoTypes.Answers.{both, given, only_if}
+use Rattle.go_rules.specs.GoTypes.Types.{GoType}
+use Rattle.go_rules.specs.GoTypes.Defined.{Defined}
+use Rattle.go_rules.specs.GoTypes.Entities as go
+use Rattle.go_rules.specs.GoTypes.Entities.{Binds, run, exact, shift}
+use Rattle.go_rules.specs.GoTypes.Operands.{Operand, value, several, a_type, a_function, a_builtin, recovered, Typed, all_typed, spread}
+use Rattle.go_rules.specs.GoTypes.Declarations.{bind_all, bind_each, constant_entity, constants_declared, variable_entity, variables_declared}
 use Rattle.type_table.specs.declared.nodes.TypeId.{TypeId}
 use Rattle.type_table.specs.TypeRelations.Environment.{Environment}
 use Rattle.type_table.specs.declared.operand_rules.values.Value.{Value}

@@ -1,14 +1,14 @@
 -- What the names of a short declaration declare, as an answer tells (Go specification, Short variable declarations).
 use Rattle.std.specs.Prelude.{◌≡◌, ℕ, List, [], ◌∷◌, ◌++◌, Option, Some, None, Result, Ok, Err}
 use Rattle.std.specs.Prelude.{IfSome, if◌then◌else◌}
-use Rattle.go_tree.specs.declared.const_eval.consts.Const.{Const}
-use Rattle.go_tree.specs.ScopeNames.Means.{binding}
-use Rattle.go_tree.specs.GoTypes.Answers.{given, only_if}
-use Rattle.go_tree.specs.GoTypes.Defined as go_defined
-use Rattle.go_tree.specs.GoTypes.Entities as go
-use Rattle.go_tree.specs.GoTypes.Entities.{Binds, is_declared_here, meaning}
-use Rattle.go_tree.specs.GoTypes.Operands.{Typed}
-use Rattle.go_tree.specs.GoTypes.Declarations.{Declared, assigns_to, bound_names, variable_entity}
+use Rattle.go_rules.specs.declared.const_eval.consts.Const.{Const}
+use Rattle.go_rules.specs.ScopeNames.Means.{binding}
+use Rattle.go_rules.specs.GoTypes.Answers.{given, only_if}
+use Rattle.go_rules.specs.GoTypes.Defined as go_defined
+use Rattle.go_rules.specs.GoTypes.Entities as go
+use Rattle.go_rules.specs.GoTypes.Entities.{Binds, is_declared_here, meaning}
+use Rattle.go_rules.specs.GoTypes.Operands.{Typed}
+use Rattle.go_rules.specs.GoTypes.Declarations.{Declared, assigns_to, bound_names, variable_entity}
 use Rattle.type_table.specs.TypeRelations.Environment.{Environment}
 use Rattle.type_table.specs.declared.operand_rules.values.Refusal.{Refusal}
 use Rattle.type_table.specs.declared.operand_rules.values.Refusal.TheVariants.{NotTyped, NoMemory}

@@ -2,10 +2,10 @@
 //! declarations).
 
 ghost use Rattle.std.specs.Prelude.{◌≡◌, List, length, map, OnOk};
-ghost use Rattle.go_tree.specs.declared.const_eval.consts.Const.{Const};
+ghost use Rattle.go_rules.specs.declared.const_eval.consts.Const.{Const};
 ghost use Rattle.go_tree.specs.View.{name_at_of};
-ghost use Rattle.go_tree.specs.GoTypes.Entities as go;
-ghost use Rattle.go_tree.specs.ScopeNames.FreeNames.{names_of};
+ghost use Rattle.go_rules.specs.GoTypes.Entities as go;
+ghost use Rattle.go_rules.specs.ScopeNames.FreeNames.{names_of};
 ghost use Rattle.type_table.specs.TypeRelations.Environment.{Environment};
 ghost use Rattle.typed_names.specs.Meanings.{Names, entity_option};
 ghost use Rattle.operand_modes.specs.declared.checker_tables.tables.Tables.{Tables};

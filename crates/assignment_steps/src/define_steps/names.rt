@@ -1,8 +1,8 @@
 //! A name of a short declaration with its value (Go specification, Short variable declarations).
 
 ghost use Rattle.std.specs.Prelude.{◌≡◌, Some};
-ghost use Rattle.go_tree.specs.GoTypes.Declarations as go;
-ghost use Rattle.go_tree.specs.GoTypes.Entities.{Env, meaning};
+ghost use Rattle.go_rules.specs.GoTypes.Declarations as go;
+ghost use Rattle.go_rules.specs.GoTypes.Entities.{Env, meaning};
 ghost use Rattle.type_table.specs.TypeRelations.Environment.{defined_types};
 ghost use Rattle.type_table.specs.OperandRules.Values.{IsValue, typed_of};
 ghost use Rattle.typed_names.specs.Known.{HasTypes};

@@ -1,13 +1,13 @@
 //! Short declarations (Go specification, Short variable declarations).
 
 ghost use Rattle.std.specs.Prelude.{◌≡◌, List, Option, length, map, not};
-ghost use Rattle.go_tree.specs.declared.const_eval.consts.Const.{Const};
+ghost use Rattle.go_rules.specs.declared.const_eval.consts.Const.{Const};
 ghost use Rattle.go_tree.specs.View.{name_at_of};
-ghost use Rattle.go_tree.specs.GoTypes.Answers.{given, is_empty};
-ghost use Rattle.go_tree.specs.GoTypes.Declarations as go;
-ghost use Rattle.go_tree.specs.GoTypes.Entities.{Binds, Env};
-ghost use Rattle.go_tree.specs.GoTypes.Operands.{Typed};
-ghost use Rattle.go_tree.specs.ScopeNames.FreeNames.{names_of};
+ghost use Rattle.go_rules.specs.GoTypes.Answers.{given, is_empty};
+ghost use Rattle.go_rules.specs.GoTypes.Declarations as go;
+ghost use Rattle.go_rules.specs.GoTypes.Entities.{Binds, Env};
+ghost use Rattle.go_rules.specs.GoTypes.Operands.{Typed};
+ghost use Rattle.go_rules.specs.ScopeNames.FreeNames.{names_of};
 ghost use Rattle.type_table.specs.TypeRelations.Environment.{Environment, defined_types};
 ghost use Rattle.typed_names.specs.Meanings.{entity_option};
 ghost use Rattle.operand_modes.specs.OperandAnswers.Known.{Stands};

@@ -1,10 +1,10 @@
 //! `++` and `--` (Go specification, IncDec statements).
 
 ghost use Rattle.std.specs.Prelude.{◌≡◌, ◌∷◌, [], false, IfOk, Option, Some};
-ghost use Rattle.go_tree.specs.GoTypes.Answers.{given, only_if};
-ghost use Rattle.go_tree.specs.GoTypes.Entities as go_entity;
-ghost use Rattle.go_tree.specs.GoTypes.Operands as go_operand;
-ghost use Rattle.go_tree.specs.GoTypes.Statements as go;
+ghost use Rattle.go_rules.specs.GoTypes.Answers.{given, only_if};
+ghost use Rattle.go_rules.specs.GoTypes.Entities as go_entity;
+ghost use Rattle.go_rules.specs.GoTypes.Operands as go_operand;
+ghost use Rattle.go_rules.specs.GoTypes.Statements as go;
 ghost use Rattle.type_table.specs.TypeRelations.Environment.{defined_types};
 ghost use Rattle.type_table.specs.OperandRules.Values.{Gives};
 ghost use Rattle.operator_rules.specs.AccessRules.Places.{place_of};
@@ -15,7 +15,7 @@ ghost use Rattle.control_steps.specs.Ends.{EndsAs};
 
 use crate::update_steps::is_updated;
 use control_steps::ends_if;
-use go_tree::const_eval::{Const, Kind};
+use go_rules::const_eval::{Const, Kind};
 use go_tree::{BinOp, NoMemory};
 use operand_modes::Operand;
 use operand_modes::checker_tables::Tables;

@@ -2,12 +2,12 @@ use Rattle.std.proofs.Common.{[], ◌≡◌, ◌<◌, rules, ◌∙◌, ◌+◌,
 use Rattle.go_tree.specs.Tree as tree
 use Rattle.go_tree.specs.View.{arm_of, arms_of, boxed_stmt_option_of, case_of, cases_of, expr_of, held_block_option_of, name_at_of, plain_expr_option_of, range_left_of, stmt_of, stmts_of}
 use Rattle.go_tree.specs.Lists.{arms_from, cases_from, stmts_from}
-use Rattle.go_tree.specs.GoTypes.Bodies.{in_loop, in_switch, labelled}
-use Rattle.go_tree.specs.GoTypes.Entities.{in_block}
-use Rattle.go_tree.specs.GoTypes.Jumps.{breaks, breaks_in}
-use Rattle.go_tree.specs.GoTypes.Answers.{given}
-use Rattle.go_tree.specs.GoTypes.Statements.{choice, has_last, is_default, tag_of}
-use Rattle.go_tree.specs.GoTypes.Typing as go
+use Rattle.go_rules.specs.GoTypes.Bodies.{in_loop, in_switch, labelled}
+use Rattle.go_rules.specs.GoTypes.Entities.{in_block}
+use Rattle.go_rules.specs.GoTypes.Jumps.{breaks, breaks_in}
+use Rattle.go_rules.specs.GoTypes.Answers.{given}
+use Rattle.go_rules.specs.GoTypes.Statements.{choice, has_last, is_default, tag_of}
+use Rattle.go_rules.specs.GoTypes.Typing as go
 use Rattle.statement_walk.proofs.BlockLemmas.{within_on}
 use Rattle.control_steps.specs.LocalBlocks.Places.{IsWithin}
 use Rattle.operand_modes.proofs.OperandAnswers.KeptLemmas.{keeps_on, value_on}
@@ -34,7 +34,7 @@ use Rattle.block_walk.proofs.StatementKinds.{const_is, plain_simple, post_simple
 use Rattle.std.specs.Prelude.{is_some}
 use Rattle.go_tree.specs.declared.stmts.ConstDecl.{out-ConstDecl}
 use Rattle.go_tree.specs.declared.stmts.VarDecl.{out-VarDecl}
-use Rattle.go_tree.specs.GoTypes.Statements.{is_define, is_test}
+use Rattle.go_rules.specs.GoTypes.Statements.{is_define, is_test}
 use Rattle.go_tree.specs.View.{const_specs_of, exprs_of, var_specs_of}
 use Rattle.statement_walk.proofs.BlockLemmas.{within_self}
 use Rattle.statement_walk.proofs.ExprArms.{at}
@@ -47,11 +47,11 @@ use Rattle.block_walk.proofs.SimpleLemmas.{const_declared, short_declared, var_d
 use Rattle.std.specs.List.{list_all}
 use Rattle.std.specs.Option.{option_map}
 use Rattle.go_tree.specs.View.{type_of, var_spec_of}
-use Rattle.go_tree.specs.ScopeNames.FreeNames.{free_type_option}
-use Rattle.go_tree.specs.GoTypes.Answers.{meets, only_if}
-use Rattle.go_tree.specs.GoTypes.Entities.{defined_in}
-use Rattle.go_tree.specs.GoTypes.Operands.{all_typed}
-use Rattle.go_tree.specs.GoTypes.Statements.{case_value, is_condition}
+use Rattle.go_rules.specs.ScopeNames.FreeNames.{free_type_option}
+use Rattle.go_rules.specs.GoTypes.Answers.{meets, only_if}
+use Rattle.go_rules.specs.GoTypes.Entities.{defined_in}
+use Rattle.go_rules.specs.GoTypes.Operands.{all_typed}
+use Rattle.go_rules.specs.GoTypes.Statements.{case_value, is_condition}
 use Rattle.type_table.specs.OperandRules.Values.{typed_of}
 use Rattle.control_steps.specs.LocalBlocks.Places.{IsPlace}
 use Rattle.statement_walk.specs.DeclaredVariables.{spec_variables}
@@ -63,7 +63,7 @@ use Rattle.block_walk.proofs.FineLiterals.{fine_all, fine_clause, fine_define, f
 use Rattle.block_walk.proofs.LiteralLemmas.{all_at, all_size, all_walked, left_size, left_walked, literals_of_size, literals_of_walked, literals_on, literals_size, literals_walked, option_size, option_walked, two_found}
 use Rattle.block_walk.proofs.WalkedLiterals.{ends_after, ends_refused, given_around, given_here, read_after, read_refused, tag_not_typed, tag_used, test_after, test_refused, values_not_typed, values_used}
 use Rattle.go_tree.specs.View.{sig_of}
-use Rattle.go_tree.specs.GoTypes.Bodies.{body_ctx}
+use Rattle.go_rules.specs.GoTypes.Bodies.{body_ctx}
 use Rattle.func_types.specs.Answers.{func_of}
 use Rattle.std.specs.Prelude.{codes}
 use Rattle.control_steps.specs.LocalBlocks.Places.{in_block_of}
@@ -73,11 +73,11 @@ use Rattle.statement_walk.specs.FunctionLiterals.Params.{sig_declares}
 use Rattle.statement_walk.specs.Parts.{AreHere, IsRead}
 use Rattle.block_walk.proofs.LiteralBlocks.{are_types, body_known, body_refused, found_cut, found_smaller, found_walked, inside, literal_bad, literal_fine, literals_end, literals_known, literals_more, literals_refused, literals_start, params_ended}
 use Rattle.std.proofs.Common.{Bool, Option}
-use Rattle.go_tree.specs.GoTypes.Answers.{without}
-use Rattle.go_tree.specs.GoTypes.Bodies.{body_binds, literal_env}
-use Rattle.go_tree.specs.GoTypes.Entities.{extend}
-use Rattle.go_tree.specs.GoTypes.TypeNames.{func_type}
-use Rattle.go_tree.specs.ScopeNames.FreeNames.{sig_names}
+use Rattle.go_rules.specs.GoTypes.Answers.{without}
+use Rattle.go_rules.specs.GoTypes.Bodies.{body_binds, literal_env}
+use Rattle.go_rules.specs.GoTypes.Entities.{extend}
+use Rattle.go_rules.specs.GoTypes.TypeNames.{func_type}
+use Rattle.go_rules.specs.ScopeNames.FreeNames.{sig_names}
 use Rattle.control_steps.specs.Ends.{EndsAs}
 use Rattle.operand_modes.proofs.OperandAnswers.KeptLemmas.{env_kept}
 use Rattle.block_walk.proofs.EndLemmas.{ends_alone}
@@ -85,7 +85,7 @@ use Rattle.block_walk.proofs.LiteralBlocks.{body_ends, body_uses, used_by_body}
 use Rattle.std.proofs.Common.{◌∷◌}
 use Rattle.block_walk.specs.Literals.{LiteralsRead}
 use Rattle.typed_names.proofs.TypeExprs.NewNames.{drop_all}
-use Rattle.go_tree.specs.GoTypes.Typing.{declares_variables, used_variables}
+use Rattle.go_rules.specs.GoTypes.Typing.{declares_variables, used_variables}
 use Rattle.block_walk.specs.Walked.{AreWalkedSpecs}
 use Rattle.statement_walk.proofs.SpecsLemmas.{group_end, group_more, group_refused, group_start}
 use Rattle.block_walk.proofs.LiteralLemmas.{spec_smaller, spec_walked}

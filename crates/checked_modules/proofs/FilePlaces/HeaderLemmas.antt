@@ -2,9 +2,9 @@
 use Rattle.std.proofs.Common.{◌≡◌, ◌∙◌, ◌+◌, ◌++◌, ℕ, suc, Bool, true, List, [], ◌∷◌, Option, Some, refl, sym, subst, ap, ap₂, drop, length, map, replicate, append_assoc}
 use Rattle.std.specs.Prelude.{slice_get}
 use Rattle.go_tree.specs.declared.spans.Span.{Span}
-use Rattle.go_tree.specs.ScopeNames.Means.{Environment}
-use Rattle.go_tree.specs.GoTypes.Entities.{Entity}
-use Rattle.go_tree.specs.GoTypes.Programs.{Header, SourceFile, Headed, Program, all_headers, block_names, file_block, header_names, header_sound, headed, headed_file, headed_files, headed_package, is_main, names_in}
+use Rattle.go_rules.specs.ScopeNames.Means.{Environment}
+use Rattle.go_rules.specs.GoTypes.Entities.{Entity}
+use Rattle.go_rules.specs.GoTypes.Programs.{Header, SourceFile, Headed, Program, all_headers, block_names, file_block, header_names, header_sound, headed, headed_file, headed_files, headed_package, is_main, names_in}
 use Rattle.typed_in_place.specs.ProgramsAlike.{OneByOne, no_more, and_more}
 use Rattle.package_blocks.proofs.HeaderLemmas.{append_none}
 use Rattle.collected.specs.Files.{file_counts, first_mark, first_marks, header_count}

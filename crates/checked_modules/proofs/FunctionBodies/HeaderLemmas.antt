@@ -1,18 +1,18 @@
 -- Functions and methods at places outside all functions of their files.
 use Rattle.std.proofs.Common.{◌≡◌, ◌∙◌, Bool, false, List, [], Option, Some, None, Result, Ok, Err, IfOk, arith, refl, sym, ap}
 use Rattle.std.specs.Option.{option_map}
-use Rattle.go_tree.specs.declared.const_eval.consts.Const.{Const}
+use Rattle.go_rules.specs.declared.const_eval.consts.Const.{Const}
 use Rattle.go_tree.specs.declared.spans.Span.{Span}
 use Rattle.go_tree.specs.View.{name_at_of}
 use Rattle.go_tree.specs.File.{Func}
-use Rattle.go_tree.specs.GoTypes.Answers.{given, meets, otherwise}
-use Rattle.go_tree.specs.GoTypes.Bodies.{body_binds, body_ctx, is_body, param_binding}
-use Rattle.go_tree.specs.GoTypes.Entities.{Binds, Env, World, extend, in_block}
-use Rattle.go_tree.specs.GoTypes.Programs.{Headed, env_of, file_env}
-use Rattle.go_tree.specs.GoTypes.TypeNames.{func_type}
-use Rattle.go_tree.specs.GoTypes.Types.{FuncType, is_untyped}
-use Rattle.go_tree.specs.GoTypes.Typing.{stmts}
-use Rattle.go_tree.specs.GoTypes.WellTyped.{function_ok, receiver_of}
+use Rattle.go_rules.specs.GoTypes.Answers.{given, meets, otherwise}
+use Rattle.go_rules.specs.GoTypes.Bodies.{body_binds, body_ctx, is_body, param_binding}
+use Rattle.go_rules.specs.GoTypes.Entities.{Binds, Env, World, extend, in_block}
+use Rattle.go_rules.specs.GoTypes.Programs.{Headed, env_of, file_env}
+use Rattle.go_rules.specs.GoTypes.TypeNames.{func_type}
+use Rattle.go_rules.specs.GoTypes.Types.{FuncType, is_untyped}
+use Rattle.go_rules.specs.GoTypes.Typing.{stmts}
+use Rattle.go_rules.specs.GoTypes.WellTyped.{function_ok, receiver_of}
 use Rattle.type_table.specs.TypeRelations.Environment.{Environment}
 use Rattle.typed_names.specs.declared.scopes.Scope.{Scope}
 use Rattle.typed_names.specs.Meanings.{Names, names_at, world_at}

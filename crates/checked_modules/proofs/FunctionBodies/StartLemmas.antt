@@ -4,12 +4,12 @@ use Rattle.std.specs.Option.{option_map}
 use Rattle.go_tree.specs.declared.spans.Span.{Span}
 use Rattle.go_tree.specs.Tree.{NameAt, Sig}
 use Rattle.go_tree.specs.View.{name_at_of}
-use Rattle.go_tree.specs.ScopeNames.Means.{is_blank}
-use Rattle.go_tree.specs.GoTypes.Answers.{distinct_by, given, is_among, only_if}
-use Rattle.go_tree.specs.GoTypes.Types.{FuncType, GoType}
-use Rattle.go_tree.specs.GoTypes.Bodies.{body_binds, param_binding, param_binds}
-use Rattle.go_tree.specs.GoTypes.Declarations.{Declared, bound_names}
-use Rattle.go_tree.specs.GoTypes.Entities.{Binds, Entity, Env, extend, in_block, is_declared_here, variable}
+use Rattle.go_rules.specs.ScopeNames.Means.{is_blank}
+use Rattle.go_rules.specs.GoTypes.Answers.{distinct_by, given, is_among, only_if}
+use Rattle.go_rules.specs.GoTypes.Types.{FuncType, GoType}
+use Rattle.go_rules.specs.GoTypes.Bodies.{body_binds, param_binding, param_binds}
+use Rattle.go_rules.specs.GoTypes.Declarations.{Declared, bound_names}
+use Rattle.go_rules.specs.GoTypes.Entities.{Binds, Entity, Env, extend, in_block, is_declared_here, variable}
 use Rattle.type_table.specs.TypeRelations.Environment.{Environment, env_type}
 use Rattle.type_table.specs.declared.operand_rules.values.Refusal.{Refusal}
 use Rattle.type_table.specs.declared.operand_rules.values.Refusal.TheVariants.{NotTyped, NoMemory}

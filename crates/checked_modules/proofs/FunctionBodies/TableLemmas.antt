@@ -1,12 +1,12 @@
 -- Tables in which the same is found as in a world.
 use Rattle.std.proofs.Common.{◌≡◌, ◌∙◌, ◌&&◌, ℕ, Bool, true, false, List, [], None, length, refl, sym, ap, inl, inr}
 use Rattle.std.specs.Prelude.{◌⊎◌}
-use Rattle.go_tree.specs.declared.const_eval.kinds.Kind.TheVariants as kind
-use Rattle.go_tree.specs.GoTypes.Types.{GoType, basic, named_type, pointer_to, slice_of, map_of, struct_of, tuple_of, untyped, untyped_nil, GoFields, no_go_fields, go_field}
-use Rattle.go_tree.specs.GoTypes.Defined.{comparable, comparable_by, comparable_fields, comparable_within, declared_methods, find_defined, has_keys, methods, under}
-use Rattle.go_tree.specs.GoTypes.Entities.{World}
-use Rattle.go_tree.specs.GoTypes.Primary.{find_method}
-use Rattle.go_tree.specs.GoTypes.Table.{named_node}
+use Rattle.go_rules.specs.declared.const_eval.kinds.Kind.TheVariants as kind
+use Rattle.go_rules.specs.GoTypes.Types.{GoType, basic, named_type, pointer_to, slice_of, map_of, struct_of, tuple_of, untyped, untyped_nil, GoFields, no_go_fields, go_field}
+use Rattle.go_rules.specs.GoTypes.Defined.{comparable, comparable_by, comparable_fields, comparable_within, declared_methods, find_defined, has_keys, methods, under}
+use Rattle.go_rules.specs.GoTypes.Entities.{World}
+use Rattle.go_rules.specs.GoTypes.Primary.{find_method}
+use Rattle.go_rules.specs.GoTypes.Table.{named_node}
 use Rattle.type_table.specs.TypeRelations.Environment.{Environment, IsEnvironment, defined_types, env_type}
 use Rattle.type_table.proofs.TypesAtLaws.{type_at_row}
 use Rattle.collected.specs.Methods.{HaveMethods}

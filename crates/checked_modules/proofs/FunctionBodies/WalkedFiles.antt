@@ -3,7 +3,7 @@ use Rattle.std.proofs.Common.{◌≡◌, ◌++◌, ℕ, zero, suc, List, [], ◌
 use Rattle.std.specs.Prelude.{slice_get}
 use Rattle.go_tree.specs.declared.spans.Span.{Span}
 use Rattle.go_tree.specs.File.{Decl, values, types, func}
-use Rattle.go_tree.specs.GoTypes.Programs.{SourceFile, block_names}
+use Rattle.go_rules.specs.GoTypes.Programs.{SourceFile, block_names}
 use Rattle.pkg_graph.specs.GraphLaws.{OrdersAreUnique}
 use Rattle.pkg_graph.specs.Package as pure
 use Rattle.pkg_graph.specs.Views.{package_view, source_of}

@@ -3,7 +3,7 @@ use Rattle.std.proofs.Common.{◌≡◌, Bool, true, false, refl, sym}
 use Rattle.std.proofs.lemmas.Bool.{true≢false}
 use Rattle.go_tree.specs.declared.spans.Span.{Span}
 use Rattle.go_tree.specs.Tree.{Expr, ident, int_lit, rune_lit, str_lit, composite, selector, index, slice, call, func_lit, type_operand, unary, binary, star, Exprs, no_exprs, expr_and, ExprOption, no_expr, some_expr, Elems, no_elems, elem, Value, plain, braced, ValueOption, no_value, some_value, Stmt, const_decl, var_decl, empty, eval, step, assign, define, return_, break_, continue_, inner, if_, for_, range_, switch, defer, label, Stmts, no_stmts, stmt_and, StmtOption, no_stmt, some_stmt, BlockOption, no_block, some_block, Arms, no_arms, arm, RangeLeft, nothing, assigns, defines, Cases, no_cases, case, ValueSpecs, no_specs, spec}
-use Rattle.go_tree.specs.GoTypes.Statements.{is_define}
+use Rattle.go_rules.specs.GoTypes.Statements.{is_define}
 use Rattle.collected.specs.Formed.{FormedArms, FormedBlock, FormedCases, FormedElems, FormedExpr, FormedExprs, FormedKey, FormedLeft, FormedOption, FormedPart, FormedSpecs, FormedStmt, FormedStmts, FormedValue, is_simple}
 use Rattle.collected.proofs.ValueHeaders.SpelledLiterals.{integer_spelled, rune_spelled, string_spelled}
 use Rattle.block_walk.specs.Walked.{AreWalkedArms, AreWalkedCases, AreWalkedElems, AreWalkedExprs, AreWalkedSpecs, AreWalkedStmts, IsHeader, IsPostOption, IsWalkedBlock, IsWalkedExpr, IsWalkedKey, IsWalkedLeft, IsWalkedOption, IsWalkedStmt, IsWalkedValue, holds_others, is_declaration}

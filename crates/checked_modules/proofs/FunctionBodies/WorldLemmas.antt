@@ -2,24 +2,24 @@
 use Rattle.std.proofs.Common.{◌≡◌, ◌∙◌, ◌++◌, ◌&&◌, ℕ, Bool, false, List, [], Option, Some, None, refl, sym, ap, ap₂, nat_eq}
 use Rattle.std.specs.Prelude.{is_none}
 use Rattle.go_tree.specs.declared.spans.Span.{Span}
-use Rattle.go_tree.specs.declared.const_eval.consts.Const.{Const}
+use Rattle.go_rules.specs.declared.const_eval.consts.Const.{Const}
 use Rattle.go_tree.specs.Tree.{Param, Sig, TypeExpr}
 use Rattle.go_tree.specs.File.{Func, Receiver}
-use Rattle.go_tree.specs.ScopeNames.Means.{Environment, means, or_else}
-use Rattle.go_tree.specs.ScopeNames.FreeNames.{free_stmts, free_type}
-use Rattle.go_tree.specs.GoTypes.Agreement.{Agrees, On, with_names}
-use Rattle.go_tree.specs.GoTypes.Answers.{answers_of, both, given, meets, only_if, otherwise}
-use Rattle.go_tree.specs.GoTypes.Bodies.{Ctx, body_binds, body_ctx, is_body}
-use Rattle.go_tree.specs.GoTypes.Defined.{has_keys}
-use Rattle.go_tree.specs.GoTypes.Entities.{Binds, Entity, Env, World, defined_in, extend, in_block, meaning, type_of_name}
-use Rattle.go_tree.specs.GoTypes.MethodDeclarations.{receiver_binds, receiver_type}
-use Rattle.go_tree.specs.GoTypes.Programs.{Headed, env_of}
-use Rattle.go_tree.specs.GoTypes.TypeNames.{func_type, params_meant, type_meant}
-use Rattle.go_tree.specs.GoTypes.Types.{FuncType, base_of, named_type, type_name_of}
-use Rattle.go_tree.specs.GoTypes.Typing.{stmts}
-use Rattle.go_tree.specs.GoTypes.WellTyped.{function_ok, receiver_of}
-use Rattle.go_tree.proofs.GoTypes.TypingAlike.{resolved-alike, stmts-alike}
-use Rattle.go_tree.proofs.ScopeNames.OutermostLaws.{first_of}
+use Rattle.go_rules.specs.ScopeNames.Means.{Environment, means, or_else}
+use Rattle.go_rules.specs.ScopeNames.FreeNames.{free_stmts, free_type}
+use Rattle.go_rules.specs.GoTypes.Agreement.{Agrees, On, with_names}
+use Rattle.go_rules.specs.GoTypes.Answers.{answers_of, both, given, meets, only_if, otherwise}
+use Rattle.go_rules.specs.GoTypes.Bodies.{Ctx, body_binds, body_ctx, is_body}
+use Rattle.go_rules.specs.GoTypes.Defined.{has_keys}
+use Rattle.go_rules.specs.GoTypes.Entities.{Binds, Entity, Env, World, defined_in, extend, in_block, meaning, type_of_name}
+use Rattle.go_rules.specs.GoTypes.MethodDeclarations.{receiver_binds, receiver_type}
+use Rattle.go_rules.specs.GoTypes.Programs.{Headed, env_of}
+use Rattle.go_rules.specs.GoTypes.TypeNames.{func_type, params_meant, type_meant}
+use Rattle.go_rules.specs.GoTypes.Types.{FuncType, base_of, named_type, type_name_of}
+use Rattle.go_rules.specs.GoTypes.Typing.{stmts}
+use Rattle.go_rules.specs.GoTypes.WellTyped.{function_ok, receiver_of}
+use Rattle.go_rules.proofs.GoTypes.TypingAlike.{resolved-alike, stmts-alike}
+use Rattle.go_rules.proofs.ScopeNames.OutermostLaws.{first_of}
 use Rattle.type_table.specs.TypeRelations.Environment as table
 use Rattle.typed_names.specs.declared.scopes.Scope.{Scope}
 use Rattle.typed_names.specs.Meanings.{Names, world_at}

@@ -2,16 +2,16 @@
 use Rattle.std.proofs.Common.{◌≡◌, ◌∙◌, ◌++◌, ◌&&◌, ◌||◌, not, ℕ, Bool, true, false, List, [], Option, Some, None, refl, sym, ap, ap₂}
 use Rattle.std.specs.Prelude.{if◌then◌else◌}
 use Rattle.go_tree.specs.declared.spans.Span.{Span}
-use Rattle.go_tree.specs.declared.const_eval.consts.Const.{Const}
-use Rattle.go_tree.specs.ScopeNames.Means.{is_blank, means, or_else}
-use Rattle.go_tree.proofs.ScopeNames.OutermostLaws.{first_of}
-use Rattle.go_tree.specs.GoTypes.Answers.{given, only_if}
-use Rattle.go_tree.specs.GoTypes.Types.{GoType, base_of}
-use Rattle.go_tree.specs.GoTypes.Entities as go
-use Rattle.go_tree.specs.GoTypes.Entities.{Place, World, block_of, exported, in_block, is_exported, meaning, universe}
-use Rattle.go_tree.specs.GoTypes.Operands.{Operand, Typed, a_function, plain_value}
-use Rattle.go_tree.specs.GoTypes.Primary.{home_of, is_addressable, method_of, method_value, sees, selected}
-use Rattle.go_tree.specs.GoTypes.Programs.{Headed, env_of}
+use Rattle.go_rules.specs.declared.const_eval.consts.Const.{Const}
+use Rattle.go_rules.specs.ScopeNames.Means.{is_blank, means, or_else}
+use Rattle.go_rules.proofs.ScopeNames.OutermostLaws.{first_of}
+use Rattle.go_rules.specs.GoTypes.Answers.{given, only_if}
+use Rattle.go_rules.specs.GoTypes.Types.{GoType, base_of}
+use Rattle.go_rules.specs.GoTypes.Entities as go
+use Rattle.go_rules.specs.GoTypes.Entities.{Place, World, block_of, exported, in_block, is_exported, meaning, universe}
+use Rattle.go_rules.specs.GoTypes.Operands.{Operand, Typed, a_function, plain_value}
+use Rattle.go_rules.specs.GoTypes.Primary.{home_of, is_addressable, method_of, method_value, sees, selected}
+use Rattle.go_rules.specs.GoTypes.Programs.{Headed, env_of}
 use Rattle.type_table.specs.TypeRelations.Environment.{Environment}
 use Rattle.typed_names.specs.declared.scopes.Scope.{Scope}
 use Rattle.typed_names.specs.Meanings.{Names, names_at, world_at}

@@ -12,8 +12,8 @@ use Rattle.go_tree.specs.GoWords.Tokens.Characters.{is_listed}
 use Rattle.go_tree.specs.GoWords.Tokens.Forms.{Form, HasForm, both, empty, joined, listed, many, maybe, no_more, once_more, one_of, the_one, the_other, without}
 use Rattle.go_tree.specs.GoWords.Tokens.Literals.{decimal_digit, decimal_lit, digits_of, int_lit, underscore}
 use Rattle.go_tree.specs.GoLiterals.Units.{rune_value}
-use Rattle.go_tree.specs.ConstEval.Exact.{Exact, number, text}
-use Rattle.go_tree.specs.ConstEval.Literals.{integer_value}
+use Rattle.go_rules.specs.ConstEval.Exact.{Exact, number, text}
+use Rattle.go_rules.specs.ConstEval.Literals.{integer_value}
 use Rattle.checked_modules.specs.RefusedBodies.Laws.{ShortDecimalsAreLiterals}
 
 and_both : (a b : Bool) → (a && b) ≡ true → (a ≡ true) × (b ≡ true)

@@ -7,14 +7,14 @@ use Rattle.std.proofs.lemmas.Bool.Decides.{nat_tests}
 use Rattle.go_tree.specs.declared.spans.Span.{Span}
 use Rattle.go_tree.specs.Tree.{TypeExpr, Exprs, no_exprs, Stmt, const_decl, var_decl, ValueSpecs, no_specs, spec}
 use Rattle.go_tree.specs.File.{TypeSpec, Receiver, Func, Decl, values, types, func}
-use Rattle.go_tree.specs.ScopeNames.Means.{Environment}
-use Rattle.go_tree.specs.GoTypes.Answers.{given, meets, otherwise, one_of, unless_missing}
-use Rattle.go_tree.specs.GoTypes.Bodies.{body_binds, body_ctx, is_body, no_values}
-use Rattle.go_tree.specs.GoTypes.Entities.{Entity, World, extend, in_block}
-use Rattle.go_tree.specs.GoTypes.TypeNames.{func_type}
-use Rattle.go_tree.specs.GoTypes.Typing.{stmts}
-use Rattle.go_tree.specs.GoTypes.Programs.{Header, SourceFile, Program, Headed, a_func, a_type_spec, constants, all_headers, at_member, block_names, constant_headers, file_block, file_env, func_of, header_names, header_sound, headed, headed_file, headed_files, headed_package, is_main, names_in, variable_headers}
-use Rattle.go_tree.specs.GoTypes.WellTyped.{NotTyped, body_ok, first_body, function_ok, receiver_of, refused_unless}
+use Rattle.go_rules.specs.ScopeNames.Means.{Environment}
+use Rattle.go_rules.specs.GoTypes.Answers.{given, meets, otherwise, one_of, unless_missing}
+use Rattle.go_rules.specs.GoTypes.Bodies.{body_binds, body_ctx, is_body, no_values}
+use Rattle.go_rules.specs.GoTypes.Entities.{Entity, World, extend, in_block}
+use Rattle.go_rules.specs.GoTypes.TypeNames.{func_type}
+use Rattle.go_rules.specs.GoTypes.Typing.{stmts}
+use Rattle.go_rules.specs.GoTypes.Programs.{Header, SourceFile, Program, Headed, a_func, a_type_spec, constants, all_headers, at_member, block_names, constant_headers, file_block, file_env, func_of, header_names, header_sound, headed, headed_file, headed_files, headed_package, is_main, names_in, variable_headers}
+use Rattle.go_rules.specs.GoTypes.WellTyped.{NotTyped, body_ok, first_body, function_ok, receiver_of, refused_unless}
 use Rattle.checked_modules.specs.RefusedBodies.Functions.{first_function, first_of_files, function_in, place_in}
 use Rattle.checked_modules.specs.RefusedBodies.Laws.{FirstBodiesByFiles}
 

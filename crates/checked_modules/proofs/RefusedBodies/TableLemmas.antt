@@ -4,8 +4,8 @@ use Rattle.std.specs.Prelude.{◌⊎◌, if◌then◌else◌, slice_get}
 use Rattle.std.proofs.lemmas.Bool.{true≢false}
 use Rattle.std.proofs.lemmas.Bool.Decides.{nat_tests}
 use Rattle.std.proofs.lemmas.Slice.Eq.{bytes_eq-Decides}
-use Rattle.go_tree.specs.GoTypes.Defined.{find_defined}
-use Rattle.go_tree.specs.GoTypes.Table.{TypeNode, named_node}
+use Rattle.go_rules.specs.GoTypes.Defined.{find_defined}
+use Rattle.go_rules.specs.GoTypes.Table.{TypeNode, named_node}
 use Rattle.type_table.specs.TypeRelations.Environment.{AreDefinitions, Definition, MethodRow, defined_at, definition_in, home_of, is_defined, name_of}
 
 and_both : (a b : Bool) → (a && b) ≡ true → (a ≡ true) × (b ≡ true)

@@ -1,7 +1,7 @@
 -- The first header of each file of a program (Go specification, Packages; Declarations and scope).
 use Rattle.std.specs.Prelude.{◌≡◌, ℕ, true, List, [], length, replicate, Option, Some, None, slice_get}
 use Rattle.go_tree.specs.declared.spans.Span.{Span}
-use Rattle.go_tree.specs.GoTypes.Programs.{Headed, Program, all_headers, headed}
+use Rattle.go_rules.specs.GoTypes.Programs.{Headed, Program, all_headers, headed}
 use Rattle.collected.specs.Files.{file_counts, first_marks}
 use Rattle.checked_modules.specs.FilePlaces.Around.{FileAround, StandsIn}
 

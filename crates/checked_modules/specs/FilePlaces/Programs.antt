@@ -1,7 +1,7 @@
 -- The program of the packages of a module by their numbers (Go specification, Packages; Program initialization).
 use Rattle.std.specs.Prelude.{ℕ, List, [], ◌∷◌, ◌++◌, Option, Some, None, slice_get}
 use Rattle.go_tree.specs.declared.spans.Span.{Span}
-use Rattle.go_tree.specs.GoTypes.Programs.{Program}
+use Rattle.go_rules.specs.GoTypes.Programs.{Program}
 use Rattle.pkg_graph.specs.declared.packages.Package.{Package}
 use Rattle.pkg_graph.specs.Views.{package_view}
 use Rattle.run_rules.specs.Programs.{linked_package}

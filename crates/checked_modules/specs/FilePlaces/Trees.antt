@@ -3,7 +3,7 @@ use Rattle.std.specs.Prelude.{◌≡◌, ℕ, List, [], ◌∷◌, ◌++◌, map
 use Rattle.std.specs.Borrow.{Bor}
 use Rattle.go_tree.specs.declared.files.FileTree.{FileTree}
 use Rattle.go_tree.specs.FileView.{decl_of, file_of}
-use Rattle.go_tree.specs.GoTypes.Programs.{file_block}
+use Rattle.go_rules.specs.GoTypes.Programs.{file_block}
 use Rattle.pkg_graph.specs.declared.packages.SourceTree.{SourceTree}
 use Rattle.pkg_graph.specs.declared.packages.Package.{Package}
 use Rattle.run_rules.specs.Programs.{linked_imports}

@@ -1,11 +1,11 @@
 -- Functions and methods at places outside all functions of their files (Go specification, Function declarations; Method
 -- declarations; Blocks).
 use Rattle.std.specs.Prelude.{◌≡◌, List, [], None}
-use Rattle.go_tree.specs.declared.const_eval.consts.Const.{Const}
+use Rattle.go_rules.specs.declared.const_eval.consts.Const.{Const}
 use Rattle.go_tree.specs.declared.files.FuncDecl.{FuncDecl}
 use Rattle.go_tree.specs.declared.spans.Span.{Span}
 use Rattle.go_tree.specs.View.{stmts_of}
-use Rattle.go_tree.specs.GoTypes.Programs.{Headed}
+use Rattle.go_rules.specs.GoTypes.Programs.{Headed}
 use Rattle.type_table.specs.TypeRelations.Environment.{Environment}
 use Rattle.typed_names.specs.declared.scopes.Scope.{Scope}
 use Rattle.typed_names.specs.Meanings.{names_at}

@@ -2,9 +2,9 @@
 use Rattle.std.specs.Prelude.{Bool, [], Option, Some, None, if◌then◌else◌}
 use Rattle.std.specs.Option.{option_map}
 use Rattle.go_tree.specs.View.{name_at_of}
-use Rattle.go_tree.specs.GoTypes.Bodies.{param_binding}
-use Rattle.go_tree.specs.GoTypes.Entities.{Binds}
-use Rattle.go_tree.specs.GoTypes.Types.{GoType, pointer_to}
+use Rattle.go_rules.specs.GoTypes.Bodies.{param_binding}
+use Rattle.go_rules.specs.GoTypes.Entities.{Binds}
+use Rattle.go_rules.specs.GoTypes.Types.{GoType, pointer_to}
 use Rattle.type_table.specs.TypeRelations.Environment.{Environment, env_type}
 use Rattle.type_table.specs.declared.operand_rules.values.ValueType.TheVariants.{Typed}
 use Rattle.type_table.specs.OperandRules.Values.{IsType}

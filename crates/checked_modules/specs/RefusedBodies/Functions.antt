@@ -3,11 +3,11 @@
 use Rattle.std.specs.Prelude.{ℕ, suc, true, false, List, [], ◌∷◌, Option, Some, None, if◌then◌else◌}
 use Rattle.go_tree.specs.declared.spans.Span.{Span}
 use Rattle.go_tree.specs.File.{Func, Decl, func}
-use Rattle.go_tree.specs.ScopeNames.Means.{Environment}
-use Rattle.go_tree.specs.GoTypes.Answers.{one_of}
-use Rattle.go_tree.specs.GoTypes.Entities.{Entity, World}
-use Rattle.go_tree.specs.GoTypes.Programs.{SourceFile, Headed, a_func, file_block}
-use Rattle.go_tree.specs.GoTypes.WellTyped.{NotTyped, function_ok}
+use Rattle.go_rules.specs.ScopeNames.Means.{Environment}
+use Rattle.go_rules.specs.GoTypes.Answers.{one_of}
+use Rattle.go_rules.specs.GoTypes.Entities.{Entity, World}
+use Rattle.go_rules.specs.GoTypes.Programs.{SourceFile, Headed, a_func, file_block}
+use Rattle.go_rules.specs.GoTypes.WellTyped.{NotTyped, function_ok}
 
 -- a function in a file of the package with this number, whose imports mean these
 abbrev pub function_in : ℕ → Environment Entity → Func Span → Headed Span

@@ -3,12 +3,12 @@
 use Rattle.std.specs.Prelude.{◌≡◌, ℕ, true, false, List, ◌∷◌, ◌++◌, nat_eq, pos}
 use Rattle.std.specs.List.{list_any}
 use Rattle.go_tree.specs.declared.spans.Span.{Span}
-use Rattle.go_tree.specs.ConstEval.Exact.{number}
-use Rattle.go_tree.specs.ConstEval.Literals.{integer_value, literal_value}
+use Rattle.go_rules.specs.ConstEval.Exact.{number}
+use Rattle.go_rules.specs.ConstEval.Literals.{integer_value, literal_value}
 use Rattle.go_tree.specs.GoLiterals.Literals.{IsLiteral}
-use Rattle.go_tree.specs.GoTypes.Entities.{World}
-use Rattle.go_tree.specs.GoTypes.Programs.{SourcePackage, Program, block_names, headed}
-use Rattle.go_tree.specs.GoTypes.WellTyped.{first_body}
+use Rattle.go_rules.specs.GoTypes.Entities.{World}
+use Rattle.go_rules.specs.GoTypes.Programs.{SourcePackage, Program, block_names, headed}
+use Rattle.go_rules.specs.GoTypes.WellTyped.{first_body}
 use Rattle.printing_files.specs.Operands.{is_short_decimal}
 use Rattle.checked_modules.specs.RefusedBodies.Functions.{first_of_files}
 

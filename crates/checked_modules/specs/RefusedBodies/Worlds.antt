@@ -1,10 +1,10 @@
 -- Worlds in which the rules of typing find the same, whichever names are looked up (Go specification, Declarations and
 -- scope; Underlying types; Method sets).
 use Rattle.std.specs.Prelude.{◌≡◌, ℕ, List}
-use Rattle.go_tree.specs.GoTypes.Types.{GoType}
-use Rattle.go_tree.specs.GoTypes.Defined.{comparable, has_keys, methods, under}
-use Rattle.go_tree.specs.GoTypes.Entities.{World}
-use Rattle.go_tree.specs.GoTypes.Primary.{find_method}
+use Rattle.go_rules.specs.GoTypes.Types.{GoType}
+use Rattle.go_rules.specs.GoTypes.Defined.{comparable, has_keys, methods, under}
+use Rattle.go_rules.specs.GoTypes.Entities.{World}
+use Rattle.go_rules.specs.GoTypes.Primary.{find_method}
 use Rattle.declared_types.specs.Members.{SameMembers}
 
 -- names mean the same in the package blocks; types have the same underlying types and methods, and the same of them are

@@ -1,7 +1,7 @@
 //! The files of a module, each with its place.
 
 ghost use Rattle.std.specs.Prelude.{◌≡◌, List, map, IfOk, option_copied, slice_get};
-ghost use Rattle.go_tree.specs.GoTypes.Programs.{headed};
+ghost use Rattle.go_rules.specs.GoTypes.Programs.{headed};
 ghost use Rattle.typed_names.specs.declared.scopes.Scope.{Scope as Place};
 ghost use Rattle.package_blocks.specs.Collected.{AreOrdered};
 ghost use Rattle.package_blocks.specs.Headers.{AreHeaders, listed_of};

@@ -1,7 +1,7 @@
 //! The first header of each file of a module.
 
 ghost use Rattle.std.specs.Prelude.{◌≡◌, length, replicate, true, IfOk};
-ghost use Rattle.go_tree.specs.GoTypes.Programs.{headed};
+ghost use Rattle.go_rules.specs.GoTypes.Programs.{headed};
 ghost use Rattle.package_blocks.specs.Collected.{AreOrdered};
 ghost use Rattle.package_blocks.specs.FuncHeaders.Functions.{program_of};
 ghost use Rattle.checked_modules.specs.FilePlaces.Headers.{first_numbers};

@@ -6,7 +6,7 @@ ghost use Rattle.checked_modules.specs.FilePlaces.Imports.{IsOwnPlace};
 
 use collected::value_place;
 use file_names::{Places, names_of_file};
-use go_tree::scope_names::{ImportName, NameList};
+use go_rules::scope_names::{ImportName, NameList};
 use go_tree::{FileTree, Name, NoMemory};
 use pkg_graph::Package;
 use std::alloc::Global;

@@ -3,15 +3,15 @@
 
 ghost use Rattle.std.specs.Prelude.{◌≡◌, ◌&&◌, List, IfOk, not};
 ghost use Rattle.std.specs.Option.{option_map};
-ghost use Rattle.go_tree.specs.declared.const_eval.consts.Const.{Const};
+ghost use Rattle.go_rules.specs.declared.const_eval.consts.Const.{Const};
 ghost use Rattle.go_tree.specs.declared.spans.Span.{Span};
 ghost use Rattle.go_tree.specs.FileView.{receiver_of};
 ghost use Rattle.go_tree.specs.View.{name_at_of};
-ghost use Rattle.go_tree.specs.GoTypes.Bodies.{param_binding};
-ghost use Rattle.go_tree.specs.GoTypes.Entities as go;
-ghost use Rattle.go_tree.specs.GoTypes.Programs.{Headed};
-ghost use Rattle.go_tree.specs.GoTypes.WellTyped as go_receiver;
-ghost use Rattle.go_tree.specs.ScopeNames.Means.{is_blank};
+ghost use Rattle.go_rules.specs.GoTypes.Bodies.{param_binding};
+ghost use Rattle.go_rules.specs.GoTypes.Entities as go;
+ghost use Rattle.go_rules.specs.GoTypes.Programs.{Headed};
+ghost use Rattle.go_rules.specs.GoTypes.WellTyped as go_receiver;
+ghost use Rattle.go_rules.specs.ScopeNames.Means.{is_blank};
 ghost use Rattle.type_table.specs.TypeRelations.Environment.{Environment, env_type};
 ghost use Rattle.type_table.specs.declared.operand_rules.values.ValueType.TheVariants.{Typed};
 ghost use Rattle.type_table.specs.OperandRules.Values.{IsType};

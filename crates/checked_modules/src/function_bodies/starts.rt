@@ -3,9 +3,9 @@
 
 ghost use Rattle.std.specs.Prelude.{◌≡◌, [], List, Some, IfOk, length};
 ghost use Rattle.go_tree.specs.View.{sig_of};
-ghost use Rattle.go_tree.specs.GoTypes.Bodies as go_body;
-ghost use Rattle.go_tree.specs.GoTypes.Entities as go;
-ghost use Rattle.go_tree.specs.GoTypes.TypeNames as type_name;
+ghost use Rattle.go_rules.specs.GoTypes.Bodies as go_body;
+ghost use Rattle.go_rules.specs.GoTypes.Entities as go;
+ghost use Rattle.go_rules.specs.GoTypes.TypeNames as type_name;
 ghost use Rattle.typed_names.specs.Meanings.{Names};
 ghost use Rattle.operand_modes.specs.declared.checker_tables.tables.Tables.{Tables as AllTables};
 ghost use Rattle.operand_modes.specs.OperandAnswers.Known.{Stands};

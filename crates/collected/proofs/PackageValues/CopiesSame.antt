@@ -4,14 +4,14 @@ use mathlib.Core.Path.{ap, sym, ◌∙◌, subst}
 use Rattle.std.proofs.Common.{arith}
 use Rattle.std.proofs.lemmas.Slice.Eq.{bytes_eq-Decides}
 use Rattle.go_tree.specs.declared.spans.Span.{Span}
-use Rattle.go_tree.specs.declared.const_eval.consts.Const.{Const}
-use Rattle.go_tree.specs.ScopeNames.Means.{means}
-use Rattle.go_tree.specs.GoTypes.Agreement.{In, head, tail}
-use Rattle.go_tree.specs.GoTypes.Answers.{is_among}
-use Rattle.go_tree.specs.GoTypes.Entities.{World}
-use Rattle.go_tree.specs.GoTypes.Programs.{Headed, Program, header_names, headed}
-use Rattle.go_tree.specs.GoTypes.TypeDeclarations.{DeclaredTypes}
-use Rattle.go_tree.specs.GoTypes.Collect.{declared_by, entity_binds, good_entity, types_declared, typed_world, valued_world}
+use Rattle.go_rules.specs.declared.const_eval.consts.Const.{Const}
+use Rattle.go_rules.specs.ScopeNames.Means.{means}
+use Rattle.go_rules.specs.GoTypes.Agreement.{In, head, tail}
+use Rattle.go_rules.specs.GoTypes.Answers.{is_among}
+use Rattle.go_rules.specs.GoTypes.Entities.{World}
+use Rattle.go_rules.specs.GoTypes.Programs.{Headed, Program, header_names, headed}
+use Rattle.go_rules.specs.GoTypes.TypeDeclarations.{DeclaredTypes}
+use Rattle.go_rules.specs.GoTypes.Collect.{declared_by, entity_binds, good_entity, types_declared, typed_world, valued_world}
 use Rattle.typed_in_place.proofs.Headers.{type_phase, value_phase}
 use Rattle.typed_in_place.proofs.Collected.{typed_settled, valued_settled}
 use Rattle.type_table.specs.TypeRelations.Environment.{Environment}

@@ -4,11 +4,11 @@ use Rattle.std.specs.Prelude.{if◌then◌else◌, not, is_some, slice_get}
 use Rattle.std.specs.List.{list_all}
 use Rattle.go_tree.specs.declared.spans.Span.{Span}
 use Rattle.go_tree.specs.Tree.{NameAt, Exprs, no_exprs, expr_and}
-use Rattle.go_tree.specs.GoTypes.Answers.{is_empty}
-use Rattle.go_tree.specs.GoTypes.Entities.{World}
-use Rattle.go_tree.specs.GoTypes.TypeDeclarations.{DeclaredTypes}
-use Rattle.go_tree.specs.GoTypes.Programs.{Header, constants, variables, a_type_spec, a_func, Headed, Program, headed}
-use Rattle.go_tree.specs.GoTypes.Collect.{declared_by, types_declared, named_world}
+use Rattle.go_rules.specs.GoTypes.Answers.{is_empty}
+use Rattle.go_rules.specs.GoTypes.Entities.{World}
+use Rattle.go_rules.specs.GoTypes.TypeDeclarations.{DeclaredTypes}
+use Rattle.go_rules.specs.GoTypes.Programs.{Header, constants, variables, a_type_spec, a_func, Headed, Program, headed}
+use Rattle.go_rules.specs.GoTypes.Collect.{declared_by, types_declared, named_world}
 use Rattle.typed_in_place.proofs.Rising.{both_true, keeps_some}
 use Rattle.pkg_graph.specs.declared.packages.Package.{Package}
 use Rattle.typed_names.specs.declared.scopes.Scope.{Scope}
@@ -18,7 +18,7 @@ use Rattle.package_blocks.specs.Headers.{AreHeaders, Listed, a_header, listed_of
 use Rattle.package_blocks.specs.FuncHeaders.Functions.{program_of}
 use Rattle.operand_modes.specs.declared.checker_tables.tables.Tables.{Tables}
 use Rattle.value_rounds.specs.Values.{is_value}
-use Rattle.go_tree.specs.GoTypes.SingleNames.{has_value_each, each_alone, single_names, with_header, singly, by_names}
+use Rattle.go_rules.specs.GoTypes.SingleNames.{has_value_each, each_alone, single_names, with_header, singly, by_names}
 use Rattle.value_rounds.specs.NameRounds.Passes.{named_headers}
 use Rattle.value_rounds.proofs.Ends.{same_named}
 use Rattle.typed_in_place.proofs.NameRounds.Lists.{there_some}

@@ -2,9 +2,9 @@
 use Rattle.std.proofs.Common.{◌≡◌, ◌∙◌, ℕ, Bool, true, false, List, Option, Some, None, refl, sym, ap, subst, map, nat_eq, inl, inr, arith, slice_set, replicate}
 use Rattle.std.specs.Prelude.{◌⊎◌, is_some, slice_get}
 use Rattle.go_tree.specs.declared.spans.Span.{Span}
-use Rattle.go_tree.specs.GoTypes.Entities.{World}
-use Rattle.go_tree.specs.GoTypes.Programs.{Headed, Program, headed}
-use Rattle.go_tree.specs.GoTypes.Collect.{declared_by, types_declared, named_world}
+use Rattle.go_rules.specs.GoTypes.Entities.{World}
+use Rattle.go_rules.specs.GoTypes.Programs.{Headed, Program, headed}
+use Rattle.go_rules.specs.GoTypes.Collect.{declared_by, types_declared, named_world}
 use Rattle.pkg_graph.specs.declared.packages.Package.{Package}
 use Rattle.typed_names.specs.declared.scopes.Scope.{Scope}
 use Rattle.typed_names.specs.Meanings.{Names, world_at}

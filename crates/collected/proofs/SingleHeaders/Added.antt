@@ -8,9 +8,9 @@ use Rattle.go_tree.specs.declared.texts.NameAt as source
 use Rattle.go_tree.specs.Lists.{exprs_from}
 use Rattle.go_tree.specs.Tree.{NameAt, TypeExpr, Exprs, no_exprs, expr_and}
 use Rattle.go_tree.specs.View.{expr_of, name_at_of}
-use Rattle.go_tree.specs.GoTypes.Answers.{is_empty}
-use Rattle.go_tree.specs.GoTypes.Programs.{Header, constants}
-use Rattle.go_tree.specs.GoTypes.SingleNames.{has_value_each, single_names}
+use Rattle.go_rules.specs.GoTypes.Answers.{is_empty}
+use Rattle.go_rules.specs.GoTypes.Programs.{Header, constants}
+use Rattle.go_rules.specs.GoTypes.SingleNames.{has_value_each, single_names}
 use Rattle.package_blocks.specs.Headers.{Listed, header_of, listed_of}
 use Rattle.package_blocks.specs.declared.headers.HeaderKind.{HeaderKind}
 use Rattle.package_blocks.specs.declared.headers.PackageHeader.{PackageHeader}

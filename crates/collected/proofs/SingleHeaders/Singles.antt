@@ -3,12 +3,12 @@ use Rattle.std.proofs.Common.{◌≡◌, ◌&&◌, Bool, true, false, List, [], 
 use Rattle.std.specs.Prelude.{if◌then◌else◌, not}
 use Rattle.go_tree.specs.declared.spans.Span.{Span}
 use Rattle.go_tree.specs.Tree.{NameAt, Exprs, no_exprs, expr_and}
-use Rattle.go_tree.specs.GoTypes.Answers.{is_empty}
-use Rattle.go_tree.specs.GoTypes.Programs.{Header, constants, variables, a_type_spec, a_func, Headed}
+use Rattle.go_rules.specs.GoTypes.Answers.{is_empty}
+use Rattle.go_rules.specs.GoTypes.Programs.{Header, constants, variables, a_type_spec, a_func, Headed}
 use Rattle.typed_names.specs.declared.scopes.Scope.{Scope}
 use Rattle.package_blocks.specs.declared.headers.PackageHeader.{PackageHeader}
 use Rattle.package_blocks.specs.Headers.{AreHeaders, no_headers, a_header, IsHeader, Listed, header_of, listed_of}
-use Rattle.go_tree.specs.GoTypes.SingleNames.{has_value_each, each_alone, single_names, with_header, singly, by_names}
+use Rattle.go_rules.specs.GoTypes.SingleNames.{has_value_each, each_alone, single_names, with_header, singly, by_names}
 use Rattle.initial_values.specs.Spelled.{AllHaveGoodLiterals}
 use Rattle.initial_values.specs.ValueEntities.Headers.{HasSpelledValues}
 use Rattle.collected.specs.declared.single_headers.SingleHeader.{SingleHeader}

@@ -4,13 +4,13 @@ use Rattle.std.specs.Prelude.{if◌then◌else◌, IfOk, OnOk, is_some, slice_ge
 use Rattle.go_tree.specs.declared.spans.Span.{Span}
 use Rattle.go_tree.specs.declared.texts.NameAt as source
 use Rattle.go_tree.specs.View.{name_at_of}
-use Rattle.go_tree.specs.declared.const_eval.consts.Const.{Const}
-use Rattle.go_tree.specs.ScopeNames.FreeNames.{names_of}
-use Rattle.go_tree.specs.ScopeNames.Means.{binding, means}
-use Rattle.go_tree.specs.GoTypes.Entities as go
-use Rattle.go_tree.specs.GoTypes.Declarations.{bind_each}
-use Rattle.go_tree.specs.GoTypes.Programs.{Header, header_names, headed}
-use Rattle.go_tree.specs.GoTypes.Collect.{types_declared}
+use Rattle.go_rules.specs.declared.const_eval.consts.Const.{Const}
+use Rattle.go_rules.specs.ScopeNames.FreeNames.{names_of}
+use Rattle.go_rules.specs.ScopeNames.Means.{binding, means}
+use Rattle.go_rules.specs.GoTypes.Entities as go
+use Rattle.go_rules.specs.GoTypes.Declarations.{bind_each}
+use Rattle.go_rules.specs.GoTypes.Programs.{Header, header_names, headed}
+use Rattle.go_rules.specs.GoTypes.Collect.{types_declared}
 use Rattle.type_table.specs.TypeRelations.Environment.{Environment}
 use Rattle.type_table.specs.declared.operand_rules.values.Refusal.TheVariants.{NotTyped}
 use Rattle.typed_names.specs.declared.entities.Entity.{Entity}

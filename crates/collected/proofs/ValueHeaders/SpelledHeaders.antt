@@ -5,10 +5,10 @@ use Rattle.go_tree.specs.declared.spans.Span.{Span}
 use Rattle.go_tree.specs.Tree.{TypeExpr, Exprs, Stmt, const_decl, var_decl, empty, eval, step, assign, define, return_, break_, continue_, inner, if_, for_, range_, switch, defer, label, ValueSpecs, no_specs, spec}
 use Rattle.go_tree.specs.File as source
 use Rattle.go_tree.specs.File.{TypeSpec, Decl, values, types, func}
-use Rattle.go_tree.specs.ScopeNames.Means.{Environment}
-use Rattle.go_tree.specs.GoTypes.Entities as go
-use Rattle.go_tree.specs.GoTypes.Bodies.{no_values}
-use Rattle.go_tree.specs.GoTypes.Programs.{Header, constants, a_type_spec, Headed, all_headers, at_member, block_names, constant_headers, file_block, header_names, headed, headed_file, headed_files, headers, names_in, variable_headers}
+use Rattle.go_rules.specs.ScopeNames.Means.{Environment}
+use Rattle.go_rules.specs.GoTypes.Entities as go
+use Rattle.go_rules.specs.GoTypes.Bodies.{no_values}
+use Rattle.go_rules.specs.GoTypes.Programs.{Header, constants, a_type_spec, Headed, all_headers, at_member, block_names, constant_headers, file_block, header_names, headed, headed_file, headed_files, headers, names_in, variable_headers}
 use Rattle.pkg_graph.specs.Package as pure
 use Rattle.pkg_graph.specs.Package.{SourceTree, files_of, first_seen, home_of, package_of, packages_of}
 use Rattle.pkg_graph.specs.Reads.{AreTrees, Source, none, file}

@@ -11,9 +11,9 @@ use Rattle.go_tree.specs.GoWords.Tokens.Forms.{Form, HasForm, one_of, both}
 use Rattle.go_tree.specs.GoWords.Tokens.Literals.{int_lit, rune_lit, string_lit}
 use Rattle.go_tree.specs.GoLiterals.Units.{rune_value}
 use Rattle.go_tree.proofs.GoLiterals.WordLemmas.{either_is, front_is, low_front, one_is, passes, sole}
-use Rattle.go_tree.specs.declared.const_eval.kinds.Kind.TheVariants as kind
-use Rattle.go_tree.specs.ConstEval.Exact.{Exact, number, text}
-use Rattle.go_tree.specs.ConstEval.Literals.{integer_value, is_text_quote, literal_value}
+use Rattle.go_rules.specs.declared.const_eval.kinds.Kind.TheVariants as kind
+use Rattle.go_rules.specs.ConstEval.Exact.{Exact, number, text}
+use Rattle.go_rules.specs.ConstEval.Literals.{integer_value, is_text_quote, literal_value}
 use Rattle.type_table.specs.OperandRules.Folding.{is_literal_kind}
 use Rattle.go_layout.specs.LayoutLaws.Formed.{IsToken}
 use Rattle.initial_values.specs.Walked.{IsLiteralOf}

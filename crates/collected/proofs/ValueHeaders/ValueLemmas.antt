@@ -8,11 +8,11 @@ use Rattle.go_tree.specs.declared.texts.NameAt as source
 use Rattle.go_tree.specs.declared.types.TypeExpr as written
 use Rattle.go_tree.specs.View.{expr_of, name_at_of, type_of}
 use Rattle.go_tree.specs.Tree.{NameAt, TypeExpr, Exprs, no_exprs, expr_and}
-use Rattle.go_tree.specs.ScopeNames.FreeNames.{names_of}
-use Rattle.go_tree.specs.GoTypes.Answers.{only_if}
-use Rattle.go_tree.specs.GoTypes.Entities.{Env}
-use Rattle.go_tree.specs.GoTypes.Programs.{Header, constants, variables, header_names}
-use Rattle.go_tree.specs.GoTypes.Collect.{env_of, package_constants, package_variables}
+use Rattle.go_rules.specs.ScopeNames.FreeNames.{names_of}
+use Rattle.go_rules.specs.GoTypes.Answers.{only_if}
+use Rattle.go_rules.specs.GoTypes.Entities.{Env}
+use Rattle.go_rules.specs.GoTypes.Programs.{Header, constants, variables, header_names}
+use Rattle.go_rules.specs.GoTypes.Collect.{env_of, package_constants, package_variables}
 use Rattle.type_table.specs.declared.operand_rules.values.Refusal.{Refusal}
 use Rattle.type_table.specs.declared.operand_rules.values.Refusal.TheVariants.{NotTyped, NoMemory}
 use Rattle.typed_names.specs.declared.entities.Entity.{Entity}

@@ -2,9 +2,9 @@
 -- headers are refused (Go specification, Constant declarations; Variable declarations; Declarations and scope).
 use Rattle.std.specs.Prelude.{◌≡◌, ◌<◌, ℕ, suc, Bool, true, false, not, ◌&&◌, List, [], ◌∷◌, length, map, Some, if◌then◌else◌, slice_get, is_some, ◌⊎◌}
 use Rattle.go_tree.specs.declared.spans.Span.{Span}
-use Rattle.go_tree.specs.GoTypes.Entities.{World}
-use Rattle.go_tree.specs.GoTypes.Programs.{Headed, Program, headed}
-use Rattle.go_tree.specs.GoTypes.Collect.{declared_by, types_declared, named_world, valued_world}
+use Rattle.go_rules.specs.GoTypes.Entities.{World}
+use Rattle.go_rules.specs.GoTypes.Programs.{Headed, Program, headed}
+use Rattle.go_rules.specs.GoTypes.Collect.{declared_by, types_declared, named_world, valued_world}
 use Rattle.pkg_graph.specs.declared.packages.Package.{Package}
 use Rattle.typed_names.specs.declared.scopes.Scope.{Scope}
 use Rattle.typed_names.specs.Meanings.{Names, world_at}

@@ -4,9 +4,9 @@ use Rattle.std.specs.Option.{option_map}
 use Rattle.go_tree.specs.declared.spans.Span.{Span}
 use Rattle.go_tree.specs.Tree.{NameAt, TypeExpr, Exprs, no_exprs, expr_and}
 use Rattle.go_tree.specs.View.{name_at_of, expr_of, type_of}
-use Rattle.go_tree.specs.GoTypes.Programs.{Header, constants, variables, Headed}
+use Rattle.go_rules.specs.GoTypes.Programs.{Header, constants, variables, Headed}
 use Rattle.package_blocks.specs.Headers.{Listed, header_of}
-use Rattle.go_tree.specs.GoTypes.SingleNames.{each_alone, single_names}
+use Rattle.go_rules.specs.GoTypes.SingleNames.{each_alone, single_names}
 use Rattle.value_rounds.specs.Values.{is_value}
 use Rattle.collected.specs.declared.single_headers.SingleKind.{SingleKind}
 use Rattle.collected.specs.declared.single_headers.SingleKind.TheVariants as kind

@@ -4,7 +4,7 @@ use Rattle.std.specs.Prelude.{ℕ, List, [], ◌∷◌, map}
 use Rattle.go_tree.specs.declared.spans.Span.{Span}
 use Rattle.go_tree.specs.Tree.{Stmt, const_decl, var_decl, ValueSpecs, no_specs, spec}
 use Rattle.go_tree.specs.File.{Decl, values, types, func, File}
-use Rattle.go_tree.specs.GoTypes.Programs.{headed}
+use Rattle.go_rules.specs.GoTypes.Programs.{headed}
 use Rattle.go_layout.specs.LayoutLaws.Formed.{FormedStmts}
 use Rattle.pkg_graph.specs.Package.{Package, SourceTree, packages_of}
 use Rattle.pkg_graph.specs.Reads.{AreTrees, Source}

@@ -1,10 +1,10 @@
 -- The constants or the variables of one header are declared (Go specification, Constant declarations; Variable
 -- declarations).
 use Rattle.std.specs.Prelude.{◌≡◌, ℕ, Bool, true, List, length, replicate, is_some}
-use Rattle.go_tree.specs.declared.const_eval.consts.Const.{Const}
+use Rattle.go_rules.specs.declared.const_eval.consts.Const.{Const}
 use Rattle.go_tree.specs.declared.spans.Span.{Span}
-use Rattle.go_tree.specs.GoTypes.Programs.{Header, Headed, Program, headed}
-use Rattle.go_tree.specs.GoTypes.Collect.{declared_by, types_declared}
+use Rattle.go_rules.specs.GoTypes.Programs.{Header, Headed, Program, headed}
+use Rattle.go_rules.specs.GoTypes.Collect.{declared_by, types_declared}
 use Rattle.type_table.specs.TypeRelations.Environment.{Environment}
 use Rattle.typed_names.specs.declared.entities.Entity.TheVariants.{Refused}
 use Rattle.typed_names.specs.declared.scopes.Scope.{Scope}

@@ -2,8 +2,8 @@
 //! Declarations and scope).
 
 ghost use Rattle.std.specs.Prelude.{◌≡◌, List, map, length, not, ◌&&◌, IfOk};
-ghost use Rattle.go_tree.specs.declared.const_eval.consts.Const.{Const};
-ghost use Rattle.go_tree.specs.GoTypes.Programs.{headed};
+ghost use Rattle.go_rules.specs.declared.const_eval.consts.Const.{Const};
+ghost use Rattle.go_rules.specs.GoTypes.Programs.{headed};
 ghost use Rattle.pkg_graph.specs.declared.packages.Package.{Package};
 ghost use Rattle.typed_names.specs.Meanings.{world_at};
 ghost use Rattle.declared_types.specs.Steps.{KnowsPlaces};

@@ -2,7 +2,7 @@
 //! is refused (Go specification, Constant declarations; Variable declarations; Declarations and scope).
 
 ghost use Rattle.std.specs.Prelude.{◌≡◌, false, List, map, length, not, ◌&&◌, IfOk, OnOk};
-ghost use Rattle.go_tree.specs.GoTypes.Programs.{headed};
+ghost use Rattle.go_rules.specs.GoTypes.Programs.{headed};
 ghost use Rattle.pkg_graph.specs.declared.packages.Package.{Package};
 ghost use Rattle.typed_names.specs.Meanings.{world_at};
 ghost use Rattle.package_blocks.specs.Headers.{AreHeaders, listed_of};

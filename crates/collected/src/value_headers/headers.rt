@@ -4,7 +4,7 @@
 ghost use Rattle.std.specs.Prelude.{◌≡◌, false, map, true, IfOk};
 ghost use Rattle.std.specs.Option.{option_map};
 ghost use Rattle.go_tree.specs.View.{exprs_of, name_at_of, type_of};
-ghost use Rattle.go_tree.specs.GoTypes.Programs.{constants, variables};
+ghost use Rattle.go_rules.specs.GoTypes.Programs.{constants, variables};
 ghost use Rattle.operand_modes.specs.CheckerTables.Ready.{AreReady, Keeps};
 ghost use Rattle.initial_values.specs.Spelled.{AllHaveGoodLiterals};
 ghost use Rattle.package_blocks.specs.Headers.{header_of, repeated_type, repeated_values};

@@ -1,7 +1,7 @@
 //! The names of a header mean what its values are from its declaration on (Go specification, Package block).
 
 ghost use Rattle.std.specs.Prelude.{◌≡◌, false, [], ◌∷◌, List, length, IfOk};
-ghost use Rattle.go_tree.specs.declared.const_eval.consts.Const.{Const};
+ghost use Rattle.go_rules.specs.declared.const_eval.consts.Const.{Const};
 ghost use Rattle.type_table.specs.TypeRelations.Environment.{Environment};
 ghost use Rattle.package_blocks.specs.Names.{plain_names};
 ghost use Rattle.initial_values.specs.ValueBlocks.Values.{AreThere};

@@ -2,8 +2,8 @@
 //! declarations; Package block).
 
 ghost use Rattle.std.specs.Prelude.{◌≡◌, true, List, length, replicate, IfOk, OnOk};
-ghost use Rattle.go_tree.specs.declared.const_eval.consts.Const.{Const};
-ghost use Rattle.go_tree.specs.GoTypes.Programs.{header_names};
+ghost use Rattle.go_rules.specs.declared.const_eval.consts.Const.{Const};
+ghost use Rattle.go_rules.specs.GoTypes.Programs.{header_names};
 ghost use Rattle.type_table.specs.TypeRelations.Environment.{Environment};
 ghost use Rattle.typed_names.specs.declared.entities.Entity.TheVariants as entity;
 ghost use Rattle.operand_modes.specs.CheckerTables.Ready.{AreReady, Keeps};

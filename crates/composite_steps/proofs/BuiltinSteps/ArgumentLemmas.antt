@@ -2,7 +2,7 @@
 use Rattle.std.specs.Prelude.{◌≡◌, List, [], ◌∷◌, length, Some, None, refl}
 use Rattle.std.proofs.Common.{get_or, arith}
 use mathlib.Core.Path.{ap}
-use Rattle.go_tree.specs.GoTypes.Answers.{given}
+use Rattle.go_rules.specs.GoTypes.Answers.{given}
 use Rattle.operand_modes.specs.declared.modes.Operand.{Operand}
 use Rattle.composite_steps.specs.BuiltinSteps.Arguments.{the_only, the_two, type_in}
 

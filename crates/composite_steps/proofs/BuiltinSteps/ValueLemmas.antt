@@ -1,11 +1,11 @@
 -- What predeclared functions give of lists of values.
 use Rattle.std.proofs.Common.{◌≡◌, Bool, true, false, List, [], ◌∷◌, map, Option, Some, None, Result, Ok, Err, refl, sym, ap, subst}
-use Rattle.go_tree.specs.declared.const_eval.consts.Const.{Const}
-use Rattle.go_tree.specs.GoTypes.Answers.{given, only_if}
-use Rattle.go_tree.specs.GoTypes.Defined.{Defined}
-use Rattle.go_tree.specs.GoTypes.Operands as go
-use Rattle.go_tree.specs.GoTypes.Operands.{value, several, a_type, a_function, a_builtin, recovered, Typed, all_typed, spread}
-use Rattle.go_tree.specs.GoTypes.Primary.{append_call, builtin_call, cap_call, copy_call, delete_call, len_call, make_call, new_call, on_values, panic_call, print_call, recover_call}
+use Rattle.go_rules.specs.declared.const_eval.consts.Const.{Const}
+use Rattle.go_rules.specs.GoTypes.Answers.{given, only_if}
+use Rattle.go_rules.specs.GoTypes.Defined.{Defined}
+use Rattle.go_rules.specs.GoTypes.Operands as go
+use Rattle.go_rules.specs.GoTypes.Operands.{value, several, a_type, a_function, a_builtin, recovered, Typed, all_typed, spread}
+use Rattle.go_rules.specs.GoTypes.Primary.{append_call, builtin_call, cap_call, copy_call, delete_call, len_call, make_call, new_call, on_values, panic_call, print_call, recover_call}
 use Rattle.type_table.specs.TypeRelations.Environment.{Environment}
 use Rattle.universe_block.specs.declared.block.Builtin as declared
 use Rattle.universe_block.specs.declared.block.Builtin.TheVariants as builtin

@@ -2,7 +2,7 @@
 use Rattle.std.specs.Prelude.{◌≡◌, Bool, true, false, not, ◌||◌, ◌&&◌, List, [], ◌∷◌, refl}
 use Rattle.std.specs.List.{list_all, list_any}
 use mathlib.Core.Path.{ap, ap₂, sym, ◌∙◌}
-use Rattle.go_tree.specs.GoTypes.Answers.{distinct_by}
+use Rattle.go_rules.specs.GoTypes.Answers.{distinct_by}
 use Rattle.composite_steps.specs.LiteralRules.Sets.{new_and_distinct, SeenOnce}
 
 all_true : {A : Type 0} (xs : List A) → list_all (λ x. true) xs ≡ true

@@ -3,11 +3,11 @@ use Rattle.std.specs.Prelude.{◌≡◌, ℕ, ◌+◌, ◌<◌, ◌≤◌, Bool,
 use Rattle.std.proofs.Common.{get_or, drop}
 use Rattle.std.specs.List.{list_any}
 use mathlib.Core.Path.{ap, sym, ◌∙◌, subst}
-use Rattle.go_tree.specs.declared.const_eval.consts.Const.{Const}
-use Rattle.go_tree.specs.GoTypes.Answers.{distinct_by}
-use Rattle.go_tree.specs.GoTypes.Operands as go_operand
-use Rattle.go_tree.specs.GoTypes.Literals as go
-use Rattle.go_tree.specs.GoTypes.Literals.{constant_keys, constant_then, distinct_consts, same_const}
+use Rattle.go_rules.specs.declared.const_eval.consts.Const.{Const}
+use Rattle.go_rules.specs.GoTypes.Answers.{distinct_by}
+use Rattle.go_rules.specs.GoTypes.Operands as go_operand
+use Rattle.go_rules.specs.GoTypes.Literals as go
+use Rattle.go_rules.specs.GoTypes.Literals.{constant_keys, constant_then, distinct_consts, same_const}
 use Rattle.type_table.specs.TypeRelations.Environment.{Environment}
 use Rattle.type_table.specs.declared.operand_rules.constants.ConstId.{ConstId}
 use Rattle.type_table.specs.declared.operand_rules.values.Content.{Content}

@@ -5,11 +5,11 @@ use Rattle.std.specs.Cmp.{IsEquivalence}
 use Rattle.std.proofs.lemmas.Cmp.{nat_eq_equiv, int_eq_equiv}
 use Rattle.std.proofs.lemmas.List.Folds.{list_any-append}
 use mathlib.Core.Path.{ap, ap₂, sym, ◌∙◌}
-use Rattle.go_tree.specs.declared.const_eval.consts.Const.{Const}
-use Rattle.go_tree.specs.declared.const_eval.consts.Const.TheVariants.{Whole, Truth, Bytes}
+use Rattle.go_rules.specs.declared.const_eval.consts.Const.{Const}
+use Rattle.go_rules.specs.declared.const_eval.consts.Const.TheVariants.{Whole, Truth, Bytes}
 use Rattle.name_walks.specs.EachOnce.{with_name}
 use Rattle.name_walks.proofs.SetLaws.{among_with}
-use Rattle.go_tree.specs.GoTypes.Literals.{same_const, same_truth}
+use Rattle.go_rules.specs.GoTypes.Literals.{same_const, same_truth}
 use Rattle.typed_names.proofs.NameLaws.{turned}
 use Rattle.composite_steps.specs.LiteralRules.Sets.{all_consts, same_number, truths}
 

@@ -4,15 +4,15 @@ use Rattle.std.specs.List.{list_any}
 use Rattle.std.proofs.Common.{get_or, drop}
 use Rattle.std.proofs.lemmas.Cmp.{nat_eq_equiv}
 use mathlib.Core.Path.{ap, subst, ◌∙◌}
-use Rattle.go_tree.specs.declared.const_eval.consts.Const.{Const}
+use Rattle.go_rules.specs.declared.const_eval.consts.Const.{Const}
 use Rattle.type_table.specs.TypeRelations.Environment.{Environment}
 use Rattle.composite_steps.specs.declared.literal_rules.elements.Element.{Element}
 use Rattle.composite_steps.specs.LiteralRules.Elements.{element_at, elements_at}
 use Rattle.composite_steps.proofs.LiteralRules.ElementLemmas.{from_one, no_such}
-use Rattle.go_tree.specs.GoTypes.Answers.{distinct_by, given, meets}
-use Rattle.go_tree.specs.GoTypes.Defined.{Defined}
-use Rattle.go_tree.specs.GoTypes.Literals as go
-use Rattle.go_tree.specs.GoTypes.Literals.{index_or, indices}
+use Rattle.go_rules.specs.GoTypes.Answers.{distinct_by, given, meets}
+use Rattle.go_rules.specs.GoTypes.Defined.{Defined}
+use Rattle.go_rules.specs.GoTypes.Literals as go
+use Rattle.go_rules.specs.GoTypes.Literals.{index_or, indices}
 use Rattle.composite_steps.specs.LiteralRules.Sets.{new_and_distinct}
 use Rattle.composite_steps.specs.LiteralRules.Indices.{IndicesRead}
 use Rattle.composite_steps.proofs.LiteralRules.DistinctLemmas.{new_first, seen_first, seen_none}

@@ -3,18 +3,18 @@ use Rattle.std.specs.Prelude.{◌≡◌, ℕ, ◌<◌, Bool, true, false, not, �
 use Rattle.std.specs.List.{list_all}
 use Rattle.std.proofs.Common.{◌+◌, get_or, drop, arith}
 use mathlib.Core.Path.{ap, sym, ◌∙◌, subst}
-use Rattle.go_tree.specs.declared.const_eval.consts.Const.{Const}
+use Rattle.go_rules.specs.declared.const_eval.consts.Const.{Const}
 use Rattle.go_tree.specs.GoWords.Tokens.Pieces.{is_among}
 use Rattle.name_walks.specs.EachOnce.{with_name}
 use Rattle.name_walks.proofs.SetLaws.{among_with}
-use Rattle.go_tree.specs.GoTypes.Answers.{distinct_by}
-use Rattle.go_tree.specs.GoTypes.Types.{GoType, GoFields, no_go_fields, go_field}
-use Rattle.go_tree.specs.GoTypes.Defined.{Defined}
-use Rattle.go_tree.specs.GoTypes.Operands as go_operand
-use Rattle.go_tree.specs.GoTypes.Operands.{takes}
-use Rattle.go_tree.specs.GoTypes.Primary.{sees}
-use Rattle.go_tree.specs.GoTypes.Literals as go
-use Rattle.go_tree.specs.GoTypes.Literals.{unkeyed, of_field, keyed, fills, sets_field, fields_set, struct_takes}
+use Rattle.go_rules.specs.GoTypes.Answers.{distinct_by}
+use Rattle.go_rules.specs.GoTypes.Types.{GoType, GoFields, no_go_fields, go_field}
+use Rattle.go_rules.specs.GoTypes.Defined.{Defined}
+use Rattle.go_rules.specs.GoTypes.Operands as go_operand
+use Rattle.go_rules.specs.GoTypes.Operands.{takes}
+use Rattle.go_rules.specs.GoTypes.Primary.{sees}
+use Rattle.go_rules.specs.GoTypes.Literals as go
+use Rattle.go_rules.specs.GoTypes.Literals.{unkeyed, of_field, keyed, fills, sets_field, fields_set, struct_takes}
 use Rattle.type_table.specs.declared.nodes.Field.{Field}
 use Rattle.type_table.specs.Rows.{field_of}
 use Rattle.type_table.specs.TypesAt.{fields_by}

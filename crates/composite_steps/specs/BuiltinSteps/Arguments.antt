@@ -1,6 +1,6 @@
 -- Arguments by their number, and which predeclared functions take a type (Go specification, Calls; Built-in functions).
 use Rattle.std.specs.Prelude.{Bool, true, false, List, [], ◌∷◌, Option, Some, None}
-use Rattle.go_tree.specs.GoTypes.Entities.{Builtin, Make, New}
+use Rattle.go_rules.specs.GoTypes.Entities.{Builtin, Make, New}
 use Rattle.type_table.specs.declared.nodes.TypeId.{TypeId}
 use Rattle.operand_modes.specs.declared.modes.Operand.{Operand}
 use Rattle.operand_modes.specs.declared.modes.Operand.TheVariants.{TypeOperand}

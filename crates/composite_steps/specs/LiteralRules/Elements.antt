@@ -1,16 +1,16 @@
 -- Elements of composite literals by the code's names (Go specification, Composite literals).
 use Rattle.std.specs.Prelude.{ℕ, ◌<◌, Bool, true, false, not, ◌&&◌, List, [], ◌∷◌, map, length, Option}
 use Rattle.std.specs.Prelude.{Some, None}
-use Rattle.go_tree.specs.declared.const_eval.consts.Const.{Const}
+use Rattle.go_rules.specs.declared.const_eval.consts.Const.{Const}
 use Rattle.go_tree.specs.GoWords.Tokens.Pieces.{is_among}
 use Rattle.name_walks.specs.EachOnce.{with_name}
-use Rattle.go_tree.specs.GoTypes.Types.{GoType}
-use Rattle.go_tree.specs.GoTypes.Defined.{Defined}
-use Rattle.go_tree.specs.GoTypes.Operands as go_operand
-use Rattle.go_tree.specs.GoTypes.Operands.{takes}
-use Rattle.go_tree.specs.GoTypes.Literals as go
-use Rattle.go_tree.specs.GoTypes.Literals.{unkeyed, of_field, keyed}
-use Rattle.go_tree.specs.GoTypes.Primary.{sees}
+use Rattle.go_rules.specs.GoTypes.Types.{GoType}
+use Rattle.go_rules.specs.GoTypes.Defined.{Defined}
+use Rattle.go_rules.specs.GoTypes.Operands as go_operand
+use Rattle.go_rules.specs.GoTypes.Operands.{takes}
+use Rattle.go_rules.specs.GoTypes.Literals as go
+use Rattle.go_rules.specs.GoTypes.Literals.{unkeyed, of_field, keyed}
+use Rattle.go_rules.specs.GoTypes.Primary.{sees}
 use Rattle.type_table.specs.TypeRelations.Environment.{Environment}
 use Rattle.type_table.specs.declared.operand_rules.constants.ConstId.{ConstId}
 use Rattle.type_table.specs.declared.operand_rules.values.Content.{Content}

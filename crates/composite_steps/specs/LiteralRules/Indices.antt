@@ -1,9 +1,9 @@
 -- Indices of the elements of a slice's literal, read one by one (Go specification, Composite literals).
 use Rattle.std.specs.Prelude.{◌≡◌, ℕ, List, nat_eq}
-use Rattle.go_tree.specs.GoTypes.Answers.{distinct_by, meets}
-use Rattle.go_tree.specs.GoTypes.Defined.{Defined}
-use Rattle.go_tree.specs.GoTypes.Literals as go
-use Rattle.go_tree.specs.GoTypes.Literals.{indices}
+use Rattle.go_rules.specs.GoTypes.Answers.{distinct_by, meets}
+use Rattle.go_rules.specs.GoTypes.Defined.{Defined}
+use Rattle.go_rules.specs.GoTypes.Literals as go
+use Rattle.go_rules.specs.GoTypes.Literals.{indices}
 use Rattle.composite_steps.specs.LiteralRules.Sets.{new_and_distinct}
 
 -- the indices of some elements were seen, no two the same; `next` follows the last, and the rest is left

@@ -3,10 +3,10 @@ use Rattle.std.specs.Prelude.{◌≡◌, ℕ, ℤ, Bool, true, false, not, ◌||
 use Rattle.std.specs.Prelude.{◌++◌, map, Option, Some, None, if◌then◌else◌}
 use Rattle.std.specs.List.{list_all, list_any}
 use Rattle.std.specs.Ordering.{is_eq, int_cmp}
-use Rattle.go_tree.specs.declared.const_eval.consts.Const.{Const}
-use Rattle.go_tree.specs.declared.const_eval.consts.Const.TheVariants.{Whole, Truth, Bytes}
-use Rattle.go_tree.specs.GoTypes.Answers.{distinct_by}
-use Rattle.go_tree.specs.GoTypes.Literals.{same_const}
+use Rattle.go_rules.specs.declared.const_eval.consts.Const.{Const}
+use Rattle.go_rules.specs.declared.const_eval.consts.Const.TheVariants.{Whole, Truth, Bytes}
+use Rattle.go_rules.specs.GoTypes.Answers.{distinct_by}
+use Rattle.go_rules.specs.GoTypes.Literals.{same_const}
 use Rattle.type_table.specs.declared.operand_rules.constants.ConstId.{ConstId}
 use Rattle.type_table.specs.OperandRules.Constants.{const_at}
 

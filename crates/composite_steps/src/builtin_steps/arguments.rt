@@ -1,7 +1,7 @@
 //! Arguments by their number.
 
 ghost use Rattle.std.specs.Prelude.{◌≡◌, is_some};
-ghost use Rattle.go_tree.specs.GoTypes.Answers.{given};
+ghost use Rattle.go_rules.specs.GoTypes.Answers.{given};
 ghost use Rattle.operand_modes.specs.Lists.{only_results};
 ghost use Rattle.operand_modes.specs.Operands.{several_of};
 ghost use Rattle.composite_steps.specs.BuiltinSteps.Arguments.{the_only, the_two, type_in};

@@ -1,9 +1,9 @@
 //! Calls of predeclared functions (Go specification, Built-in functions).
 
 ghost use Rattle.std.specs.Prelude.{◌≡◌, List, map, false, Some};
-ghost use Rattle.go_tree.specs.GoTypes.Operands as go_operand;
-ghost use Rattle.go_tree.specs.GoTypes.Operands.{all_typed, spread};
-ghost use Rattle.go_tree.specs.GoTypes.Primary as go;
+ghost use Rattle.go_rules.specs.GoTypes.Operands as go_operand;
+ghost use Rattle.go_rules.specs.GoTypes.Operands.{all_typed, spread};
+ghost use Rattle.go_rules.specs.GoTypes.Primary as go;
 ghost use Rattle.type_table.specs.TypeRelations.Environment.{defined_types};
 ghost use Rattle.universe_block.specs.Meanings.{builtin_of};
 ghost use Rattle.type_table.specs.OperandRules.Values.{typed_of};

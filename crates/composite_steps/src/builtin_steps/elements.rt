@@ -2,7 +2,7 @@
 //! Deletion of map elements).
 
 ghost use Rattle.std.specs.Prelude.{map};
-ghost use Rattle.go_tree.specs.GoTypes.Primary as go;
+ghost use Rattle.go_rules.specs.GoTypes.Primary as go;
 ghost use Rattle.type_table.specs.TypeRelations.Environment.{defined_types};
 ghost use Rattle.type_table.specs.OperandRules.Values.{Gives, typed_of};
 ghost use Rattle.operator_rules.specs.AccessRules.Functions.{AreValues};

@@ -3,11 +3,11 @@
 
 ghost use Rattle.std.specs.Prelude.{◌≡◌, [], List, map, Some};
 ghost use Rattle.std.specs.List.{list_all};
-ghost use Rattle.go_tree.specs.declared.const_eval.consts.Const.{Const};
-ghost use Rattle.go_tree.specs.GoTypes.Answers.{only_if};
-ghost use Rattle.go_tree.specs.GoTypes.Defined.{Defined};
-ghost use Rattle.go_tree.specs.GoTypes.Operands.{several};
-ghost use Rattle.go_tree.specs.GoTypes.Primary as go;
+ghost use Rattle.go_rules.specs.declared.const_eval.consts.Const.{Const};
+ghost use Rattle.go_rules.specs.GoTypes.Answers.{only_if};
+ghost use Rattle.go_rules.specs.GoTypes.Defined.{Defined};
+ghost use Rattle.go_rules.specs.GoTypes.Operands.{several};
+ghost use Rattle.go_rules.specs.GoTypes.Primary as go;
 ghost use Rattle.type_table.specs.TypeRelations.Environment.{Environment, defined_types};
 ghost use Rattle.type_table.specs.OperandRules.Values.{typed_of};
 ghost use Rattle.operator_rules.specs.BasicTypes.{AreBasic};

@@ -2,8 +2,8 @@
 
 ghost use Rattle.std.specs.Prelude.{◌≡◌, ◌<◌, length};
 ghost use Rattle.std.specs.List.{list_all};
-ghost use Rattle.go_tree.specs.GoTypes.Literals as go;
-ghost use Rattle.go_tree.specs.GoTypes.Operands.{takes};
+ghost use Rattle.go_rules.specs.GoTypes.Literals as go;
+ghost use Rattle.go_rules.specs.GoTypes.Operands.{takes};
 ghost use Rattle.type_table.specs.TypeRelations.Environment.{defined_types, env_type};
 ghost use Rattle.composite_steps.specs.LiteralRules.Elements.{AreElements, elements_at};
 

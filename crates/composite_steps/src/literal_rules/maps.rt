@@ -3,7 +3,7 @@
 
 ghost use Rattle.std.specs.Prelude.{◌≡◌, ◌<◌, length, IfOk, OnOk};
 ghost use Rattle.std.specs.List.{list_all};
-ghost use Rattle.go_tree.specs.GoTypes.Literals as go;
+ghost use Rattle.go_rules.specs.GoTypes.Literals as go;
 ghost use Rattle.type_table.specs.TypeRelations.Environment.{defined_types, env_type};
 ghost use Rattle.composite_steps.specs.LiteralRules.Elements.{AreElements, IsElement, IsKeyOperand, const_key, element_at};
 ghost use Rattle.composite_steps.specs.LiteralRules.Elements.{elements_at};

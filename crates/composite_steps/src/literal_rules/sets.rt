@@ -2,12 +2,12 @@
 
 ghost use Rattle.std.specs.Prelude.{◌≡◌, ◌||◌, ℤ, ℕ, not, [], nat_eq, IfOk, OnOk};
 ghost use Rattle.std.specs.List.{list_any};
-ghost use Rattle.go_tree.specs.declared.const_eval.consts.Const.{Const};
-ghost use Rattle.go_tree.specs.declared.const_eval.consts.Const.TheVariants.{Truth};
-ghost use Rattle.go_tree.specs.GoTypes.Literals.{same_const};
+ghost use Rattle.go_rules.specs.declared.const_eval.consts.Const.{Const};
+ghost use Rattle.go_rules.specs.declared.const_eval.consts.Const.TheVariants.{Truth};
+ghost use Rattle.go_rules.specs.GoTypes.Literals.{same_const};
 ghost use Rattle.composite_steps.specs.LiteralRules.Sets.{same_number};
 
-use go_tree::const_eval::Const;
+use go_rules::const_eval::Const;
 use go_tree::{NoMemory, Text};
 use indexmap::IndexSet;
 use name_walks::NameSet;
@@ -96,8 +96,8 @@ pub struct ConstSet {
 
 impl Model for ConstSet {
     ghost use Rattle.std.specs.Prelude.{List};
-    ghost use Rattle.go_tree.specs.declared.const_eval.consts.Const.{Const};
-    ghost use Rattle.go_tree.specs.declared.const_eval.consts.Const.TheVariants.{Truth};
+    ghost use Rattle.go_rules.specs.declared.const_eval.consts.Const.{Const};
+    ghost use Rattle.go_rules.specs.declared.const_eval.consts.Const.TheVariants.{Truth};
     ghost use Rattle.composite_steps.specs.LiteralRules.Sets.{all_consts};
 
     ghost Value = { List Const };

@@ -2,16 +2,16 @@
 //! (Go specification, Composite literals).
 
 ghost use Rattle.std.specs.Prelude.{◌≡◌, ◌<◌, length, nat_eq, IfOk};
-ghost use Rattle.go_tree.specs.GoTypes.Answers.{distinct_by, meets};
-ghost use Rattle.go_tree.specs.GoTypes.Literals as go;
+ghost use Rattle.go_rules.specs.GoTypes.Answers.{distinct_by, meets};
+ghost use Rattle.go_rules.specs.GoTypes.Literals as go;
 ghost use Rattle.type_table.specs.TypeRelations.Environment.{defined_types, env_type};
 ghost use Rattle.operand_modes.specs.Operands.{IsOperand, operand_at};
 ghost use Rattle.composite_steps.specs.LiteralRules.Elements.{AreElements, IsElement, element_at, elements_at};
 
 use crate::literal_rules::elements::{Element, Key, all_take};
 use crate::literal_rules::sets::IndexNumbers;
+use go_rules::const_eval::{Const, Kind, represent};
 use go_tree::NoMemory;
-use go_tree::const_eval::{Const, Kind, represent};
 use operand_modes::{Operand, single_value};
 use std::alloc::{AllocError, Global};
 use type_table::TypeId;

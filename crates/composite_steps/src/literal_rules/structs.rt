@@ -3,8 +3,8 @@
 
 ghost use Rattle.std.specs.Prelude.{◌≡◌, bytes_eq, map, IfOk, OnOk};
 ghost use Rattle.std.specs.List.{list_all};
-ghost use Rattle.go_tree.specs.GoTypes.Answers.{distinct_by};
-ghost use Rattle.go_tree.specs.GoTypes.Literals as go;
+ghost use Rattle.go_rules.specs.GoTypes.Answers.{distinct_by};
+ghost use Rattle.go_rules.specs.GoTypes.Literals as go;
 ghost use Rattle.type_table.specs.Rows.{field_of};
 ghost use Rattle.type_table.specs.TypesAt.{fields_by};
 ghost use Rattle.type_table.specs.TypeRelations.Environment.{defined_types, env_type};

@@ -3,11 +3,11 @@
 use Rattle.std.proofs.Common.{◌≡◌, ◌∙◌, refl, sym, ap, ◌⊎◌, inl, inr, ℕ, Bool, true, false, if◌then◌else◌, List, [], ◌∷◌, Option, Some, None, is_some, arith}
 use Rattle.std.specs.Prelude.{slice_get}
 use Rattle.go_tree.specs.Tree.{TypeExpr, named, pointer, slice_type, map_type, struct_type}
-use Rattle.go_tree.specs.ScopeNames.Means.{means}
-use Rattle.go_tree.specs.GoTypes.Agreement.{In}
-use Rattle.go_tree.specs.GoTypes.Entities.{Entity, type_name, Env, meaning, type_of_name}
-use Rattle.go_tree.specs.GoTypes.Operands.{named_operand}
-use Rattle.go_tree.specs.GoTypes.TypeNames.{resolved}
+use Rattle.go_rules.specs.ScopeNames.Means.{means}
+use Rattle.go_rules.specs.GoTypes.Agreement.{In}
+use Rattle.go_rules.specs.GoTypes.Entities.{Entity, type_name, Env, meaning, type_of_name}
+use Rattle.go_rules.specs.GoTypes.Operands.{named_operand}
+use Rattle.go_rules.specs.GoTypes.TypeNames.{resolved}
 use Rattle.pkg_graph.specs.Package.{Package}
 use Rattle.pkg_graph.specs.Members.{imported}
 use Rattle.constant_steps.specs.StepLaws.NamesOutside.{NamesOutside}

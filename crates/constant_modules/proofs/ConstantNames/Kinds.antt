@@ -4,26 +4,26 @@ use mathlib.Core.Path.{ap, sym, ◌∙◌, subst}
 use Rattle.std.proofs.Common.{arith, inl, inr}
 use Rattle.std.proofs.lemmas.Bool.{cond_both}
 use Rattle.std.proofs.lemmas.Slice.Eq.{bytes_eq-Decides}
-use Rattle.go_tree.specs.declared.const_eval.consts.Const.{Const}
+use Rattle.go_rules.specs.declared.const_eval.consts.Const.{Const}
 use Rattle.go_tree.specs.Tree.{NameAt, TypeExpr, Exprs, no_exprs, expr_and, ValueSpecs, no_specs, spec}
 use Rattle.go_tree.specs.File.{TypeSpec, Receiver, Func}
-use Rattle.go_tree.specs.ScopeNames.FreeNames.{names_of}
-use Rattle.go_tree.specs.ScopeNames.Means.{means, is_blank, binding}
-use Rattle.go_tree.specs.GoTypes.Answers.{given, both, only_if, is_empty, is_among}
-use Rattle.go_tree.specs.GoTypes.Types.{GoType, FuncType}
-use Rattle.go_tree.specs.GoTypes.Defined.{Defined}
-use Rattle.go_tree.specs.GoTypes.Entities.{run, exact, shift, Entity, variable, constant, type_name, function, refused, World, Env, Binds, block_of}
-use Rattle.go_tree.specs.GoTypes.TypeNames.{func_type, written_type}
-use Rattle.go_tree.specs.GoTypes.Operands.{Operand, Typed, all_typed, settled, fits}
-use Rattle.go_tree.specs.GoTypes.Declarations.{bind_all, bind_each, bound_names, constant_entity, variable_entity}
-use Rattle.go_tree.specs.GoTypes.Bodies.{body_binds, no_values}
-use Rattle.go_tree.specs.GoTypes.Typing.{all_parts}
-use Rattle.go_tree.specs.GoTypes.Initial.{all_initial}
-use Rattle.go_tree.specs.GoTypes.Bodiless.{all_bodiless}
-use Rattle.go_tree.specs.GoTypes.Programs.{Header, constants, variables, a_type_spec, a_func, spec_of, Headed, Program, headed, constant_headers, variable_headers, header_names}
-use Rattle.go_tree.specs.GoTypes.Collect.{env_of, DeclaredTypes, type_entity, spec_type, is_good_type, good_entity, package_constants, package_variables, may_be_main, function_declared, func_declared, declared_by, binds_or_refused, blocks_by, types_declared, named_world, valued_world}
-use Rattle.go_tree.specs.GoTypes.SingleNames.{has_value_each, each_alone, single_names, with_header, singly}
-use Rattle.go_tree.proofs.GoTypes.Agreeing.{from_given, from_both, from_only, some_same}
+use Rattle.go_rules.specs.ScopeNames.FreeNames.{names_of}
+use Rattle.go_rules.specs.ScopeNames.Means.{means, is_blank, binding}
+use Rattle.go_rules.specs.GoTypes.Answers.{given, both, only_if, is_empty, is_among}
+use Rattle.go_rules.specs.GoTypes.Types.{GoType, FuncType}
+use Rattle.go_rules.specs.GoTypes.Defined.{Defined}
+use Rattle.go_rules.specs.GoTypes.Entities.{run, exact, shift, Entity, variable, constant, type_name, function, refused, World, Env, Binds, block_of}
+use Rattle.go_rules.specs.GoTypes.TypeNames.{func_type, written_type}
+use Rattle.go_rules.specs.GoTypes.Operands.{Operand, Typed, all_typed, settled, fits}
+use Rattle.go_rules.specs.GoTypes.Declarations.{bind_all, bind_each, bound_names, constant_entity, variable_entity}
+use Rattle.go_rules.specs.GoTypes.Bodies.{body_binds, no_values}
+use Rattle.go_rules.specs.GoTypes.Typing.{all_parts}
+use Rattle.go_rules.specs.GoTypes.Initial.{all_initial}
+use Rattle.go_rules.specs.GoTypes.Bodiless.{all_bodiless}
+use Rattle.go_rules.specs.GoTypes.Programs.{Header, constants, variables, a_type_spec, a_func, spec_of, Headed, Program, headed, constant_headers, variable_headers, header_names}
+use Rattle.go_rules.specs.GoTypes.Collect.{env_of, DeclaredTypes, type_entity, spec_type, is_good_type, good_entity, package_constants, package_variables, may_be_main, function_declared, func_declared, declared_by, binds_or_refused, blocks_by, types_declared, named_world, valued_world}
+use Rattle.go_rules.specs.GoTypes.SingleNames.{has_value_each, each_alone, single_names, with_header, singly}
+use Rattle.go_rules.proofs.GoTypes.Agreeing.{from_given, from_both, from_only, some_same}
 use Rattle.typed_in_place.specs.Declared.{FirstWith, HasNumber}
 use Rattle.typed_in_place.proofs.Headers.{declared_in, value_phase}
 use Rattle.typed_in_place.proofs.Blocks.{Fits}

@@ -3,11 +3,11 @@
 use Rattle.std.specs.Prelude.{◌≡◌, refl, true, false, not, List, [], Some, None}
 use mathlib.Core.Path.{ap, sym, ◌∙◌, subst}
 use Rattle.go_tree.specs.Tree.{Expr}
-use Rattle.go_tree.specs.ScopeNames.Means.{means, is_blank}
+use Rattle.go_rules.specs.ScopeNames.Means.{means, is_blank}
 use Rattle.pkg_graph.specs.Package.{Package}
-use Rattle.go_tree.specs.GoTypes.Entities.{World, Env, block_of}
-use Rattle.go_tree.specs.GoTypes.Programs.{Program, headed, file_block}
-use Rattle.go_tree.specs.GoTypes.Collect.{file_env, env_of}
+use Rattle.go_rules.specs.GoTypes.Entities.{World, Env, block_of}
+use Rattle.go_rules.specs.GoTypes.Programs.{Program, headed, file_block}
+use Rattle.go_rules.specs.GoTypes.Collect.{file_env, env_of}
 use Rattle.typed_in_place.specs.Declared.{FirstWith, HasNumber, ConstantOrRefused, NamesConstant}
 use Rattle.typed_in_place.specs.Leaves.{Names}
 use Rattle.typed_in_place.specs.ProgramReplaced.{ValuesEnd}

@@ -1,16 +1,16 @@
 -- What a name of a package block means to the rules of typing is of the kind of the declaration that declares it.
 use Rattle.std.proofs.Common.{◌≡◌, ◌∙◌, refl, sym, ap, subst, ℕ, Bool, true, false, List, [], map, Some, None, inl, inr}
 use Rattle.std.specs.Prelude.{slice_get}
-use Rattle.go_tree.specs.declared.const_eval.consts.Const.{Const}
+use Rattle.go_rules.specs.declared.const_eval.consts.Const.{Const}
 use Rattle.go_tree.specs.Tree.{no_exprs, const_decl, var_decl, empty, eval, step, assign, define, return_, break_, continue_, inner, if_, for_, range_, switch, defer, label, ValueSpecs}
 use Rattle.go_tree.specs.File.{Decl, values, types, func}
-use Rattle.go_tree.specs.ScopeNames.Means.{Environment, means, is_blank}
+use Rattle.go_rules.specs.ScopeNames.Means.{Environment, means, is_blank}
 use Rattle.pkg_graph.specs.Package.{Package}
 use Rattle.pkg_graph.specs.Members.{Target, member, package_block}
-use Rattle.go_tree.specs.GoTypes.Types.{GoType}
-use Rattle.go_tree.specs.GoTypes.Entities.{Entity, variable, constant, stand_in, type_name, function, package_name, builtin, nil_name, iota_name, refused, World, block_of}
-use Rattle.go_tree.specs.GoTypes.Programs as source
-use Rattle.go_tree.specs.GoTypes.Programs.{Header, constants, variables, a_type_spec, a_func, Headed, SourceFile, SourcePackage, Program, headed, headers, at_member, file_block}
+use Rattle.go_rules.specs.GoTypes.Types.{GoType}
+use Rattle.go_rules.specs.GoTypes.Entities.{Entity, variable, constant, stand_in, type_name, function, package_name, builtin, nil_name, iota_name, refused, World, block_of}
+use Rattle.go_rules.specs.GoTypes.Programs as source
+use Rattle.go_rules.specs.GoTypes.Programs.{Header, constants, variables, a_type_spec, a_func, Headed, SourceFile, SourcePackage, Program, headed, headers, at_member, file_block}
 use Rattle.typed_in_place.specs.ProgramReplaced.{ValuesEnd, at_last}
 use Rattle.go_translation.specs.Packages.{are_well_typed}
 use Rattle.typed_in_place.specs.Declared.{HasNumber, ConstantOrRefused, a_constant, refused_yet}

@@ -2,7 +2,7 @@
 use Rattle.std.proofs.Common.{◌≡◌, refl, sym, ap, subst, ◌∙◌, List, [], ◌∷◌, ◌++◌, map}
 use Rattle.fresh_names.specs.Laws.{TakesFew}
 use Rattle.go_tree.specs.File.{ImportSpec}
-use Rattle.go_tree.specs.declared.scope_names.names.ImportName.{ImportName}
+use Rattle.go_rules.specs.declared.scope_names.names.ImportName.{ImportName}
 use Rattle.pkg_graph.specs.Package.{Package, import_specs}
 use Rattle.pkg_graph.specs.Members.{package_block}
 use Rattle.run_rules.specs.ImportRules.Needs.{avoided}

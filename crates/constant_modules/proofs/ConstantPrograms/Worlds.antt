@@ -1,7 +1,7 @@
 -- A step in a program of constants keeps what is found of the types and names that the packages declare.
 use Rattle.std.proofs.Common.{◌≡◌, ◌∙◌, subst, true, List, [], ◌++◌}
-use Rattle.go_tree.specs.GoTypes.Collect.{collected}
-use Rattle.go_tree.specs.GoTypes.Entities.{World}
+use Rattle.go_rules.specs.GoTypes.Collect.{collected}
+use Rattle.go_rules.specs.GoTypes.Entities.{World}
 use Rattle.go_translation.specs.Packages.{sources, are_well_typed}
 use Rattle.go_translation.specs.SameMeaning.{WellTyped}
 use Rattle.order_runs.specs.RunSteps.RunPackages.{members_of, packages_of}

@@ -6,9 +6,9 @@ use Rattle.std.proofs.lemmas.Option.{same_Some}
 use Rattle.go_tree.specs.declared.spans.Span.{Span}
 use Rattle.go_tree.specs.Tree.{NameAt, Expr, ident, int_lit, rune_lit, str_lit, composite, selector, index, slice, call, func_lit, type_operand, unary, binary, star}
 use Rattle.go_tree.specs.File.{Decl}
-use Rattle.go_tree.specs.GoTypes.Answers.{otherwise}
-use Rattle.go_tree.specs.ScopeNames.Means as scopes
-use Rattle.go_tree.specs.ScopeNames.Means.{Environment, means, numbered, or_else}
+use Rattle.go_rules.specs.GoTypes.Answers.{otherwise}
+use Rattle.go_rules.specs.ScopeNames.Means as scopes
+use Rattle.go_rules.specs.ScopeNames.Means.{Environment, means, numbered, or_else}
 use Rattle.pkg_graph.specs.Package.{Package, import_specs}
 use Rattle.pkg_graph.specs.Members.{Target, imported, predeclared, import_name, decls_from, package_block}
 use Rattle.typed_in_place.specs.ProgramsAlike.{OneByOne, no_more, and_more}

@@ -4,7 +4,7 @@ use Rattle.std.specs.Prelude.{slice_get}
 use Rattle.std.proofs.lemmas.Option.{same_Some}
 use Rattle.go_tree.specs.declared.spans.Span.{Span}
 use Rattle.go_tree.specs.File.{Decl}
-use Rattle.go_tree.specs.GoTypes.Answers.{given}
+use Rattle.go_rules.specs.GoTypes.Answers.{given}
 use Rattle.directive_scan.specs.declared.mark_types.Mark.{Mark}
 use Rattle.directive_scan.specs.Marked.{good_marks}
 use Rattle.pkg_graph.specs.Package.{SourceTree, Package}

@@ -3,20 +3,20 @@
 use Rattle.std.proofs.Common.{◌≡◌, ◌∙◌, refl, sym, ap, ℕ, Bool, true, false, ◌&&◌, if◌then◌else◌, List, [], ◌∷◌, length, Option, Some, None}
 use Rattle.std.specs.Prelude.{nat_eq, bytes_eq}
 use Rattle.go_tree.specs.Tree.{NameAt, TypeExpr, Exprs}
-use Rattle.go_tree.specs.ScopeNames.FreeNames.{names_of}
-use Rattle.go_tree.specs.GoTypes.Answers.{given, both, only_if}
-use Rattle.go_tree.specs.GoTypes.Types.{GoType, named_type}
-use Rattle.go_tree.specs.GoTypes.Defined.{find_defined, methods, declared_methods}
-use Rattle.go_tree.specs.GoTypes.Entities.{World, Env, Binds}
-use Rattle.go_tree.specs.GoTypes.TypeNames.{written_type}
-use Rattle.go_tree.specs.GoTypes.Operands.{Operand, all_typed}
-use Rattle.go_tree.specs.GoTypes.Declarations.{bind_all, constant_entity}
-use Rattle.go_tree.specs.GoTypes.Typing.{all_parts}
-use Rattle.go_tree.specs.GoTypes.Bodiless.{all_bodiless}
-use Rattle.go_tree.specs.GoTypes.Programs.{constants, Headed, Program, headed, env_of}
-use Rattle.go_tree.specs.GoTypes.TypeDeclarations.{DeclaredTypes, under_within, underlying}
-use Rattle.go_tree.specs.GoTypes.MethodDeclarations.{methods_from}
-use Rattle.go_tree.specs.GoTypes.Collect.{package_constants, good_entity, declared_by, types_declared, valued_world, collected}
+use Rattle.go_rules.specs.ScopeNames.FreeNames.{names_of}
+use Rattle.go_rules.specs.GoTypes.Answers.{given, both, only_if}
+use Rattle.go_rules.specs.GoTypes.Types.{GoType, named_type}
+use Rattle.go_rules.specs.GoTypes.Defined.{find_defined, methods, declared_methods}
+use Rattle.go_rules.specs.GoTypes.Entities.{World, Env, Binds}
+use Rattle.go_rules.specs.GoTypes.TypeNames.{written_type}
+use Rattle.go_rules.specs.GoTypes.Operands.{Operand, all_typed}
+use Rattle.go_rules.specs.GoTypes.Declarations.{bind_all, constant_entity}
+use Rattle.go_rules.specs.GoTypes.Typing.{all_parts}
+use Rattle.go_rules.specs.GoTypes.Bodiless.{all_bodiless}
+use Rattle.go_rules.specs.GoTypes.Programs.{constants, Headed, Program, headed, env_of}
+use Rattle.go_rules.specs.GoTypes.TypeDeclarations.{DeclaredTypes, under_within, underlying}
+use Rattle.go_rules.specs.GoTypes.MethodDeclarations.{methods_from}
+use Rattle.go_rules.specs.GoTypes.Collect.{package_constants, good_entity, declared_by, types_declared, valued_world, collected}
 use Rattle.typed_in_place.proofs.MethodsAside.{under_methods}
 use Rattle.typed_in_place.proofs.Headers.{declared_in}
 use Rattle.typed_in_place.proofs.Collected.{typed_is, valued_is}

@@ -1,12 +1,12 @@
 -- A use of a constant that is known is one wherever more is known of what names mean.
 use Rattle.std.proofs.Common.{◌≡◌, ◌∙◌, refl, ap, ℕ, List, Option, Some, None, arith}
 use Rattle.std.specs.Prelude.{is_some}
-use Rattle.go_tree.specs.declared.const_eval.consts.Const.{Const}
+use Rattle.go_rules.specs.declared.const_eval.consts.Const.{Const}
 use Rattle.go_tree.specs.Tree.{Expr}
-use Rattle.go_tree.specs.ScopeNames.Means.{Environment}
-use Rattle.go_tree.specs.GoTypes.Types.{GoType}
-use Rattle.go_tree.specs.GoTypes.Entities.{Entity, constant, World, Env, meaning, exported, package_of}
-use Rattle.go_tree.specs.GoTypes.Collect.{file_env}
+use Rattle.go_rules.specs.ScopeNames.Means.{Environment}
+use Rattle.go_rules.specs.GoTypes.Types.{GoType}
+use Rattle.go_rules.specs.GoTypes.Entities.{Entity, constant, World, Env, meaning, exported, package_of}
+use Rattle.go_rules.specs.GoTypes.Collect.{file_env}
 use Rattle.run_rules.specs.Surroundings.{Place}
 use Rattle.typed_in_place.specs.Declared.{a_constant}
 use Rattle.typed_in_place.specs.Known.{Clearer, as_before, refused_before, BlocksClearer, Knows}

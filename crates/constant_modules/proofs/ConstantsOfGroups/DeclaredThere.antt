@@ -4,11 +4,11 @@ use Rattle.std.specs.Prelude.{slice_get}
 use Rattle.std.proofs.lemmas.Option.{same_Some}
 use Rattle.go_tree.specs.Tree.{NameAt, TypeExpr, Expr, no_exprs, const_decl, ValueSpecs}
 use Rattle.go_tree.specs.File.{Decl, values, File}
-use Rattle.go_tree.specs.ScopeNames.Means.{means, is_blank}
+use Rattle.go_rules.specs.ScopeNames.Means.{means, is_blank}
 use Rattle.pkg_graph.specs.Package.{Package}
 use Rattle.pkg_graph.specs.Members.{member, specs_names, items_from}
-use Rattle.go_tree.specs.GoTypes.Answers.{given}
-use Rattle.go_tree.specs.GoTypes.Programs.{Headed, SourceFile, SourcePackage, Program, headed, at_member, file_block, block_names}
+use Rattle.go_rules.specs.GoTypes.Answers.{given}
+use Rattle.go_rules.specs.GoTypes.Programs.{Headed, SourceFile, SourcePackage, Program, headed, at_member, file_block, block_names}
 use Rattle.run_rules.specs.Programs.{linked_file, linked_imports}
 use Rattle.run_rules.specs.Rewriting.{Changes, new_written}
 use Rattle.run_rules.specs.Sites.{MarkRef, Where, a_constant, where_is, inlinable, inlinable_in}

@@ -2,9 +2,9 @@
 --   const A, B = 1, C
 use Rattle.std.proofs.Common.{◌≡◌, refl, ℕ, true, false, [], ◌∷◌, None, codes, arith}
 use Rattle.go_tree.specs.Tree.{NameAt, Expr, Exprs, ident, no_exprs, expr_and}
-use Rattle.go_tree.specs.GoTypes.Programs.{constants, Headed}
-use Rattle.go_tree.specs.GoTypes.SingleNames.{has_value_each, with_header, by_names}
-use Rattle.go_tree.proofs.GoTypes.Trees.{int}
+use Rattle.go_rules.specs.GoTypes.Programs.{constants, Headed}
+use Rattle.go_rules.specs.GoTypes.SingleNames.{has_value_each, with_header, by_names}
+use Rattle.go_rules.proofs.GoTypes.Trees.{int}
 use Rattle.typed_in_place.specs.Declared.{FirstWith, this_one, a_later_one}
 use Rattle.constant_modules.specs.ConstantsOfGroups.Groups.{FirstPair, this_pair, a_later_pair, DeclaresAs, FirstDeclares}
 

@@ -5,10 +5,10 @@ use Rattle.std.specs.Prelude.{bytes_eq, nat_eq}
 use Rattle.std.specs.List.{list_all}
 use Rattle.std.proofs.lemmas.Slice.Eq.{bytes_eq-Decides}
 use Rattle.go_tree.specs.Tree.{NameAt, TypeExpr, Expr, Exprs, no_exprs, expr_and}
-use Rattle.go_tree.specs.ScopeNames.FreeNames.{names_of}
-use Rattle.go_tree.specs.GoTypes.Answers.{is_empty, is_among}
-use Rattle.go_tree.specs.GoTypes.Programs.{Header, constants, Headed, header_names}
-use Rattle.go_tree.specs.GoTypes.SingleNames.{has_value_each, each_alone, single_names, with_header, singly, by_names}
+use Rattle.go_rules.specs.ScopeNames.FreeNames.{names_of}
+use Rattle.go_rules.specs.GoTypes.Answers.{is_empty, is_among}
+use Rattle.go_rules.specs.GoTypes.Programs.{Header, constants, Headed, header_names}
+use Rattle.go_rules.specs.GoTypes.SingleNames.{has_value_each, each_alone, single_names, with_header, singly, by_names}
 use Rattle.typed_in_place.specs.Declared.{FirstWith, this_one, a_later_one}
 use Rattle.typed_in_place.proofs.Rising.{and_first, and_second}
 use Rattle.value_rounds.proofs.NameRounds.SinglesFirst.{placed}

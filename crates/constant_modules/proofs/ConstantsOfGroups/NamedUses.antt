@@ -2,11 +2,11 @@
 -- constant means what its text means.
 use Rattle.std.proofs.Common.{◌≡◌, ◌∙◌, refl, sym, ap, subst, ℕ, true, false, List, [], Option, Some, None}
 use Rattle.go_tree.specs.Tree.{Expr}
-use Rattle.go_tree.specs.ScopeNames.Means.{means, is_blank}
+use Rattle.go_rules.specs.ScopeNames.Means.{means, is_blank}
 use Rattle.pkg_graph.specs.Package.{Package}
-use Rattle.go_tree.specs.GoTypes.Entities.{Entity, World, Env, block_of}
-use Rattle.go_tree.specs.GoTypes.Programs.{Headed, file_block}
-use Rattle.go_tree.specs.GoTypes.Collect.{file_env, env_of}
+use Rattle.go_rules.specs.GoTypes.Entities.{Entity, World, Env, block_of}
+use Rattle.go_rules.specs.GoTypes.Programs.{Headed, file_block}
+use Rattle.go_rules.specs.GoTypes.Collect.{file_env, env_of}
 use Rattle.run_rules.specs.Programs.{linked_imports}
 use Rattle.run_rules.specs.Sites.{MarkRef, Where}
 use Rattle.run_rules.specs.Surroundings.{Place}

@@ -3,14 +3,14 @@
 use Rattle.std.proofs.Common.{◌≡◌, ◌∙◌, refl, sym, ap, subst, ℕ, zero, suc, Bool, true, false, List, [], ◌∷◌, ◌++◌, Option, None, arith}
 use Rattle.go_tree.specs.Tree.{NameAt, Expr, Exprs}
 use Rattle.go_tree.specs.File.{Decl, File}
-use Rattle.go_tree.specs.ScopeNames.FreeNames.{names_of}
-use Rattle.go_tree.specs.ScopeNames.Means.{Environment}
+use Rattle.go_rules.specs.ScopeNames.FreeNames.{names_of}
+use Rattle.go_rules.specs.ScopeNames.Means.{Environment}
 use Rattle.pkg_graph.specs.Package.{Package}
-use Rattle.go_tree.specs.GoTypes.Answers.{is_among}
-use Rattle.go_tree.specs.GoTypes.Entities.{Entity, World, Env}
-use Rattle.go_tree.specs.GoTypes.Programs.{Header, constants, variables, a_type_spec, a_func, Headed, header_names, SourceFile, Program, headed, block_names, file_block, is_main}
-use Rattle.go_tree.specs.GoTypes.SingleNames.{has_value_each}
-use Rattle.go_tree.specs.GoTypes.Collect.{file_env, declared_types, declared_by, blocks_by, value_round, aliased_world, types_declared, typed_world, named_world, valued_world}
+use Rattle.go_rules.specs.GoTypes.Answers.{is_among}
+use Rattle.go_rules.specs.GoTypes.Entities.{Entity, World, Env}
+use Rattle.go_rules.specs.GoTypes.Programs.{Header, constants, variables, a_type_spec, a_func, Headed, header_names, SourceFile, Program, headed, block_names, file_block, is_main}
+use Rattle.go_rules.specs.GoTypes.SingleNames.{has_value_each}
+use Rattle.go_rules.specs.GoTypes.Collect.{file_env, declared_types, declared_by, blocks_by, value_round, aliased_world, types_declared, typed_world, named_world, valued_world}
 use Rattle.run_rules.specs.FormTrees.{as_expr}
 use Rattle.run_rules.specs.Programs.{decl_seen}
 use Rattle.run_rules.specs.Steps.{changes_for, new_decl}

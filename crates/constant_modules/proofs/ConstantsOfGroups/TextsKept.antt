@@ -5,8 +5,8 @@ use Rattle.std.specs.Prelude.{is_some, nat_eq, slice_get}
 use Rattle.go_tree.specs.Tree.{NameAt, TypeExpr, Expr, ident, selector, Exprs, no_exprs, expr_and, const_decl, var_decl, empty, eval, step, assign, define, return_, break_, continue_, inner, if_, for_, range_, switch, defer, label, ValueSpecs, no_specs, spec}
 use Rattle.go_tree.specs.File.{TypeSpec, Decl, values, types, func, File}
 use Rattle.pkg_graph.specs.Package.{Package}
-use Rattle.go_tree.specs.GoTypes.Answers.{given}
-use Rattle.go_tree.specs.GoTypes.Programs.{SourceFile, SourcePackage}
+use Rattle.go_rules.specs.GoTypes.Answers.{given}
+use Rattle.go_rules.specs.GoTypes.Programs.{SourceFile, SourcePackage}
 use Rattle.run_rules.specs.Surroundings.{Place, Use, Seen, comma_slot, head_use, later_uses, alike, value_use, in_constant}
 use Rattle.run_rules.specs.Places.{written_seen, expr_seen, all_seen}
 use Rattle.run_rules.specs.Rewriting.{Changes, new_expr, new_all, new_written}

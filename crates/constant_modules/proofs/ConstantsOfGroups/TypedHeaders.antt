@@ -4,19 +4,19 @@ use Rattle.std.proofs.Common.{◌≡◌, ◌∙◌, refl, sym, ap, ℕ, true, fa
 use Rattle.std.specs.Prelude.{is_some}
 use Rattle.std.specs.List.{list_all}
 use Rattle.go_tree.specs.Tree.{NameAt, Expr, Exprs, no_exprs, expr_and}
-use Rattle.go_tree.specs.ScopeNames.FreeNames.{names_of}
-use Rattle.go_tree.specs.ScopeNames.Means.{Environment, means, is_blank, binding, or_else}
-use Rattle.go_tree.specs.GoTypes.Answers.{given, both, only_if, otherwise}
-use Rattle.go_tree.specs.GoTypes.Entities.{Entity, constant, refused, World, Env, block_of, Binds}
-use Rattle.go_tree.specs.GoTypes.Operands.{Operand, Typed, typed, all_typed, named_operand}
-use Rattle.go_tree.specs.GoTypes.Declarations.{bind_all, bind_each, constant_entity}
-use Rattle.go_tree.specs.GoTypes.Typing.{parts, all_parts}
-use Rattle.go_tree.specs.GoTypes.Bodiless.{all_bodiless}
-use Rattle.go_tree.specs.GoTypes.Programs.{constants, Headed, header_names, Program, headed, env_of}
-use Rattle.go_tree.specs.GoTypes.SingleNames.{has_value_each, single_names, singly}
-use Rattle.go_tree.specs.GoTypes.TypeDeclarations.{DeclaredTypes}
-use Rattle.go_tree.specs.GoTypes.Collect.{package_constants, good_entity, declared_by, binds_or_refused, block_by, types_declared, valued_world, collected}
-use Rattle.go_tree.proofs.GoTypes.Agreeing.{from_both, from_only}
+use Rattle.go_rules.specs.ScopeNames.FreeNames.{names_of}
+use Rattle.go_rules.specs.ScopeNames.Means.{Environment, means, is_blank, binding, or_else}
+use Rattle.go_rules.specs.GoTypes.Answers.{given, both, only_if, otherwise}
+use Rattle.go_rules.specs.GoTypes.Entities.{Entity, constant, refused, World, Env, block_of, Binds}
+use Rattle.go_rules.specs.GoTypes.Operands.{Operand, Typed, typed, all_typed, named_operand}
+use Rattle.go_rules.specs.GoTypes.Declarations.{bind_all, bind_each, constant_entity}
+use Rattle.go_rules.specs.GoTypes.Typing.{parts, all_parts}
+use Rattle.go_rules.specs.GoTypes.Bodiless.{all_bodiless}
+use Rattle.go_rules.specs.GoTypes.Programs.{constants, Headed, header_names, Program, headed, env_of}
+use Rattle.go_rules.specs.GoTypes.SingleNames.{has_value_each, single_names, singly}
+use Rattle.go_rules.specs.GoTypes.TypeDeclarations.{DeclaredTypes}
+use Rattle.go_rules.specs.GoTypes.Collect.{package_constants, good_entity, declared_by, binds_or_refused, block_by, types_declared, valued_world, collected}
+use Rattle.go_rules.proofs.GoTypes.Agreeing.{from_both, from_only}
 use Rattle.typed_in_place.specs.Declared.{FirstWith, HasNumber, ConstantOrRefused, a_constant, refused_yet}
 use Rattle.typed_in_place.specs.Leaves.{Names}
 use Rattle.typed_in_place.specs.NameRounds.Together.{binds_of_all}

@@ -35,7 +35,7 @@ use Rattle.constant_modules.specs.KeptUses.Laws.{UsedInPlace, ImportsReadAgainAr
 use Rattle.constant_modules.specs.NamedAnywhere.Taken.{TakesNameThere}
 use Rattle.go_translation.specs.Packages as translated
 use Rattle.go_translation.specs.Packages.{are_distinct, are_linked, are_well_typed}
-use Rattle.go_tree.specs.ScopeNames.Means.{is_blank}
+use Rattle.go_rules.specs.ScopeNames.Means.{is_blank}
 use Rattle.order_runs.proofs.CycleRuns.KeptImports.Keys.{key_name, name-by}
 use Rattle.order_runs.proofs.CycleRuns.OrderedSteps.Steps.{steps-own}
 use Rattle.order_runs.proofs.CycleRuns.Runs.{linked-names, written-so}

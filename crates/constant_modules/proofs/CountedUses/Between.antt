@@ -5,8 +5,8 @@ use Rattle.std.specs.Prelude.{slice_get}
 use Rattle.go_tree.specs.declared.spans.Span.{Span}
 use Rattle.go_tree.specs.Tree.{TypeExpr, no_exprs, expr_and, const_decl, var_decl, empty, eval, step, assign, define, return_, break_, continue_, inner, if_, for_, range_, switch, defer, label, ValueSpecs, no_specs, spec}
 use Rattle.go_tree.specs.File.{ImportSpec, Decl, values, types, func}
-use Rattle.go_tree.specs.GoTypes.Agreement.{In}
-use Rattle.go_tree.specs.GoTypes.Answers.{otherwise}
+use Rattle.go_rules.specs.GoTypes.Agreement.{In}
+use Rattle.go_rules.specs.GoTypes.Answers.{otherwise}
 use Rattle.go_translation.specs.Packages.{sources, are_distinct, are_linked, are_well_typed}
 use Rattle.pkg_graph.specs.Package as run
 use Rattle.pkg_graph.specs.Package.{SourceTree, import_specs}

@@ -3,13 +3,13 @@ use Rattle.std.specs.Prelude.{◌≡◌, refl, ℕ, suc, Bool, true, false, not,
 use Rattle.std.specs.List.{list_all}
 use mathlib.Core.Path.{ap, sym, ◌∙◌}
 use Rattle.std.proofs.Common.{arith}
-use Rattle.go_tree.specs.ScopeNames.Means.{Environment}
-use Rattle.go_tree.specs.GoTypes.Answers.{one_of, and_also}
-use Rattle.go_tree.specs.GoTypes.Entities.{Entity, World}
-use Rattle.go_tree.specs.GoTypes.Programs.{Header, SourceFile, Program, Headed, headed, headed_file, headed_files, headed_package, all_headers, header_names, header_sound, names_in, block_names, file_block, is_main}
-use Rattle.go_tree.specs.GoTypes.Collect.{DeclaredTypes, declared_on, types_declared, collected}
-use Rattle.go_tree.specs.GoTypes.MethodDeclarations.{MethodName}
-use Rattle.go_tree.specs.GoTypes.WellTyped.{refused_unless, header_ok, body_ok, first_header, first_body, lacks_main}
+use Rattle.go_rules.specs.ScopeNames.Means.{Environment}
+use Rattle.go_rules.specs.GoTypes.Answers.{one_of, and_also}
+use Rattle.go_rules.specs.GoTypes.Entities.{Entity, World}
+use Rattle.go_rules.specs.GoTypes.Programs.{Header, SourceFile, Program, Headed, headed, headed_file, headed_files, headed_package, all_headers, header_names, header_sound, names_in, block_names, file_block, is_main}
+use Rattle.go_rules.specs.GoTypes.Collect.{DeclaredTypes, declared_on, types_declared, collected}
+use Rattle.go_rules.specs.GoTypes.MethodDeclarations.{MethodName}
+use Rattle.go_rules.specs.GoTypes.WellTyped.{refused_unless, header_ok, body_ok, first_header, first_body, lacks_main}
 use Rattle.typed_in_place.specs.ImportRule.{files_declare, package_declares, declarations_ok}
 use Rattle.typed_in_place.specs.ProgramReplaced.{All, all_of_none, all_and}
 use Rattle.typed_in_place.proofs.Rising.{and_first, and_second}

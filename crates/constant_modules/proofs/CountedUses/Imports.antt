@@ -6,10 +6,10 @@ use Rattle.std.specs.List.{list_all}
 use Rattle.go_tree.specs.declared.spans.Span.{Span}
 use Rattle.go_tree.specs.Tree.{no_exprs, expr_and, const_decl, ValueSpecs, no_specs, spec, TypeExpr}
 use Rattle.go_tree.specs.File.{ImportSpec, Decl, values, types, func, File}
-use Rattle.go_tree.specs.ScopeNames.Means.{is_blank}
-use Rattle.go_tree.specs.GoTypes.Collect.{collected}
-use Rattle.go_tree.specs.GoTypes.Programs.{SourcePackage, Program, Headed, headed}
-use Rattle.go_tree.specs.GoTypes.WellTyped.{is_used_in}
+use Rattle.go_rules.specs.ScopeNames.Means.{is_blank}
+use Rattle.go_rules.specs.GoTypes.Collect.{collected}
+use Rattle.go_rules.specs.GoTypes.Programs.{SourcePackage, Program, Headed, headed}
+use Rattle.go_rules.specs.GoTypes.WellTyped.{is_used_in}
 use Rattle.go_layout.specs.LayoutLaws.Formed.{FormedSpec, FormedSpecs}
 use Rattle.go_translation.specs.Packages.{Package, sources, are_distinct, are_linked}
 use Rattle.pkg_graph.specs.Package as run

@@ -6,12 +6,12 @@ use mathlib.Core.Path.{sym, ◌∙◌, subst}
 use Rattle.std.proofs.Common.{arith}
 use Rattle.go_tree.specs.Tree.{TypeExpr, Sig, Expr, call, ident, selector}
 use Rattle.go_tree.specs.File.{Decl}
-use Rattle.go_tree.specs.ScopeNames.Means.{is_blank}
+use Rattle.go_rules.specs.ScopeNames.Means.{is_blank}
 use Rattle.pkg_graph.specs.Package.{Package}
-use Rattle.go_tree.specs.GoTypes.Entities.{World, Env, block_of}
-use Rattle.go_tree.specs.GoTypes.TypeNames.{type_meant, func_type}
-use Rattle.go_tree.specs.GoTypes.Programs.{Program, headed, block_names}
-use Rattle.go_tree.specs.GoTypes.Collect.{file_env, types_declared, collected}
+use Rattle.go_rules.specs.GoTypes.Entities.{World, Env, block_of}
+use Rattle.go_rules.specs.GoTypes.TypeNames.{type_meant, func_type}
+use Rattle.go_rules.specs.GoTypes.Programs.{Program, headed, block_names}
+use Rattle.go_rules.specs.GoTypes.Collect.{file_env, types_declared, collected}
 use Rattle.typed_in_place.specs.ProgramReplaced.{All}
 use Rattle.run_rules.specs.Forms.{is_at}
 use Rattle.run_rules.specs.Programs.{linked_file, linked_imports, linked, world, imports_mean, top_env, top_place, decl_seen}

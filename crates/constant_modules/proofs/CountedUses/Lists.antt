@@ -1,9 +1,9 @@
 -- Lists of parts and of names, and the names of packages that stand in a type.
 use Rattle.std.proofs.Common.{◌≡◌, refl, sym, subst, ◌∙◌, ◌⊎◌, inl, inr, ℕ, Bool, true, false, not, ◌&&◌, List, [], ◌∷◌, ◌++◌, Some, None}
 use Rattle.go_tree.specs.Tree.{TypeExpr, named, pointer, slice_type, map_type, struct_type, Fields, no_fields, field}
-use Rattle.go_tree.specs.ScopeNames.FreeNames.{free_type, free_fields}
-use Rattle.go_tree.specs.GoTypes.Agreement.{In}
-use Rattle.go_tree.specs.GoTypes.Answers.{is_among, without}
+use Rattle.go_rules.specs.ScopeNames.FreeNames.{free_type, free_fields}
+use Rattle.go_rules.specs.GoTypes.Agreement.{In}
+use Rattle.go_rules.specs.GoTypes.Answers.{is_among, without}
 use Rattle.form_meaning.proofs.FormInPlace.Uses.{among_without}
 use Rattle.order_runs.proofs.CycleRuns.ImportCycles.FreeIdentifiers.{in-left, in-right, in-either}
 use Rattle.order_runs.proofs.RunSteps.SeatedUses.{Among, first, later}

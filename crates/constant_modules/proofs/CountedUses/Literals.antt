@@ -3,12 +3,12 @@
 use Rattle.std.proofs.Common.{◌≡◌, refl, ℕ, suc, Bool, true, false, List, [], ◌∷◌, Option, Some}
 use Rattle.go_tree.specs.Tree.{ident, composite, func_lit, Elems, no_elems, elem, Value, plain, braced, ValueOption, no_value, some_value}
 use Rattle.go_tree.specs.File.{Decl}
-use Rattle.go_tree.specs.GoTypes.Answers.{given, meets}
-use Rattle.go_tree.specs.GoTypes.Types.{GoType}
-use Rattle.go_tree.specs.GoTypes.Defined.{under}
-use Rattle.go_tree.specs.GoTypes.Entities.{defined_in}
-use Rattle.go_tree.specs.GoTypes.TypeNames.{type_meant}
-use Rattle.go_tree.specs.GoTypes.Literals.{is_struct, literal_type}
+use Rattle.go_rules.specs.GoTypes.Answers.{given, meets}
+use Rattle.go_rules.specs.GoTypes.Types.{GoType}
+use Rattle.go_rules.specs.GoTypes.Defined.{under}
+use Rattle.go_rules.specs.GoTypes.Entities.{defined_in}
+use Rattle.go_rules.specs.GoTypes.TypeNames.{type_meant}
+use Rattle.go_rules.specs.GoTypes.Literals.{is_struct, literal_type}
 use Rattle.go_translation.specs.Packages.{are_well_typed}
 use Rattle.constant_steps.specs.FormImports.Laws.{LiteralsStand}
 use Rattle.constant_steps.specs.FormImports.Literals.{EachSeen, LiteralTyped, KeysNamed, KeyNamed, ValueNamed, FieldsNamed}

@@ -7,13 +7,13 @@ use Rattle.std.proofs.lemmas.Bool.Decides.{nat_tests}
 use Rattle.std.proofs.lemmas.List.Folds.{list_any-append}
 use Rattle.std.proofs.lemmas.Option.{same_Some}
 use Rattle.go_tree.specs.File.{ImportSpec, Decl}
-use Rattle.go_tree.specs.ScopeNames.Means.{Environment, is_blank}
-use Rattle.go_tree.specs.GoTypes.Agreement.{In}
-use Rattle.go_tree.specs.GoTypes.Answers.{is_among}
-use Rattle.go_tree.specs.GoTypes.Collect.{types_declared, collected}
-use Rattle.go_tree.specs.GoTypes.Entities.{Entity, World}
-use Rattle.go_tree.specs.GoTypes.Programs.{Header, SourceFile, SourcePackage, Program, Headed, headers, all_headers, names_in, file_block, block_names, header_names, header_sound, headed, headed_file, headed_files, headed_package, is_main}
-use Rattle.go_tree.specs.GoTypes.WellTyped.{header_uses, is_used_in}
+use Rattle.go_rules.specs.ScopeNames.Means.{Environment, is_blank}
+use Rattle.go_rules.specs.GoTypes.Agreement.{In}
+use Rattle.go_rules.specs.GoTypes.Answers.{is_among}
+use Rattle.go_rules.specs.GoTypes.Collect.{types_declared, collected}
+use Rattle.go_rules.specs.GoTypes.Entities.{Entity, World}
+use Rattle.go_rules.specs.GoTypes.Programs.{Header, SourceFile, SourcePackage, Program, Headed, headers, all_headers, names_in, file_block, block_names, header_names, header_sound, headed, headed_file, headed_files, headed_package, is_main}
+use Rattle.go_rules.specs.GoTypes.WellTyped.{header_uses, is_used_in}
 use Rattle.pkg_graph.specs.Package as run
 use Rattle.pkg_graph.specs.Package.{import_specs}
 use Rattle.pkg_graph.specs.Members.{import_name}
@@ -38,8 +38,8 @@ use Rattle.printed_constants.proofs.RemovedImports.Imports.{ImportAt, import_the
 use Rattle.printed_constants.proofs.StandingForms.Unnamed.{behind, none_behind, in_turn}
 use Rattle.printed_constants.proofs.UsedImports.HeaderUses.{among_in}
 use Rattle.printed_constants.proofs.UsedImports.Looked.{any_among, among_nth}
-use Rattle.go_tree.specs.GoTypes.Answers.{given}
-use Rattle.go_tree.specs.ScopeNames.Means.{means}
+use Rattle.go_rules.specs.GoTypes.Answers.{given}
+use Rattle.go_rules.specs.ScopeNames.Means.{means}
 use Rattle.run_rules.specs.Programs.{in_dependency_order, linked_file, linked, world, imports_mean, decl_seen}
 use Rattle.run_rules.specs.Sites.{Where, imported_by}
 use Rattle.run_rules.specs.Steps.{At, means_import, uses_import, is_import_used}

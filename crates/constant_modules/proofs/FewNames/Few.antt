@@ -6,12 +6,12 @@ use Rattle.fresh_names.specs.Laws.{TakenAmong, TakesFew}
 use Rattle.go_tree.specs.declared.spans.Span.{Span}
 use Rattle.go_tree.specs.Tree.{NameAt, Expr, ident, selector}
 use Rattle.go_tree.specs.File.{ImportSpec}
-use Rattle.go_tree.specs.declared.scope_names.names.ImportName.{ImportName}
-use Rattle.go_tree.specs.GoTypes.Agreement.{In}
-use Rattle.go_tree.specs.GoTypes.Answers.{given, otherwise}
+use Rattle.go_rules.specs.declared.scope_names.names.ImportName.{ImportName}
+use Rattle.go_rules.specs.GoTypes.Agreement.{In}
+use Rattle.go_rules.specs.GoTypes.Answers.{given, otherwise}
 use Rattle.go_tree.specs.GoWords.Tokens.Pieces.{keyword_spellings}
-use Rattle.go_tree.specs.ScopeNames.Identifiers.{imports_identifiers, decls_identifiers, identifiers}
-use Rattle.go_tree.specs.ScopeNames.Means.{predeclared}
+use Rattle.go_rules.specs.ScopeNames.Identifiers.{imports_identifiers, decls_identifiers, identifiers}
+use Rattle.go_rules.specs.ScopeNames.Means.{predeclared}
 use Rattle.pkg_graph.specs.Package.{SourceTree, Package, import_specs}
 use Rattle.pkg_graph.specs.Members.{Target, import_name, decls_from, files_from, package_block}
 use Rattle.constant_steps.specs.FormImports.ImportLaws.Steps.{binders_in, binders_of}

@@ -6,9 +6,9 @@ use Rattle.go_read.specs.SpellsTypes.{Lexemes}
 use Rattle.go_tree.specs.declared.spans.Span.{Span}
 use Rattle.go_tree.specs.declared.tokens.Token.{Token}
 use Rattle.go_tree.specs.File.{File}
-use Rattle.go_tree.specs.GoTypes.Agreement.{In, head, tail}
+use Rattle.go_rules.specs.GoTypes.Agreement.{In, head, tail}
 use Rattle.go_tree.specs.GoWords.Terminals.{Terminal, ident, lex, lexemes}
-use Rattle.go_tree.specs.ScopeNames.Identifiers.{identifiers}
+use Rattle.go_rules.specs.ScopeNames.Identifiers.{identifiers}
 use Rattle.order_runs.proofs.CycleRuns.ImportCycles.FreeIdentifiers.{in-right}
 use Rattle.printed_constants.proofs.CountedNames.Counted.{lexemes_length}
 use Rattle.run_by_steps.proofs.SpelledNames.Names.{Each, nil, cons, front_names}

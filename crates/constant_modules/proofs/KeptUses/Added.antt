@@ -8,15 +8,15 @@ use Rattle.std.proofs.lemmas.Option.{same_Some}
 use Rattle.std.proofs.lemmas.Slice.Eq.{bytes_eq-Decides}
 use Rattle.go_tree.specs.Tree.{NameAt, Expr, ident, selector, plain}
 use Rattle.go_tree.specs.File.{Receiver, Decl, values, types, func, File}
-use Rattle.go_tree.specs.declared.scope_names.names.ImportName.{ImportName}
+use Rattle.go_rules.specs.declared.scope_names.names.ImportName.{ImportName}
 use Rattle.go_tree.specs.GoWords.Tokens.Pieces.{keyword_spellings}
-use Rattle.go_tree.specs.ScopeNames.FreeNames.{names_of}
-use Rattle.go_tree.specs.ScopeNames.Fresh.{is_new}
-use Rattle.go_tree.specs.ScopeNames.Identifiers.{identifiers}
-use Rattle.go_tree.specs.ScopeNames.Means.{Environment, is_blank, means, numbered, predeclared}
-use Rattle.go_tree.specs.ScopeNames.Scopes.{expr_span}
-use Rattle.go_tree.specs.GoTypes.Answers.{given, is_among}
-use Rattle.go_tree.specs.GoTypes.Literals.{field_key}
+use Rattle.go_rules.specs.ScopeNames.FreeNames.{names_of}
+use Rattle.go_rules.specs.ScopeNames.Fresh.{is_new}
+use Rattle.go_rules.specs.ScopeNames.Identifiers.{identifiers}
+use Rattle.go_rules.specs.ScopeNames.Means.{Environment, is_blank, means, numbered, predeclared}
+use Rattle.go_rules.specs.ScopeNames.Scopes.{expr_span}
+use Rattle.go_rules.specs.GoTypes.Answers.{given, is_among}
+use Rattle.go_rules.specs.GoTypes.Literals.{field_key}
 use Rattle.pkg_graph.specs.Package.{Package, import_specs, specs_in}
 use Rattle.pkg_graph.specs.Members.{Target, imported, name_or, package_name, import_name}
 use Rattle.constant_steps.specs.FormImports.Laws.{LiteralsStand}

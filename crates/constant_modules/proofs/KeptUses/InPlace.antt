@@ -6,8 +6,8 @@ use Rattle.std.proofs.lemmas.Bool.Decides.{nat_tests}
 use Rattle.std.proofs.lemmas.Option.{same_Some}
 use Rattle.go_tree.specs.File.{ImportSpec}
 use Rattle.go_tree.specs.Tree.{Expr, ident, selector}
-use Rattle.go_tree.specs.ScopeNames.Identifiers.{expr_identifiers}
-use Rattle.go_tree.specs.ScopeNames.Means.{is_blank}
+use Rattle.go_rules.specs.ScopeNames.Identifiers.{expr_identifiers}
+use Rattle.go_rules.specs.ScopeNames.Means.{is_blank}
 use Rattle.pkg_graph.specs.Package.{import_specs, specs_in}
 use Rattle.pkg_graph.specs.Members.{import_name}
 use Rattle.go_translation.specs.Packages.{are_well_typed}

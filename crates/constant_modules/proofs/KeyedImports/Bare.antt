@@ -5,8 +5,8 @@ use Rattle.go_tree.specs.Bare.{bare_name, bare_type, bare_fields, bare_param, ba
 use Rattle.go_tree.specs.FileBare.{bare_func, bare_decl}
 use Rattle.go_tree.specs.Tree.{NameAt, TypeExpr, named, pointer, slice_type, map_type, struct_type, Fields, no_fields, field, Param, Expr, Exprs, ExprOption, Elems, Value, ValueOption, Stmt, Stmts, StmtOption, BlockOption, RangeLeft, Arms, Cases, ValueSpecs, ident, int_lit, rune_lit, str_lit, composite, selector, index, slice, call, func_lit, type_operand, unary, binary, star, no_exprs, expr_and, no_expr, some_expr, no_elems, elem, plain, braced, no_value, some_value, const_decl, var_decl, empty, eval, step, assign, define, return_, break_, continue_, inner, if_, for_, range_, switch, defer, label, no_stmts, stmt_and, no_stmt, some_stmt, no_block, some_block, nothing, assigns, defines, no_arms, arm, no_cases, case, no_specs, spec}
 use Rattle.go_tree.specs.File.{Func, Decl, values, types, func}
-use Rattle.go_tree.specs.ScopeNames.FreeNames.{named_use, names_of, declared, declared_option, arms_declared, defined, sig_names}
-use Rattle.go_tree.proofs.ScopeNames.FreeNamesBare.{names_of-bare, sig_names-bare, declared-bare, declared_option-bare, defined-bare, free_type_option-bare, free_params-bare}
+use Rattle.go_rules.specs.ScopeNames.FreeNames.{named_use, names_of, declared, declared_option, arms_declared, defined, sig_names}
+use Rattle.go_rules.proofs.ScopeNames.FreeNamesBare.{names_of-bare, sig_names-bare, declared-bare, declared_option-bare, defined-bare, free_type_option-bare, free_params-bare}
 use Rattle.order_runs.specs.CycleRuns.ImportCycles.LookedUp.{names_around}
 use Rattle.order_runs.proofs.CycleLaws.BareWith as spans
 use Rattle.run_rules.specs.Respanned.{decl_with}

@@ -4,21 +4,21 @@ use Rattle.std.specs.Prelude.{◌≡◌, refl, ℕ, true, false, List, [], map, 
 use mathlib.Core.Path.{◌∙◌}
 use Rattle.std.proofs.Common.{arith}
 use Rattle.go_tree.specs.Tree.{NameAt, TypeExpr, Exprs}
-use Rattle.go_tree.specs.ScopeNames.Means.{Environment}
-use Rattle.go_tree.specs.ScopeNames.FreeNames.{names_of, free_type_option}
-use Rattle.go_tree.specs.GoTypes.Types.{GoType}
-use Rattle.go_tree.specs.GoTypes.Entities.{Entity, World}
-use Rattle.go_tree.specs.GoTypes.Statements.{no_values}
-use Rattle.go_tree.specs.GoTypes.Programs.{Header, constants, variables, a_type_spec, a_func, Headed}
-use Rattle.go_tree.specs.GoTypes.SingleNames.{with_header}
-use Rattle.go_tree.specs.GoTypes.Collect.{env_of}
-use Rattle.go_tree.specs.GoTypes.Agreement.{On, Agrees}
+use Rattle.go_rules.specs.ScopeNames.Means.{Environment}
+use Rattle.go_rules.specs.ScopeNames.FreeNames.{names_of, free_type_option}
+use Rattle.go_rules.specs.GoTypes.Types.{GoType}
+use Rattle.go_rules.specs.GoTypes.Entities.{Entity, World}
+use Rattle.go_rules.specs.GoTypes.Statements.{no_values}
+use Rattle.go_rules.specs.GoTypes.Programs.{Header, constants, variables, a_type_spec, a_func, Headed}
+use Rattle.go_rules.specs.GoTypes.SingleNames.{with_header}
+use Rattle.go_rules.specs.GoTypes.Collect.{env_of}
+use Rattle.go_rules.specs.GoTypes.Agreement.{On, Agrees}
 use Rattle.typed_in_place.specs.ImportsMoved.{under_imports, file_names, moved_func}
 use Rattle.go_kernel.specs.Kernel.{ImportPath, FuncName, Func, Term, Vals}
 use Rattle.go_translation.specs.Values.{nothing, path_of, zeros_of}
 use Rattle.go_translation.specs.Here.{Here}
 use Rattle.go_translation.specs.Places.{assignment}
-use Rattle.go_tree.specs.GoTypes.TypeNames.{written_type}
+use Rattle.go_rules.specs.GoTypes.TypeNames.{written_type}
 use Rattle.go_translation.specs.Facts.{value_types}
 use Rattle.go_translation.specs.Statements.{spec_types}
 use Rattle.go_translation.specs.Translation.{values_term}

@@ -3,9 +3,9 @@
 use Rattle.std.proofs.Common.{◌≡◌, refl, sym, subst, ℕ, suc, false, List, [], ◌∷◌, ◌++◌, Option, Some, None}
 use Rattle.go_tree.specs.Tree.{Param, TypeExpr, named, const_decl, var_decl, empty, eval, step, assign, define, return_, break_, continue_, inner, if_, for_, range_, switch, defer, label, ValueSpecs, no_specs, spec}
 use Rattle.go_tree.specs.File.{TypeSpec, Receiver, Func, Decl, values, types, func, File}
-use Rattle.go_tree.specs.ScopeNames.FreeNames.{free_type, free_type_option, free_params}
-use Rattle.go_tree.specs.ScopeNames.Means.{is_blank}
-use Rattle.go_tree.specs.GoTypes.Agreement.{In, head, tail}
+use Rattle.go_rules.specs.ScopeNames.FreeNames.{free_type, free_type_option, free_params}
+use Rattle.go_rules.specs.ScopeNames.Means.{is_blank}
+use Rattle.go_rules.specs.GoTypes.Agreement.{In, head, tail}
 use Rattle.pkg_graph.specs.Package.{Package}
 use Rattle.constant_steps.proofs.FormImports.ImportLaws.GraphImports.{map_append}
 use Rattle.constant_steps.proofs.StepLaws.DeclUses.{body-begins}
@@ -13,7 +13,7 @@ use Rattle.constant_steps.proofs.StepLaws.OutsideHolds.{no_name}
 use Rattle.order_runs.specs.CycleRuns.ImportCycles.LookedUp.{types_looked_up, receiver_looked_up, names_around}
 use Rattle.run_rules.specs.Places.{written_seen, params_seen, sig_seen, all_seen, stmts_seen}
 use Rattle.run_rules.specs.Programs.{world, headed_func, top_place, body_place, constants_at_top, variables_at_top, types_at_top, receiver_seen, func_seen, decl_seen}
-use Rattle.go_tree.specs.GoTypes.WellTyped.{body_env}
+use Rattle.go_rules.specs.GoTypes.WellTyped.{body_env}
 use Rattle.run_rules.specs.Surroundings.{Place, Seen, seen_type, alike, value_use, in_constant}
 use Rattle.constant_modules.specs.KeyedImports.Keyed.{all_used, specs_marked, decl_marked}
 use Rattle.constant_modules.specs.NamesAndKeys.Marked.{Marked, used_name, Within, at_head, behind, marked_exprs, marked_stmts}

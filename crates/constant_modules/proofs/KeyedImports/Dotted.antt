@@ -4,8 +4,8 @@ use Rattle.std.specs.Prelude.{slice_get}
 use Rattle.std.proofs.lemmas.Option.{same_Some}
 use Rattle.go_tree.specs.Tree.{NameAt, Expr, ident, int_lit, rune_lit, str_lit, composite, selector, index, slice, call, func_lit, type_operand, unary, binary, star, Exprs, no_exprs, expr_and, const_decl, ValueSpecs, no_specs, spec}
 use Rattle.go_tree.specs.File.{TypeSpec, Decl, values, types, func}
-use Rattle.go_tree.specs.ScopeNames.FreeNames.{free_type_option}
-use Rattle.go_tree.specs.GoTypes.Answers.{given}
+use Rattle.go_rules.specs.ScopeNames.FreeNames.{free_type_option}
+use Rattle.go_rules.specs.GoTypes.Answers.{given}
 use Rattle.printed_constants.proofs.TypedParts.MarkedRuns.KeptMarks.Shapes.{shape}
 use Rattle.run_rules.specs.Sites.{Inlinable, a_constant, an_alias, constant_in_spec, less, nth_constant, aliased, inlinable_in}
 use Rattle.constant_modules.specs.KeyedImports.Keyed.{all_used, specs_marked, decl_marked}

@@ -6,7 +6,7 @@ use Rattle.std.specs.Prelude.{slice_get}
 use Rattle.std.proofs.lemmas.Option.{same_Some}
 use Rattle.go_tree.specs.Tree.{NameAt, named, ident, int_lit, composite, no_exprs, expr_and, no_elems, elem, plain, some_value, var_decl, no_specs, spec}
 use Rattle.go_tree.specs.File.{Decl, values}
-use Rattle.go_tree.specs.GoTypes.Programs.{SourceFile}
+use Rattle.go_rules.specs.GoTypes.Programs.{SourceFile}
 use Rattle.order_runs.specs.ImportCodes.PackagesMoved.{imported_as}
 use Rattle.constant_modules.specs.KeyedImports.Keyed.{decl_marked, IsFree, FileKeyed}
 use Rattle.constant_modules.specs.NamesAndKeys.Marked.{Marked, used_name, key_name, Within, at_head, behind}

@@ -4,16 +4,16 @@ use Rattle.std.proofs.Common.{◌≡◌, refl, ◌∙◌, ◌⊎◌, inl, inr, �
 use Rattle.std.specs.Prelude.{slice_get}
 use Rattle.go_tree.specs.Tree.{TypeExpr, Exprs, no_exprs, const_decl, var_decl, empty, eval, step, assign, define, return_, break_, continue_, inner, if_, for_, range_, switch, defer, label, ValueSpecs, no_specs, spec}
 use Rattle.go_tree.specs.File.{TypeSpec, Receiver, Func, Decl, values, types, func}
-use Rattle.go_tree.specs.ScopeNames.FreeNames.{free_type, free_type_option, free_params}
-use Rattle.go_tree.specs.ScopeNames.Means.{Environment, means, is_blank, or_else}
-use Rattle.go_tree.specs.GoTypes.Agreement.{In, head, tail, On}
-use Rattle.go_tree.specs.GoTypes.Answers.{is_among}
-use Rattle.go_tree.specs.GoTypes.Bodies.{no_values}
-use Rattle.go_tree.specs.GoTypes.Collect.{DeclaredTypes}
-use Rattle.go_tree.specs.GoTypes.Entities.{Entity, World, block_of, universe}
-use Rattle.go_tree.specs.GoTypes.MethodDeclarations.{MethodName}
-use Rattle.go_tree.specs.GoTypes.Programs.{Header, constants, variables, a_type_spec, a_func, Headed, Import, SourceFile, file_env, at_member, constant_headers, variable_headers, headers, all_headers, header_names, header_sound, headed_file, file_block, import_sound, import_entity}
-use Rattle.go_tree.specs.GoTypes.WellTyped.{header_ok}
+use Rattle.go_rules.specs.ScopeNames.FreeNames.{free_type, free_type_option, free_params}
+use Rattle.go_rules.specs.ScopeNames.Means.{Environment, means, is_blank, or_else}
+use Rattle.go_rules.specs.GoTypes.Agreement.{In, head, tail, On}
+use Rattle.go_rules.specs.GoTypes.Answers.{is_among}
+use Rattle.go_rules.specs.GoTypes.Bodies.{no_values}
+use Rattle.go_rules.specs.GoTypes.Collect.{DeclaredTypes}
+use Rattle.go_rules.specs.GoTypes.Entities.{Entity, World, block_of, universe}
+use Rattle.go_rules.specs.GoTypes.MethodDeclarations.{MethodName}
+use Rattle.go_rules.specs.GoTypes.Programs.{Header, constants, variables, a_type_spec, a_func, Headed, Import, SourceFile, file_env, at_member, constant_headers, variable_headers, headers, all_headers, header_names, header_sound, headed_file, file_block, import_sound, import_entity}
+use Rattle.go_rules.specs.GoTypes.WellTyped.{header_ok}
 use Rattle.constant_steps.proofs.WrittenLiteral.NamesMeant.{means_join}
 use Rattle.order_runs.specs.CycleRuns.ImportCycles.LookedUp.{types_looked_up, receiver_looked_up, names_around}
 use Rattle.order_runs.specs.ImportCodes.PackagesMoved.{imported_as}

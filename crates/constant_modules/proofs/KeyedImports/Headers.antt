@@ -5,20 +5,20 @@ use mathlib.Core.Path.{ap, sym, subst}
 use Rattle.std.proofs.Common.{arith}
 use Rattle.go_tree.specs.Tree.{NameAt, TypeExpr, Expr, Exprs, no_exprs, expr_and}
 use Rattle.go_tree.specs.File.{TypeSpec, Receiver, Func}
-use Rattle.go_tree.specs.ScopeNames.Means.{Environment, is_blank}
-use Rattle.go_tree.specs.ScopeNames.FreeNames.{names_of, sig_names, free_type, free_type_option, free_params}
-use Rattle.go_tree.specs.GoTypes.Agreement.{Same, On, Agrees}
-use Rattle.go_tree.specs.GoTypes.Answers.{given, both, only_if, is_empty, without}
-use Rattle.go_tree.specs.GoTypes.Bodiless.{all_bodiless}
-use Rattle.go_tree.specs.GoTypes.Entities.{Entity, variable, World, Env, Binds}
-use Rattle.go_tree.specs.GoTypes.Operands.{all_typed}
-use Rattle.go_tree.specs.GoTypes.Programs.{Header, constants, variables, a_type_spec, a_func, Headed}
-use Rattle.go_tree.specs.GoTypes.Collect.{env_of, DeclaredTypes, good_entity, may_be_main, function_declared, declared_by}
-use Rattle.go_tree.specs.GoTypes.SingleNames.{has_value_each, each_alone, single_names, with_header}
-use Rattle.go_tree.specs.GoTypes.Statements.{bind_all, bind_each, body_binds, constant_entity, variable_entity, no_values}
-use Rattle.go_tree.specs.GoTypes.TypeNames.{func_type}
-use Rattle.go_tree.specs.GoTypes.Typing.{used_all}
-use Rattle.go_tree.specs.GoTypes.WellTyped.{body_ok, body_env, receiver_names, function_uses, header_uses}
+use Rattle.go_rules.specs.ScopeNames.Means.{Environment, is_blank}
+use Rattle.go_rules.specs.ScopeNames.FreeNames.{names_of, sig_names, free_type, free_type_option, free_params}
+use Rattle.go_rules.specs.GoTypes.Agreement.{Same, On, Agrees}
+use Rattle.go_rules.specs.GoTypes.Answers.{given, both, only_if, is_empty, without}
+use Rattle.go_rules.specs.GoTypes.Bodiless.{all_bodiless}
+use Rattle.go_rules.specs.GoTypes.Entities.{Entity, variable, World, Env, Binds}
+use Rattle.go_rules.specs.GoTypes.Operands.{all_typed}
+use Rattle.go_rules.specs.GoTypes.Programs.{Header, constants, variables, a_type_spec, a_func, Headed}
+use Rattle.go_rules.specs.GoTypes.Collect.{env_of, DeclaredTypes, good_entity, may_be_main, function_declared, declared_by}
+use Rattle.go_rules.specs.GoTypes.SingleNames.{has_value_each, each_alone, single_names, with_header}
+use Rattle.go_rules.specs.GoTypes.Statements.{bind_all, bind_each, body_binds, constant_entity, variable_entity, no_values}
+use Rattle.go_rules.specs.GoTypes.TypeNames.{func_type}
+use Rattle.go_rules.specs.GoTypes.Typing.{used_all}
+use Rattle.go_rules.specs.GoTypes.WellTyped.{body_ok, body_env, receiver_names, function_uses, header_uses}
 use Rattle.go_translation.proofs.SmallAlike.{written_type-alike}
 use Rattle.typed_in_place.specs.ImportsMoved.{under_imports, file_names, MovedReceiver, MovedIn, moved_type, moved_func, Moved}
 use Rattle.typed_in_place.specs.ProgramsAlike.{OneByOne, no_more, and_more, SameHeader, SameMethod, AliasesStand, TypesStand, NameStands, ValuesStand}
@@ -97,7 +97,7 @@ module _ {S : Type 0} (w : World) (is : Environment Entity) (h : Headed S) (blan
   -- ---- what a header declares
 
   func_go : (f : Func S) → func_type (env_of w h None) f.sig ≡ func_type (env_of w k None) f.sig → (q : Option (Receiver S)) → elim q as (λ q. Option Binds) [ None ↦ function_declared w h f | Some r ↦ Some [] ] ≡ elim q as (λ p. Option Binds) [ None ↦ function_declared w k f | Some r ↦ Some [] ]
-  func_go f e None = λ x. given (e x) (λ g. given (body_binds [] f.sig g) (λ bs. only_if (may_be_main h f g) (Some (Rattle.go_tree.specs.ScopeNames.Means.binding f.name.name (Rattle.go_tree.specs.GoTypes.Entities.function g)))))
+  func_go f e None = λ x. given (e x) (λ g. given (body_binds [] f.sig g) (λ bs. only_if (may_be_main h f g) (Some (Rattle.go_rules.specs.ScopeNames.Means.binding f.name.name (Rattle.go_rules.specs.GoTypes.Entities.function g)))))
   func_go f e (Some q) = refl
 
   declared_go : (p q : Option Entity) → p ≡ q → {x : Header S} → KeyedIn (env_of w h) m x → declared_in w h p x ≡ declared_in w k q x
@@ -107,7 +107,7 @@ module _ {S : Type 0} (w : World) (is : Environment Entity) (h : Headed S) (blan
       if no_values es
       then given t (λ t. Some (bind_each (variable t) (names_of ns)))
       else only_if (all_bodiless es && all_initial-keyed (env_of w h None) m [] (agrees None) es u x) (given (all_parts-alike (env_of w h None) es m [] (agrees None) u x) (λ os. given (all_typed os) (bind_all (variable_entity w.defined t) (names_of ns)))))
-  declared_go p q e (keyed_type {t = t} o) = λ x. given (e x) (λ e. Some (Rattle.go_tree.specs.ScopeNames.Means.binding t.name.name e))
+  declared_go p q e (keyed_type {t = t} o) = λ x. given (e x) (λ e. Some (Rattle.go_rules.specs.ScopeNames.Means.binding t.name.name e))
   declared_go p q e (keyed_func {f = f} r s t) = func_go f (func_type-moved (env_of w h None) m [] (agrees None) f.sig s t) f.receiver
 
   -- ---- methods

@@ -4,10 +4,10 @@ use Rattle.std.specs.Prelude.{◌≡◌, refl, ℕ, zero, suc, Bool, true, false
 use mathlib.Core.Path.{ap, sym, ◌∙◌}
 use Rattle.std.proofs.Common.{arith}
 use Rattle.std.proofs.lemmas.Bool.Decides.{nat_tests}
-use Rattle.go_tree.specs.ScopeNames.Means.{Environment, means}
-use Rattle.go_tree.specs.GoTypes.Answers.{is_among}
-use Rattle.go_tree.specs.GoTypes.Entities.{Entity, World, block_of}
-use Rattle.go_tree.specs.GoTypes.Programs.{Header, Headed, SourceFile, SourcePackage, Program, all_headers, header_names, names_in, block_names, headed_file, headed_files, headed_package, headed, file_block, is_main}
+use Rattle.go_rules.specs.ScopeNames.Means.{Environment, means}
+use Rattle.go_rules.specs.GoTypes.Answers.{is_among}
+use Rattle.go_rules.specs.GoTypes.Entities.{Entity, World, block_of}
+use Rattle.go_rules.specs.GoTypes.Programs.{Header, Headed, SourceFile, SourcePackage, Program, all_headers, header_names, names_in, block_names, headed_file, headed_files, headed_package, headed, file_block, is_main}
 use Rattle.typed_in_place.specs.Declared.{HasNumber}
 use Rattle.typed_in_place.specs.Declared as declared
 use Rattle.typed_in_place.proofs.NameRounds.FirstNames.{Lacks}

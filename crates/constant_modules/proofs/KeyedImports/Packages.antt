@@ -5,12 +5,12 @@ use Rattle.std.specs.List.{list_any}
 use mathlib.Core.Path.{ap, ap₂, sym, ◌∙◌, subst}
 use Rattle.std.proofs.Common.{◌⊎◌, inl, inr}
 use Rattle.go_tree.specs.File.{Decl}
-use Rattle.go_tree.specs.ScopeNames.Means.{means}
-use Rattle.go_tree.specs.GoTypes.Answers.{is_among}
-use Rattle.go_tree.specs.GoTypes.Entities.{World, block_of}
-use Rattle.go_tree.specs.GoTypes.Programs.{SourceFile, Program, all_headers, names_in, block_names, file_block, Headed, headed_file, headed_files, headed_package, headed}
-use Rattle.go_tree.specs.GoTypes.Collect.{DeclaredTypes, types_declared, aliased_world, typed_world, collected}
-use Rattle.go_tree.specs.GoTypes.WellTyped.{body_ok, header_uses, is_used_in}
+use Rattle.go_rules.specs.ScopeNames.Means.{means}
+use Rattle.go_rules.specs.GoTypes.Answers.{is_among}
+use Rattle.go_rules.specs.GoTypes.Entities.{World, block_of}
+use Rattle.go_rules.specs.GoTypes.Programs.{SourceFile, Program, all_headers, names_in, block_names, file_block, Headed, headed_file, headed_files, headed_package, headed}
+use Rattle.go_rules.specs.GoTypes.Collect.{DeclaredTypes, types_declared, aliased_world, typed_world, collected}
+use Rattle.go_rules.specs.GoTypes.WellTyped.{body_ok, header_uses, is_used_in}
 use Rattle.typed_in_place.specs.Aliases.{after_types, after_names, after_values, at_last}
 use Rattle.typed_in_place.specs.ProgramsAlike.{OneByOne, no_more, and_more, AliasesStand, TypesStand, ValuesStand, DeclareAlike}
 use Rattle.typed_in_place.specs.ImportRule.{SamePackage, declarations_ok}

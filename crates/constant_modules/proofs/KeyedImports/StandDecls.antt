@@ -3,8 +3,8 @@
 use Rattle.std.proofs.Common.{◌≡◌, refl, sym, subst, inl, inr, ℕ, suc, List, [], ◌∷◌, ◌++◌, Option, Some, None}
 use Rattle.go_tree.specs.Tree.{Param, TypeExpr, named, const_decl, var_decl, empty, eval, step, assign, define, return_, break_, continue_, inner, if_, for_, range_, switch, defer, label, ValueSpecs, no_specs, spec}
 use Rattle.go_tree.specs.File.{TypeSpec, Receiver, Func, Decl, values, types, func, File}
-use Rattle.go_tree.specs.ScopeNames.FreeNames.{free_type, free_type_option, free_params}
-use Rattle.go_tree.specs.GoTypes.Agreement.{In, head, tail}
+use Rattle.go_rules.specs.ScopeNames.FreeNames.{free_type, free_type_option, free_params}
+use Rattle.go_rules.specs.GoTypes.Agreement.{In, head, tail}
 use Rattle.pkg_graph.specs.Package.{Package}
 use Rattle.constant_steps.specs.FormImports.Literals.{EachSeen, FieldsNamed}
 use Rattle.constant_steps.proofs.FormImports.ImportLaws.GraphImports.{map_append}

@@ -5,9 +5,9 @@ use Rattle.go_tree.specs.Bare.{bare_name, bare_stmts, bare_value_specs}
 use Rattle.go_tree.specs.FileBare.{bare_type_spec, bare_receiver, bare_func, bare_decl}
 use Rattle.go_tree.specs.Tree.{NameAt, const_decl, var_decl, empty, eval, step, assign, define, return_, break_, continue_, inner, if_, for_, range_, switch, defer, label, ValueSpecs, no_specs, spec}
 use Rattle.go_tree.specs.File.{TypeSpec, Receiver, Func, Decl, values, types, func}
-use Rattle.go_tree.specs.ScopeNames.FreeNames.{name_then, free_stmts}
-use Rattle.go_tree.specs.GoTypes.WellTyped.{receiver_names}
-use Rattle.go_tree.proofs.ScopeNames.FreeNamesBare.{sig_names-bare, free_type-bare, free_type_option-bare, free_params-bare, free_exprs-bare, free_stmts-bare}
+use Rattle.go_rules.specs.ScopeNames.FreeNames.{name_then, free_stmts}
+use Rattle.go_rules.specs.GoTypes.WellTyped.{receiver_names}
+use Rattle.go_rules.proofs.ScopeNames.FreeNamesBare.{sig_names-bare, free_type-bare, free_type_option-bare, free_params-bare, free_exprs-bare, free_stmts-bare}
 use Rattle.order_runs.specs.CycleRuns.ImportCycles.LookedUp.{specs_looked_up, types_looked_up, receiver_looked_up, names_around, decl_looked_up}
 use Rattle.order_runs.proofs.CycleLaws.BareWith as spans
 use Rattle.run_rules.specs.Respanned.{decl_with}

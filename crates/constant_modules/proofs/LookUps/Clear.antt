@@ -3,14 +3,14 @@
 use Rattle.std.proofs.Common.{◌≡◌, ◌∙◌, refl, sym, ap, ℕ, Bool, true, false, not, ◌||◌, if◌then◌else◌, bytes_eq, List, [], ◌∷◌, ◌++◌, Option, Some, None}
 use Rattle.go_tree.specs.Tree.{NameAt, Param, Sig, Expr, Stmt, const_decl, var_decl, empty, eval, step, assign, define, return_, break_, continue_, inner, if_, for_, range_, switch, defer, label, StmtOption, no_stmt, some_stmt, RangeLeft, nothing, assigns, defines, Arms, no_arms, arm, ValueSpecs, no_specs, spec}
 use Rattle.go_tree.specs.File.{Receiver, Func}
-use Rattle.go_tree.specs.ScopeNames.FreeNames.{names_of, name_then, params_names, specs_names, declared, declared_option, arms_declared, defined, sig_names}
-use Rattle.go_tree.specs.ScopeNames.Means.{is_blank}
-use Rattle.go_tree.specs.ScopeNames.Scopes as scopes
-use Rattle.go_tree.specs.ScopeNames.Scopes.{not_blank, specs_declare, with_name, param_names, sig_declares}
-use Rattle.go_tree.specs.GoTypes.Answers.{is_among}
-use Rattle.go_tree.specs.GoTypes.Types.{FuncType}
-use Rattle.go_tree.specs.GoTypes.TypeNames.{func_type}
-use Rattle.go_tree.specs.GoTypes.WellTyped.{receiver_names}
+use Rattle.go_rules.specs.ScopeNames.FreeNames.{names_of, name_then, params_names, specs_names, declared, declared_option, arms_declared, defined, sig_names}
+use Rattle.go_rules.specs.ScopeNames.Means.{is_blank}
+use Rattle.go_rules.specs.ScopeNames.Scopes as scopes
+use Rattle.go_rules.specs.ScopeNames.Scopes.{not_blank, specs_declare, with_name, param_names, sig_declares}
+use Rattle.go_rules.specs.GoTypes.Answers.{is_among}
+use Rattle.go_rules.specs.GoTypes.Types.{FuncType}
+use Rattle.go_rules.specs.GoTypes.TypeNames.{func_type}
+use Rattle.go_rules.specs.GoTypes.WellTyped.{receiver_names}
 use Rattle.pkg_graph.specs.Package.{Package}
 use Rattle.form_meaning.proofs.FormInPlace.Uses.{among_append}
 use Rattle.run_rules.specs.Surroundings.{Slot, Place, callee_place, after_first, block, in_literal, first_declares, left_declares}

@@ -2,8 +2,8 @@
 use Rattle.std.proofs.Common.{refl, ◌⊎◌, inl, inr, ℕ, suc, List, [], ◌∷◌, ◌++◌, Option, Some, None}
 use Rattle.go_tree.specs.Tree.{named, const_decl, var_decl, empty, eval, step, assign, define, return_, break_, continue_, inner, if_, for_, range_, switch, defer, label, ValueSpecs, no_specs, spec}
 use Rattle.go_tree.specs.File.{TypeSpec, Receiver, Func, Decl, values, types, func, File}
-use Rattle.go_tree.specs.ScopeNames.FreeNames.{free_type, free_type_option, free_params, free_exprs, free_stmts}
-use Rattle.go_tree.specs.GoTypes.Agreement.{In}
+use Rattle.go_rules.specs.ScopeNames.FreeNames.{free_type, free_type_option, free_params, free_exprs, free_stmts}
+use Rattle.go_rules.specs.GoTypes.Agreement.{In}
 use Rattle.pkg_graph.specs.Package.{Package}
 use Rattle.order_runs.specs.CycleRuns.ImportCycles.LookedUp.{specs_looked_up, types_looked_up, receiver_looked_up, names_around, decl_looked_up}
 use Rattle.order_runs.proofs.CycleRuns.ImportCycles.FreeIdentifiers.{in-left, in-right, in-either}

@@ -2,19 +2,19 @@
 use Rattle.std.proofs.Common.{◌≡◌, ◌∙◌, refl, sym, ap, ◌⊎◌, inl, inr, ℕ, suc, Bool, true, false, if◌then◌else◌, bytes_eq, List, [], ◌∷◌, ◌++◌, map, Option, Some, None}
 use Rattle.go_tree.specs.Tree.{NameAt, Param, TypeExpr, Exprs, no_exprs, const_decl, var_decl, empty, eval, step, assign, define, return_, break_, continue_, inner, if_, for_, range_, switch, defer, label, ValueSpecs, no_specs, spec}
 use Rattle.go_tree.specs.File.{TypeSpec, Receiver, Func, Decl, values, types, func}
-use Rattle.go_tree.specs.ScopeNames.FreeNames.{names_of, name_then, params_names, sig_names, free_type, free_type_option, free_params, free_exprs, free_stmts}
-use Rattle.go_tree.specs.ScopeNames.Means.{Environment, is_blank, binding}
-use Rattle.go_tree.specs.GoTypes.Agreement.{In}
-use Rattle.go_tree.specs.GoTypes.Answers.{given, otherwise, only_if, is_among, without, distinct_by}
-use Rattle.go_tree.specs.GoTypes.Types.{GoType, FuncType, named_type, pointer_to}
-use Rattle.go_tree.specs.GoTypes.Entities.{Entity, variable, World, Binds, in_block}
-use Rattle.go_tree.specs.GoTypes.TypeNames.{func_type}
-use Rattle.go_tree.specs.GoTypes.Bodies.{no_values}
-use Rattle.go_tree.specs.GoTypes.Statements.{bound_names, param_binding, param_binds, body_binds}
-use Rattle.go_tree.specs.GoTypes.MethodDeclarations.{receiver_type, receiver_binds}
-use Rattle.go_tree.specs.GoTypes.Programs.{Header, constants, variables, a_type_spec, a_func, Headed, at_member, constant_headers, variable_headers, headers, all_headers, env_of}
-use Rattle.go_tree.specs.GoTypes.Typing.{used_all, used_stmts}
-use Rattle.go_tree.specs.GoTypes.WellTyped.{receiver_of, body_env, receiver_names, function_uses, header_uses}
+use Rattle.go_rules.specs.ScopeNames.FreeNames.{names_of, name_then, params_names, sig_names, free_type, free_type_option, free_params, free_exprs, free_stmts}
+use Rattle.go_rules.specs.ScopeNames.Means.{Environment, is_blank, binding}
+use Rattle.go_rules.specs.GoTypes.Agreement.{In}
+use Rattle.go_rules.specs.GoTypes.Answers.{given, otherwise, only_if, is_among, without, distinct_by}
+use Rattle.go_rules.specs.GoTypes.Types.{GoType, FuncType, named_type, pointer_to}
+use Rattle.go_rules.specs.GoTypes.Entities.{Entity, variable, World, Binds, in_block}
+use Rattle.go_rules.specs.GoTypes.TypeNames.{func_type}
+use Rattle.go_rules.specs.GoTypes.Bodies.{no_values}
+use Rattle.go_rules.specs.GoTypes.Statements.{bound_names, param_binding, param_binds, body_binds}
+use Rattle.go_rules.specs.GoTypes.MethodDeclarations.{receiver_type, receiver_binds}
+use Rattle.go_rules.specs.GoTypes.Programs.{Header, constants, variables, a_type_spec, a_func, Headed, at_member, constant_headers, variable_headers, headers, all_headers, env_of}
+use Rattle.go_rules.specs.GoTypes.Typing.{used_all, used_stmts}
+use Rattle.go_rules.specs.GoTypes.WellTyped.{receiver_of, body_env, receiver_names, function_uses, header_uses}
 use Rattle.form_meaning.proofs.FormInPlace.Uses.{among_append}
 use Rattle.constant_steps.proofs.FormImports.Kept.{neither, both_false}
 use Rattle.constant_steps.proofs.FormImports.ImportLaws.GraphImports.{map_append}

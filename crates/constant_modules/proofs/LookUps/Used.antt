@@ -2,16 +2,16 @@
 use Rattle.std.proofs.Common.{◌≡◌, ◌∙◌, refl, sym, ap, ◌⊎◌, inl, inr, ℕ, Bool, true, false, not, ◌&&◌, ◌||◌, if◌then◌else◌, bytes_eq, List, [], ◌∷◌, ◌++◌, Option, Some, None}
 use Rattle.std.proofs.lemmas.Slice.Eq.{bytes_eq-Decides}
 use Rattle.go_tree.specs.Tree.{NameAt, Param, Sig, TypeExpr, named, pointer, slice_type, map_type, struct_type, Fields, no_fields, field, Expr, ident, int_lit, rune_lit, str_lit, composite, selector, index, slice, call, func_lit, type_operand, unary, binary, star, Exprs, no_exprs, expr_and, Stmt, const_decl, var_decl, empty, eval, step, assign, define, return_, break_, continue_, inner, if_, for_, range_, switch, defer, label, StmtOption, no_stmt, some_stmt, RangeLeft, nothing, assigns, defines, ValueSpecs, no_specs, spec}
-use Rattle.go_tree.specs.ScopeNames.FreeNames.{unless_declared, names_of, specs_names, declared, declared_option, defined, sig_names, named_use, free_type, free_fields, free_type_option, free_params}
-use Rattle.go_tree.specs.ScopeNames.Means.{is_blank}
-use Rattle.go_tree.specs.ScopeNames.Scopes as scopes
-use Rattle.go_tree.specs.ScopeNames.Scopes.{not_blank, specs_declare, sig_declares}
-use Rattle.go_tree.specs.GoTypes.Agreement.{In}
-use Rattle.go_tree.specs.GoTypes.Answers.{is_among, without}
-use Rattle.go_tree.specs.GoTypes.Entities.{refused, Env, Binds, extend, in_block}
-use Rattle.go_tree.specs.GoTypes.Bodies.{literal_env}
-use Rattle.go_tree.specs.GoTypes.Statements.{bound_names, bind_each}
-use Rattle.go_tree.specs.GoTypes.Typing.{beyond, used, used_all, used_left}
+use Rattle.go_rules.specs.ScopeNames.FreeNames.{unless_declared, names_of, specs_names, declared, declared_option, defined, sig_names, named_use, free_type, free_fields, free_type_option, free_params}
+use Rattle.go_rules.specs.ScopeNames.Means.{is_blank}
+use Rattle.go_rules.specs.ScopeNames.Scopes as scopes
+use Rattle.go_rules.specs.ScopeNames.Scopes.{not_blank, specs_declare, sig_declares}
+use Rattle.go_rules.specs.GoTypes.Agreement.{In}
+use Rattle.go_rules.specs.GoTypes.Answers.{is_among, without}
+use Rattle.go_rules.specs.GoTypes.Entities.{refused, Env, Binds, extend, in_block}
+use Rattle.go_rules.specs.GoTypes.Bodies.{literal_env}
+use Rattle.go_rules.specs.GoTypes.Statements.{bound_names, bind_each}
+use Rattle.go_rules.specs.GoTypes.Typing.{beyond, used, used_all, used_left}
 use Rattle.form_meaning.specs.FormInPlace.Bound.{stmt_binds, first_binds, range_left_binds, literal_binds, variable_binds}
 use Rattle.form_meaning.proofs.FormInPlace.Uses.{among_append, among_left, among_without}
 use Rattle.constant_steps.specs.WrittenLiteral.Within.{Grows}

@@ -1,19 +1,19 @@
 -- Each name that typing counts as used in an expression or a statement is a free name of it: one line a clause.
 use Rattle.std.proofs.Common.{◌≡◌, ◌∙◌, ap, ◌⊎◌, inl, inr, ℕ, Bool, true, false, if◌then◌else◌, List, [], ◌++◌, Option, Some, None}
 use Rattle.go_tree.specs.Tree.{NameAt, Expr, ident, int_lit, rune_lit, str_lit, composite, selector, index, slice, call, func_lit, type_operand, unary, binary, star, Exprs, no_exprs, expr_and, ExprOption, no_expr, some_expr, Elems, no_elems, elem, Value, plain, braced, ValueOption, no_value, some_value, Stmt, const_decl, var_decl, empty, eval, step, assign, define, return_, break_, continue_, inner, if_, for_, range_, switch, defer, label, Stmts, no_stmts, stmt_and, StmtOption, no_stmt, some_stmt, BlockOption, no_block, some_block, RangeLeft, nothing, assigns, defines, Arms, no_arms, arm, Cases, no_cases, case, ValueSpecs, no_specs, spec}
-use Rattle.go_tree.specs.ScopeNames.FreeNames.{names_of, declared, declared_option, arms_declared, defined, sig_names, free_expr, free_exprs, free_expr_option, free_elems, free_value, free_value_option, free_stmt, free_stmts, free_stmt_option, free_block_option, free_left, free_arms, free_cases, free_specs}
-use Rattle.go_tree.specs.ScopeNames.Means.{is_blank}
-use Rattle.go_tree.specs.ScopeNames.Scopes.{not_blank, sig_declares}
-use Rattle.go_tree.specs.GoTypes.Agreement.{In}
-use Rattle.go_tree.specs.GoTypes.Answers.{given, meets, is_among}
-use Rattle.go_tree.specs.GoTypes.Types.{GoType}
-use Rattle.go_tree.specs.GoTypes.Defined.{under}
-use Rattle.go_tree.specs.GoTypes.Entities.{refused, Env, Binds, defined_in, extend, in_block}
-use Rattle.go_tree.specs.GoTypes.TypeNames.{type_meant}
-use Rattle.go_tree.specs.GoTypes.Literals.{is_struct, literal_type, inner_type, key_type}
-use Rattle.go_tree.specs.GoTypes.Bodies.{literal_env}
-use Rattle.go_tree.specs.GoTypes.Statements.{bound_names, bind_each}
-use Rattle.go_tree.specs.GoTypes.Typing.{beyond, used, used_all, used_option, used_elems, used_key, used_value, used_stmt, used_stmts, used_first, used_block, used_range, used_arms, used_cases, used_constants, used_variables}
+use Rattle.go_rules.specs.ScopeNames.FreeNames.{names_of, declared, declared_option, arms_declared, defined, sig_names, free_expr, free_exprs, free_expr_option, free_elems, free_value, free_value_option, free_stmt, free_stmts, free_stmt_option, free_block_option, free_left, free_arms, free_cases, free_specs}
+use Rattle.go_rules.specs.ScopeNames.Means.{is_blank}
+use Rattle.go_rules.specs.ScopeNames.Scopes.{not_blank, sig_declares}
+use Rattle.go_rules.specs.GoTypes.Agreement.{In}
+use Rattle.go_rules.specs.GoTypes.Answers.{given, meets, is_among}
+use Rattle.go_rules.specs.GoTypes.Types.{GoType}
+use Rattle.go_rules.specs.GoTypes.Defined.{under}
+use Rattle.go_rules.specs.GoTypes.Entities.{refused, Env, Binds, defined_in, extend, in_block}
+use Rattle.go_rules.specs.GoTypes.TypeNames.{type_meant}
+use Rattle.go_rules.specs.GoTypes.Literals.{is_struct, literal_type, inner_type, key_type}
+use Rattle.go_rules.specs.GoTypes.Bodies.{literal_env}
+use Rattle.go_rules.specs.GoTypes.Statements.{bound_names, bind_each}
+use Rattle.go_rules.specs.GoTypes.Typing.{beyond, used, used_all, used_option, used_elems, used_key, used_value, used_stmt, used_stmts, used_first, used_block, used_range, used_arms, used_cases, used_constants, used_variables}
 use Rattle.form_meaning.specs.FormInPlace.Bound.{stmt_binds, first_binds, range_left_binds, variable_binds}
 use Rattle.order_runs.proofs.CycleRuns.ImportCycles.FreeIdentifiers.{in-left, in-right, in-either}
 use Rattle.run_rules.specs.Surroundings.{first_declares, left_declares}

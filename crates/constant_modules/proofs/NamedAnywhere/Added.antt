@@ -4,7 +4,7 @@ use Rattle.std.proofs.Common.{◌≡◌, refl, sym, ◌∙◌, ℕ, true, ◌&&�
 use Rattle.std.specs.List.{list_any}
 use Rattle.go_tree.specs.declared.spans.Span.{Span}
 use Rattle.go_tree.specs.File.{File}
-use Rattle.go_tree.specs.GoTypes.WellTyped.{well_typed}
+use Rattle.go_rules.specs.GoTypes.WellTyped.{well_typed}
 use Rattle.pkg_graph.specs.Package as run
 use Rattle.pkg_graph.specs.Package.{SourceTree, import_specs}
 use Rattle.typed_in_place.proofs.ProgramsReplaced.{each_one}

@@ -5,12 +5,12 @@ use Rattle.std.specs.List.{list_any}
 use mathlib.Core.Path.{ap, sym, ◌∙◌, subst}
 use Rattle.std.proofs.Common.{arith}
 use Rattle.go_tree.specs.Tree.{NameAt, Expr, ident, selector}
-use Rattle.go_tree.specs.ScopeNames.Means.{means}
+use Rattle.go_rules.specs.ScopeNames.Means.{means}
 use Rattle.pkg_graph.specs.Package.{Package}
 use Rattle.pkg_graph.specs.Members.{package_block}
-use Rattle.go_tree.specs.GoTypes.Answers.{given, otherwise, one_of, is_empty}
-use Rattle.go_tree.specs.GoTypes.Entities.{is_exported}
-use Rattle.go_tree.proofs.GoTypes.Agreeing.{from_given}
+use Rattle.go_rules.specs.GoTypes.Answers.{given, otherwise, one_of, is_empty}
+use Rattle.go_rules.specs.GoTypes.Entities.{is_exported}
+use Rattle.go_rules.proofs.GoTypes.Agreeing.{from_given}
 use Rattle.run_rules.specs.Surroundings.{Place, Seen, other}
 use Rattle.run_rules.specs.Places.{expr_seen}
 use Rattle.run_rules.specs.Sites.{MarkRef, Site, part_span, mark_of, outer_meaning, qualifier, member_of, name_mark, qualified_mark, members_in}

@@ -2,11 +2,11 @@
 -- in a circle.
 use Rattle.std.specs.Prelude.{◌≡◌, true, List, if◌then◌else◌, is_some}
 use mathlib.Core.Path.{sym, ◌∙◌}
-use Rattle.go_tree.specs.GoTypes.Entities.{World}
-use Rattle.go_tree.specs.GoTypes.Programs.{Headed, Program, headed}
-use Rattle.go_tree.specs.GoTypes.TypeDeclarations.{DeclaredTypes}
-use Rattle.go_tree.specs.GoTypes.Collect.{declared_by, types_declared, collected}
-use Rattle.go_tree.specs.GoTypes.WellTyped.{method_ok}
+use Rattle.go_rules.specs.GoTypes.Entities.{World}
+use Rattle.go_rules.specs.GoTypes.Programs.{Headed, Program, headed}
+use Rattle.go_rules.specs.GoTypes.TypeDeclarations.{DeclaredTypes}
+use Rattle.go_rules.specs.GoTypes.Collect.{declared_by, types_declared, collected}
+use Rattle.go_rules.specs.GoTypes.WellTyped.{method_ok}
 use Rattle.typed_in_place.specs.ProgramReplaced.{All, all_of_none, all_and}
 use Rattle.constant_steps.specs.StepLaws.PartsTyped.{HeaderTyped}
 use Rattle.imported_typing.specs.Reach.{AllOf}

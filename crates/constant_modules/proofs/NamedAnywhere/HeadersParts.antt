@@ -3,8 +3,8 @@
 use Rattle.std.specs.Prelude.{◌≡◌, ℕ, List, Some, slice_get}
 use Rattle.go_tree.specs.File.{Func, Decl, func}
 use Rattle.pkg_graph.specs.Package.{Package}
-use Rattle.go_tree.specs.GoTypes.Programs.{headed, block_names, is_main}
-use Rattle.go_tree.specs.GoTypes.Collect.{DeclaredTypes, types_declared}
+use Rattle.go_rules.specs.GoTypes.Programs.{headed, block_names, is_main}
+use Rattle.go_rules.specs.GoTypes.Collect.{DeclaredTypes, types_declared}
 use Rattle.typed_in_place.specs.ProgramReplaced.{All}
 use Rattle.run_rules.specs.Programs.{linked_file, linked, world, imports_mean, headed_func, decl_seen}
 use Rattle.run_rules.specs.Sites.{Where}

@@ -4,11 +4,11 @@ use Rattle.std.specs.Prelude.{◌≡◌, refl, ℕ, Bool, true, false, List, map
 use mathlib.Core.Path.{ap, sym, ◌∙◌}
 use Rattle.go_tree.specs.Tree.{const_decl, ValueSpecs}
 use Rattle.go_tree.specs.File.{Decl, values, File}
-use Rattle.go_tree.specs.ScopeNames.Means.{means}
+use Rattle.go_rules.specs.ScopeNames.Means.{means}
 use Rattle.pkg_graph.specs.Package.{Package}
 use Rattle.pkg_graph.specs.Members.{member}
-use Rattle.go_tree.specs.GoTypes.Entities.{World, block_of}
-use Rattle.go_tree.specs.GoTypes.Programs.{SourceFile, SourcePackage, Program}
+use Rattle.go_rules.specs.GoTypes.Entities.{World, block_of}
+use Rattle.go_rules.specs.GoTypes.Programs.{SourceFile, SourcePackage, Program}
 use Rattle.typed_in_place.specs.Declared.{ConstantOrRefused}
 use Rattle.typed_in_place.specs.ProgramReplaced.{ValuesEnd}
 use Rattle.run_rules.specs.Programs.{top_place, linked_file}

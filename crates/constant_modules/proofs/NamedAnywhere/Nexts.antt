@@ -12,7 +12,7 @@ use Rattle.pkg_graph.specs.Package.{SourceTree, import_specs}
 use Rattle.typed_in_place.specs.ProgramsAlike.{OneByOne, no_more, and_more}
 use Rattle.typed_in_place.proofs.ProgramsReplaced.{each_one, one_by_one}
 use Rattle.go_translation.specs.Packages.{Package, sources, are_distinct}
-use Rattle.go_tree.specs.GoTypes.Programs.{block_names}
+use Rattle.go_rules.specs.GoTypes.Programs.{block_names}
 use Rattle.run_rules.specs.Programs.{in_dependency_order, dependency_order, numbered, numbers_of, linked, linked_file}
 use Rattle.run_rules.specs.Respanned.{decls_with}
 use Rattle.run_rules.specs.Sites.{MarkRef, Where, Site, part_span, where_is}

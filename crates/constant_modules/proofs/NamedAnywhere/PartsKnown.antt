@@ -5,13 +5,13 @@ use Rattle.std.specs.List.{list_all}
 use Rattle.std.proofs.Common.{arith}
 use Rattle.go_tree.specs.Tree.{TypeExpr, Sig, Expr, no_exprs}
 use Rattle.go_tree.specs.File.{Func, Decl, func, File}
-use Rattle.go_tree.specs.ScopeNames.Means.{means, binding}
+use Rattle.go_rules.specs.ScopeNames.Means.{means, binding}
 use Rattle.pkg_graph.specs.Package.{Package}
-use Rattle.go_tree.specs.GoTypes.Entities.{World, Env, block_of}
-use Rattle.go_tree.specs.GoTypes.TypeNames.{type_meant, func_type}
-use Rattle.go_tree.specs.GoTypes.Programs.{variables, Import, Headed, SourcePackage, Program, headed, block_names, file_block, import_entity, import_sound, file_env}
-use Rattle.go_tree.specs.GoTypes.Collect.{types_declared, collected}
-use Rattle.go_tree.specs.GoTypes.WellTyped.{well_typed}
+use Rattle.go_rules.specs.GoTypes.Entities.{World, Env, block_of}
+use Rattle.go_rules.specs.GoTypes.TypeNames.{type_meant, func_type}
+use Rattle.go_rules.specs.GoTypes.Programs.{variables, Import, Headed, SourcePackage, Program, headed, block_names, file_block, import_entity, import_sound, file_env}
+use Rattle.go_rules.specs.GoTypes.Collect.{types_declared, collected}
+use Rattle.go_rules.specs.GoTypes.WellTyped.{well_typed}
 use Rattle.run_rules.specs.Surroundings.{Seen}
 use Rattle.run_rules.specs.Programs.{linked_file, linked_imports, linked, world, top_env, headed_func, decl_seen}
 use Rattle.run_rules.specs.Sites.{MarkRef, Site, part_span}

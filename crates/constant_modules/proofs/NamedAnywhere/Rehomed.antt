@@ -4,16 +4,16 @@
 use Rattle.std.specs.Prelude.{◌≡◌, refl, ℕ, suc, Bool, true, false, not, ◌&&◌, ◌||◌, List, [], ◌∷◌, ◌++◌, length, Option, Some, None, if◌then◌else◌}
 use mathlib.Core.Path.{ap, sym, ◌∙◌, subst}
 use Rattle.go_tree.specs.Tree.{NameAt, Param, Elems, no_elems, elem, Value, plain, braced, ValueOption, no_value, some_value}
-use Rattle.go_tree.specs.ScopeNames.Means.{is_blank}
-use Rattle.go_tree.specs.GoTypes.Answers.{given, both, meets, only_if, is_among}
-use Rattle.go_tree.specs.GoTypes.Types.{GoType, pointer_to, slice_of, map_of, struct_of, GoFields, no_go_fields, go_field, field_names, base_of}
-use Rattle.go_tree.specs.GoTypes.Defined.{Defined, under, comparable_by, comparable_fields, comparable_within, has_keys, fields_have_keys}
-use Rattle.go_tree.specs.GoTypes.Entities.{variable, Env, Binds, defined_in}
-use Rattle.go_tree.specs.GoTypes.TypeNames.{field_package, field_before}
-use Rattle.go_tree.specs.GoTypes.Literals.{is_struct, key_type, inner_type, literal_type}
-use Rattle.go_tree.specs.GoTypes.Declarations.{bound_names}
-use Rattle.go_tree.specs.GoTypes.Bodies.{param_binding, param_binds}
-use Rattle.go_tree.proofs.GoTypes.Agreeing.{some_same}
+use Rattle.go_rules.specs.ScopeNames.Means.{is_blank}
+use Rattle.go_rules.specs.GoTypes.Answers.{given, both, meets, only_if, is_among}
+use Rattle.go_rules.specs.GoTypes.Types.{GoType, pointer_to, slice_of, map_of, struct_of, GoFields, no_go_fields, go_field, field_names, base_of}
+use Rattle.go_rules.specs.GoTypes.Defined.{Defined, under, comparable_by, comparable_fields, comparable_within, has_keys, fields_have_keys}
+use Rattle.go_rules.specs.GoTypes.Entities.{variable, Env, Binds, defined_in}
+use Rattle.go_rules.specs.GoTypes.TypeNames.{field_package, field_before}
+use Rattle.go_rules.specs.GoTypes.Literals.{is_struct, key_type, inner_type, literal_type}
+use Rattle.go_rules.specs.GoTypes.Declarations.{bound_names}
+use Rattle.go_rules.specs.GoTypes.Bodies.{param_binding, param_binds}
+use Rattle.go_rules.proofs.GoTypes.Agreeing.{some_same}
 use Rattle.run_rules.specs.Surroundings.{Use, into_type, elem_use, key_use}
 use Rattle.constant_steps.specs.StepLaws.Answered.{KeysAlike, KeyAlike, InnerAlike}
 use Rattle.constant_steps.specs.StepLaws.SwapUses.{BracesKnown, KeyKnown, ValueKnown}

@@ -2,8 +2,8 @@
 -- further packages, in whatever order they stand.
 use Rattle.std.proofs.Common.{◌≡◌, sym, subst, ◌∙◌, ℕ, true, List, ◌++◌}
 use Rattle.std.specs.List.{list_any}
-use Rattle.go_tree.specs.GoTypes.Programs.{Program, headed}
-use Rattle.go_tree.specs.GoTypes.Collect.{types_declared, collected}
+use Rattle.go_rules.specs.GoTypes.Programs.{Program, headed}
+use Rattle.go_rules.specs.GoTypes.Collect.{types_declared, collected}
 use Rattle.go_kernel.specs.Kernel.{FuncName}
 use Rattle.pkg_graph.specs.Package as run
 use Rattle.typed_in_place.specs.ProgramReplaced.{All}

@@ -3,13 +3,13 @@
 use Rattle.std.specs.Prelude.{◌≡◌, ℕ, Bool, true, List, [], ◌++◌, Some, None, slice_get}
 use mathlib.Core.Path.{ap, sym, ◌∙◌}
 use Rattle.go_tree.specs.File.{File}
-use Rattle.go_tree.specs.ScopeNames.Means.{Environment}
+use Rattle.go_rules.specs.ScopeNames.Means.{Environment}
 use Rattle.pkg_graph.specs.Package.{Package}
-use Rattle.go_tree.specs.GoTypes.Entities.{Entity, World, Env}
-use Rattle.go_tree.specs.GoTypes.Programs.{Headed, SourcePackage, Program, headed, file_block}
-use Rattle.go_tree.specs.GoTypes.SingleNames.{has_value_each}
-use Rattle.go_tree.specs.GoTypes.Collect.{file_env, named_world, valued_world, collected}
-use Rattle.go_tree.specs.GoTypes.WellTyped.{well_typed}
+use Rattle.go_rules.specs.GoTypes.Entities.{Entity, World, Env}
+use Rattle.go_rules.specs.GoTypes.Programs.{Headed, SourcePackage, Program, headed, file_block}
+use Rattle.go_rules.specs.GoTypes.SingleNames.{has_value_each}
+use Rattle.go_rules.specs.GoTypes.Collect.{file_env, named_world, valued_world, collected}
+use Rattle.go_rules.specs.GoTypes.WellTyped.{well_typed}
 use Rattle.typed_in_place.specs.Known.{BlocksClearer}
 use Rattle.typed_in_place.specs.ProgramReplaced.{ValuesEnd, after_names, after_values, at_last}
 use Rattle.typed_in_place.proofs.Blocks.{blocks_themselves}

@@ -3,7 +3,7 @@
 use Rattle.std.proofs.Common.{◌≡◌, sym, ◌∙◌, true, List, []}
 use Rattle.std.specs.Prelude.{ℕ}
 use Rattle.go_tree.specs.declared.spans.Span.{Span}
-use Rattle.go_tree.specs.GoTypes.WellTyped.{well_typed}
+use Rattle.go_rules.specs.GoTypes.WellTyped.{well_typed}
 use Rattle.go_kernel.specs.Kernel.{FuncName}
 use Rattle.pkg_graph.specs.Package as run
 use Rattle.go_translation.specs.Packages.{sources, are_well_typed}

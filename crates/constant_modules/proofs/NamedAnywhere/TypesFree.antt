@@ -5,14 +5,14 @@ use mathlib.Core.Path.{ap, ap₂, sym, ◌∙◌, subst}
 use Rattle.std.proofs.Common.{arith}
 use Rattle.std.specs.Prelude.{bytes_eq}
 use Rattle.go_tree.specs.Tree.{TypeExpr, named, pointer, slice_type, map_type, struct_type, Param, Sig, Fields, no_fields, field}
-use Rattle.go_tree.specs.GoTypes.Answers.{given, both, only_if, distinct_by}
-use Rattle.go_tree.specs.GoTypes.Types.{GoType, pointer_to, slice_of, map_of, FuncType, GoFields, struct_of}
-use Rattle.go_tree.specs.GoTypes.Defined.{has_keys}
-use Rattle.go_tree.specs.GoTypes.Entities.{World, Env, Binds, meaning, package_of, type_of_name, exported, defined_in}
-use Rattle.go_tree.specs.GoTypes.TypeNames.{resolved, type_meant, params_meant, func_type, resolved_fields, field_before}
-use Rattle.go_tree.specs.GoTypes.Declarations.{bound_names}
-use Rattle.go_tree.specs.GoTypes.Bodies.{param_binds, body_binds}
-use Rattle.go_tree.proofs.GoTypes.Agreeing.{from_given, from_both, some_same}
+use Rattle.go_rules.specs.GoTypes.Answers.{given, both, only_if, distinct_by}
+use Rattle.go_rules.specs.GoTypes.Types.{GoType, pointer_to, slice_of, map_of, FuncType, GoFields, struct_of}
+use Rattle.go_rules.specs.GoTypes.Defined.{has_keys}
+use Rattle.go_rules.specs.GoTypes.Entities.{World, Env, Binds, meaning, package_of, type_of_name, exported, defined_in}
+use Rattle.go_rules.specs.GoTypes.TypeNames.{resolved, type_meant, params_meant, func_type, resolved_fields, field_before}
+use Rattle.go_rules.specs.GoTypes.Declarations.{bound_names}
+use Rattle.go_rules.specs.GoTypes.Bodies.{param_binds, body_binds}
+use Rattle.go_rules.proofs.GoTypes.Agreeing.{from_given, from_both, some_same}
 use Rattle.run_rules.specs.Surroundings.{Place, is_local}
 use Rattle.literal_steps.specs.TypedParts.{is_value}
 use Rattle.constants_anywhere.proofs.LocalHolds.{type_there, package_there}

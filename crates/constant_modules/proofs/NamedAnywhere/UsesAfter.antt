@@ -4,15 +4,15 @@ use mathlib.Core.Path.{ap, sym, ◌∙◌, subst}
 use Rattle.std.proofs.Common.{arith}
 use Rattle.go_tree.specs.Tree.{NameAt, Expr, ident, selector}
 use Rattle.go_tree.specs.File.{File}
-use Rattle.go_tree.specs.ScopeNames.Means.{means, is_blank}
+use Rattle.go_rules.specs.ScopeNames.Means.{means, is_blank}
 use Rattle.pkg_graph.specs.Package.{Package, import_specs}
 use Rattle.pkg_graph.specs.Members.{Target, imported, import_name}
-use Rattle.go_tree.specs.GoTypes.Answers.{given, otherwise}
-use Rattle.go_tree.specs.GoTypes.Entities.{Entity, World, block_of}
-use Rattle.go_tree.specs.GoTypes.Programs.{Headed, SourcePackage, Program, headed, file_block}
-use Rattle.go_tree.specs.GoTypes.SingleNames.{has_value_each, by_names}
-use Rattle.go_tree.specs.GoTypes.Collect.{file_env, types_declared, named_world}
-use Rattle.go_tree.proofs.GoTypes.Agreeing.{from_given, some_same}
+use Rattle.go_rules.specs.GoTypes.Answers.{given, otherwise}
+use Rattle.go_rules.specs.GoTypes.Entities.{Entity, World, block_of}
+use Rattle.go_rules.specs.GoTypes.Programs.{Headed, SourcePackage, Program, headed, file_block}
+use Rattle.go_rules.specs.GoTypes.SingleNames.{has_value_each, by_names}
+use Rattle.go_rules.specs.GoTypes.Collect.{file_env, types_declared, named_world}
+use Rattle.go_rules.proofs.GoTypes.Agreeing.{from_given, some_same}
 use Rattle.typed_in_place.specs.Declared.{FirstWith, HasNumber}
 use Rattle.typed_in_place.specs.ProgramReplaced.{after_names}
 use Rattle.typed_in_place.proofs.Collected.{named_settled}

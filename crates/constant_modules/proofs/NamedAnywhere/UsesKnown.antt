@@ -1,13 +1,13 @@
 -- A use of a constant that is declared as a name, in each program that holds the packages: before the step.
 use Rattle.std.specs.Prelude.{◌≡◌, ℕ, Bool, true, false, List, [], ◌++◌, map, Option, Some, None}
 use mathlib.Core.Path.{ap, sym, ◌∙◌, subst}
-use Rattle.go_tree.specs.ScopeNames.Means.{means, is_blank}
+use Rattle.go_rules.specs.ScopeNames.Means.{means, is_blank}
 use Rattle.pkg_graph.specs.Package.{Package}
 use Rattle.pkg_graph.specs.Members.{member}
-use Rattle.go_tree.specs.GoTypes.Entities.{Entity, World, block_of}
-use Rattle.go_tree.specs.GoTypes.Programs.{Headed, Program, headed, file_block, block_names}
-use Rattle.go_tree.specs.GoTypes.Collect.{file_env, types_declared, valued_world, collected}
-use Rattle.go_tree.specs.GoTypes.WellTyped.{well_typed}
+use Rattle.go_rules.specs.GoTypes.Entities.{Entity, World, block_of}
+use Rattle.go_rules.specs.GoTypes.Programs.{Headed, Program, headed, file_block, block_names}
+use Rattle.go_rules.specs.GoTypes.Collect.{file_env, types_declared, valued_world, collected}
+use Rattle.go_rules.specs.GoTypes.WellTyped.{well_typed}
 use Rattle.typed_in_place.specs.Declared.{FirstWith, HasNumber, ConstantOrRefused}
 use Rattle.typed_in_place.specs.ImportRule.{imports_sound}
 use Rattle.typed_in_place.specs.ProgramReplaced.{ValuesEnd, after_values, All}

@@ -5,19 +5,19 @@ use Rattle.std.specs.Prelude.{is_none, slice_get}
 use Rattle.go_tree.specs.declared.spans.Span.{Span}
 use Rattle.go_tree.specs.Tree.{const_decl, var_decl, empty, eval, step, assign, define, return_, break_, continue_, inner, if_, for_, range_, switch, defer, label, ValueSpecs, no_specs, spec}
 use Rattle.go_tree.specs.File.{TypeSpec, Receiver, Func, Decl, values, types, func, File}
-use Rattle.go_tree.specs.ScopeNames.FreeNames.{names_of}
-use Rattle.go_tree.specs.ScopeNames.Identifiers.{name_option, sig_identifiers, type_option_identifiers, exprs_identifiers, stmts_identifiers, specs_identifiers, receiver_identifiers, decl_identifiers}
-use Rattle.go_tree.specs.ScopeNames.Means.{Environment, means, is_blank}
+use Rattle.go_rules.specs.ScopeNames.FreeNames.{names_of}
+use Rattle.go_rules.specs.ScopeNames.Identifiers.{name_option, sig_identifiers, type_option_identifiers, exprs_identifiers, stmts_identifiers, specs_identifiers, receiver_identifiers, decl_identifiers}
+use Rattle.go_rules.specs.ScopeNames.Means.{Environment, means, is_blank}
 use Rattle.pkg_graph.specs.Package.{SourceTree, Package}
-use Rattle.go_tree.specs.GoTypes.Agreement.{In, head}
-use Rattle.go_tree.specs.GoTypes.Answers.{given, otherwise, only_if}
-use Rattle.go_tree.specs.GoTypes.Types.{named_type, type_name_of, base_of}
-use Rattle.go_tree.specs.GoTypes.Entities.{Entity, Env, Binds, type_of_name, block_of, universe}
-use Rattle.go_tree.specs.GoTypes.Bodies.{body_binds}
-use Rattle.go_tree.specs.GoTypes.MethodDeclarations.{receiver_binds}
-use Rattle.go_tree.specs.GoTypes.Programs as typed
-use Rattle.go_tree.specs.GoTypes.TypeNames.{func_type}
-use Rattle.go_tree.specs.GoTypes.WellTyped.{receiver_of}
+use Rattle.go_rules.specs.GoTypes.Agreement.{In, head}
+use Rattle.go_rules.specs.GoTypes.Answers.{given, otherwise, only_if}
+use Rattle.go_rules.specs.GoTypes.Types.{named_type, type_name_of, base_of}
+use Rattle.go_rules.specs.GoTypes.Entities.{Entity, Env, Binds, type_of_name, block_of, universe}
+use Rattle.go_rules.specs.GoTypes.Bodies.{body_binds}
+use Rattle.go_rules.specs.GoTypes.MethodDeclarations.{receiver_binds}
+use Rattle.go_rules.specs.GoTypes.Programs as typed
+use Rattle.go_rules.specs.GoTypes.TypeNames.{func_type}
+use Rattle.go_rules.specs.GoTypes.WellTyped.{receiver_of}
 use Rattle.typed_in_place.specs.ProgramsAlike.{no_more, and_more}
 use Rattle.typed_in_place.specs.SameWorlds.SameWorlds.{SameWorld}
 use Rattle.typed_in_place.proofs.ProgramsReplaced.{append_one}

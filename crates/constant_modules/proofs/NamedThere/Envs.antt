@@ -3,21 +3,21 @@
 use Rattle.std.proofs.Common.{◌≡◌, refl, sym, ap, subst, ◌∙◌, ◌⊎◌, inl, inr, ℕ, Bool, true, false, List, [], ◌++◌, length, Option, Some, None, if◌then◌else◌}
 use Rattle.go_tree.specs.Tree.{Sig, TypeExpr, Expr, Exprs, ValueOption, no_value, some_value, Stmt, StmtOption, RangeLeft}
 use Rattle.go_tree.specs.Tree.{NameAt}
-use Rattle.go_tree.specs.ScopeNames.FreeNames.{names_of}
-use Rattle.go_tree.specs.ScopeNames.Identifiers.{type_identifiers, type_option_identifiers, params_identifiers, sig_identifiers, expr_identifiers, exprs_identifiers, stmt_identifiers, stmt_option_identifiers, left_identifiers}
-use Rattle.go_tree.specs.GoTypes.Answers.{given}
-use Rattle.go_tree.specs.GoTypes.Types.{GoType, GoFields, fields_of}
-use Rattle.go_tree.specs.GoTypes.Defined.{under}
-use Rattle.go_tree.specs.GoTypes.Entities.{World, Env, Binds, defined_in, extend, in_block}
-use Rattle.go_tree.specs.GoTypes.TypeNames.{type_meant, func_type, written_type}
-use Rattle.go_tree.specs.GoTypes.Literals.{literal_type}
-use Rattle.go_tree.specs.GoTypes.Statements.{right_values}
-use Rattle.go_tree.specs.GoTypes.Typing.{parts, all_parts, places, declares, declares_first, range_declares}
-use Rattle.go_tree.specs.GoTypes.Bodies.{no_values}
-use Rattle.go_tree.specs.GoTypes.Declarations.{Repeated, nothing_to_repeat, new_constants, new_variables}
-use Rattle.go_tree.specs.GoTypes.Agreement.{In, Same, On, Agrees, with_names}
-use Rattle.go_tree.proofs.GoTypes.Agreeing.{agrees_in_block}
-use Rattle.go_tree.proofs.GoTypes.TypingAlike.{parts-alike, all_parts-alike, places-alike, declares-alike, declares_first-alike, range_declares-alike}
+use Rattle.go_rules.specs.ScopeNames.FreeNames.{names_of}
+use Rattle.go_rules.specs.ScopeNames.Identifiers.{type_identifiers, type_option_identifiers, params_identifiers, sig_identifiers, expr_identifiers, exprs_identifiers, stmt_identifiers, stmt_option_identifiers, left_identifiers}
+use Rattle.go_rules.specs.GoTypes.Answers.{given}
+use Rattle.go_rules.specs.GoTypes.Types.{GoType, GoFields, fields_of}
+use Rattle.go_rules.specs.GoTypes.Defined.{under}
+use Rattle.go_rules.specs.GoTypes.Entities.{World, Env, Binds, defined_in, extend, in_block}
+use Rattle.go_rules.specs.GoTypes.TypeNames.{type_meant, func_type, written_type}
+use Rattle.go_rules.specs.GoTypes.Literals.{literal_type}
+use Rattle.go_rules.specs.GoTypes.Statements.{right_values}
+use Rattle.go_rules.specs.GoTypes.Typing.{parts, all_parts, places, declares, declares_first, range_declares}
+use Rattle.go_rules.specs.GoTypes.Bodies.{no_values}
+use Rattle.go_rules.specs.GoTypes.Declarations.{Repeated, nothing_to_repeat, new_constants, new_variables}
+use Rattle.go_rules.specs.GoTypes.Agreement.{In, Same, On, Agrees, with_names}
+use Rattle.go_rules.proofs.GoTypes.Agreeing.{agrees_in_block}
+use Rattle.go_rules.proofs.GoTypes.TypingAlike.{parts-alike, all_parts-alike, places-alike, declares-alike, declares_first-alike, range_declares-alike}
 use Rattle.typed_in_place.specs.SameWorlds.SameWorlds.{SameWorld, at}
 use Rattle.typed_in_place.proofs.ImportsMoved.{func_type-moved}
 use Rattle.typed_in_place.proofs.SameWorlds.DefinedSame.{under-same}

@@ -1,9 +1,9 @@
 -- An expression that the one walk lists, the other lists too, at a place that stands alike.
 use Rattle.std.proofs.Common.{ℕ, List, ◌∷◌}
 use Rattle.go_tree.specs.Tree.{Expr}
-use Rattle.go_tree.specs.ScopeNames.Identifiers.{expr_identifiers}
-use Rattle.go_tree.specs.GoTypes.Agreement.{In}
-use Rattle.go_tree.specs.GoTypes.Entities.{World}
+use Rattle.go_rules.specs.ScopeNames.Identifiers.{expr_identifiers}
+use Rattle.go_rules.specs.GoTypes.Agreement.{In}
+use Rattle.go_rules.specs.GoTypes.Entities.{World}
 use Rattle.typed_in_place.specs.ProgramsAlike.{no_more, and_more}
 use Rattle.typed_in_place.specs.SameWorlds.SameWorlds.{SameWorld}
 use Rattle.order_runs.proofs.RunSteps.SeatedUses.{Among, first, later}

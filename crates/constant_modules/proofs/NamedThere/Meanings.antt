@@ -6,14 +6,14 @@ use Rattle.std.proofs.lemmas.Option.{same_Some}
 use Rattle.go_tree.specs.declared.spans.Span.{Span}
 use Rattle.go_tree.specs.Tree.{Expr}
 use Rattle.go_tree.specs.File.{ImportSpec}
-use Rattle.go_tree.specs.ScopeNames.FreeNames.{names_of, free_expr}
-use Rattle.go_tree.specs.ScopeNames.Identifiers.{expr_identifiers, decl_identifiers}
-use Rattle.go_tree.specs.ScopeNames.Means.{means}
+use Rattle.go_rules.specs.ScopeNames.FreeNames.{names_of, free_expr}
+use Rattle.go_rules.specs.ScopeNames.Identifiers.{expr_identifiers, decl_identifiers}
+use Rattle.go_rules.specs.ScopeNames.Means.{means}
 use Rattle.pkg_graph.specs.Package.{Package, specs_in, import_specs}
 use Rattle.pkg_graph.specs.Members.{Target, imported, package_block}
-use Rattle.go_tree.specs.GoTypes.Agreement.{In, head}
-use Rattle.go_tree.specs.GoTypes.Answers.{given, is_among}
-use Rattle.go_tree.proofs.GoTypes.Agreeing.{from_given}
+use Rattle.go_rules.specs.GoTypes.Agreement.{In, head}
+use Rattle.go_rules.specs.GoTypes.Answers.{given, is_among}
+use Rattle.go_rules.proofs.GoTypes.Agreeing.{from_given}
 use Rattle.constant_steps.specs.FormImports.ImportLaws.Steps.{binders_in, binders_of}
 use Rattle.constant_steps.specs.FormImports.OwnNames.{AllOwn}
 use Rattle.constant_steps.specs.FormImports.Written.{NoneUnnamed}

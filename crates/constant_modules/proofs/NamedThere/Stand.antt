@@ -6,16 +6,16 @@ use Rattle.std.proofs.lemmas.Bool.Decides.{nat_tests}
 use Rattle.std.proofs.lemmas.Option.{same_Some}
 use Rattle.go_tree.specs.declared.spans.Span.{Span}
 use Rattle.go_tree.specs.Tree.{NameAt, Expr, ident, selector}
-use Rattle.go_tree.specs.ScopeNames.FreeNames.{free_expr}
-use Rattle.go_tree.specs.ScopeNames.Identifiers.{expr_identifiers}
-use Rattle.go_tree.specs.ScopeNames.Means as scopes
-use Rattle.go_tree.specs.ScopeNames.Means.{Environment, means, is_blank, numbered}
+use Rattle.go_rules.specs.ScopeNames.FreeNames.{free_expr}
+use Rattle.go_rules.specs.ScopeNames.Identifiers.{expr_identifiers}
+use Rattle.go_rules.specs.ScopeNames.Means as scopes
+use Rattle.go_rules.specs.ScopeNames.Means.{Environment, means, is_blank, numbered}
 use Rattle.pkg_graph.specs.Package.{Package, import_specs}
 use Rattle.pkg_graph.specs.Members.{Target, imported, predeclared, import_name, package_block}
-use Rattle.go_tree.specs.GoTypes.Agreement.{In, head}
-use Rattle.go_tree.specs.GoTypes.Answers.{given, one_of, otherwise, is_empty}
-use Rattle.go_tree.specs.GoTypes.Entities.{is_exported}
-use Rattle.go_tree.proofs.GoTypes.Agreeing.{from_given}
+use Rattle.go_rules.specs.GoTypes.Agreement.{In, head}
+use Rattle.go_rules.specs.GoTypes.Answers.{given, one_of, otherwise, is_empty}
+use Rattle.go_rules.specs.GoTypes.Entities.{is_exported}
+use Rattle.go_rules.proofs.GoTypes.Agreeing.{from_given}
 use Rattle.constant_steps.specs.FormImports.OwnNames.{AllOwn}
 use Rattle.constant_steps.specs.FormImports.Written.{NoneUnnamed}
 use Rattle.constant_steps.specs.QualifiedSteps.MemberNames.{NamesMember, own_member, imported_member}

@@ -2,7 +2,7 @@
 -- declarations; and so as named_anywhere asks of runs over marked constants.
 use Rattle.std.proofs.Common.{◌≡◌, true, List}
 use Rattle.go_tree.specs.Tree.{Expr}
-use Rattle.go_tree.specs.ScopeNames.Identifiers.{expr_identifiers}
+use Rattle.go_rules.specs.ScopeNames.Identifiers.{expr_identifiers}
 use Rattle.go_translation.specs.Packages.{are_well_typed}
 use Rattle.constant_steps.specs.FormImports.OwnNames.{AllOwn}
 use Rattle.constant_steps.specs.FormImports.Written.{NoneUnnamed}

@@ -4,9 +4,9 @@ use Rattle.std.specs.Prelude.{slice_get}
 use Rattle.std.proofs.lemmas.Option.{same_Some}
 use Rattle.go_tree.specs.Tree.{NameAt, Expr, Exprs, no_exprs, expr_and, const_decl, var_decl, empty, eval, step, assign, define, return_, break_, continue_, inner, if_, for_, range_, switch, defer, label, ValueSpecs, no_specs, spec}
 use Rattle.go_tree.specs.File.{Decl, values, types, func}
-use Rattle.go_tree.specs.ScopeNames.FreeNames.{names_of}
-use Rattle.go_tree.specs.ScopeNames.Identifiers.{type_option_identifiers, expr_identifiers, exprs_identifiers, specs_identifiers, decl_identifiers}
-use Rattle.go_tree.specs.GoTypes.Agreement.{In}
+use Rattle.go_rules.specs.ScopeNames.FreeNames.{names_of}
+use Rattle.go_rules.specs.ScopeNames.Identifiers.{type_option_identifiers, expr_identifiers, exprs_identifiers, specs_identifiers, decl_identifiers}
+use Rattle.go_rules.specs.GoTypes.Agreement.{In}
 use Rattle.run_rules.specs.Sites.{Inlinable, a_constant, constant_in_spec, less, nth_constant, inlinable_in}
 use Rattle.order_runs.proofs.CycleRuns.ImportCycles.FreeIdentifiers.{in-left, in-right}
 use Rattle.constant_modules.proofs.ConstantsOfGroups.TextsKept.{no_alias}

@@ -5,22 +5,22 @@ use mathlib.Core.Path.{ap, sym, ◌∙◌, subst}
 use Rattle.std.proofs.Common.{arith, ◌∷◌, ◌⊎◌, inl, inr, Bool, if◌then◌else◌}
 use Rattle.go_tree.specs.declared.spans.Span.{Span}
 use Rattle.go_tree.specs.File.{Receiver, Func as Function}
-use Rattle.go_tree.specs.ScopeNames.Means.{Environment, means}
+use Rattle.go_rules.specs.ScopeNames.Means.{Environment, means}
 use Rattle.go_tree.specs.Tree.{ident, eval, no_stmts, stmt_and}
-use Rattle.go_tree.specs.ScopeNames.FreeNames.{unless_declared, free_params}
-use Rattle.go_tree.specs.GoTypes.Answers.{given, meets, only_if, otherwise, is_among}
-use Rattle.go_tree.specs.GoTypes.Types.{FuncType, named_type, type_name_of, base_of}
-use Rattle.go_tree.specs.GoTypes.Defined.{under}
-use Rattle.go_tree.specs.GoTypes.Entities.{Entity, World, Env, type_of_name, Binds, extend, in_block}
-use Rattle.go_tree.specs.GoTypes.TypeNames.{func_type}
-use Rattle.go_tree.specs.GoTypes.Bodies.{is_body}
-use Rattle.go_tree.specs.GoTypes.Statements.{body_binds, body_ctx}
-use Rattle.go_tree.specs.GoTypes.Typing.{used_stmts, stmts}
-use Rattle.go_tree.specs.GoTypes.Programs.{Header, a_func, Headed}
-use Rattle.go_tree.specs.GoTypes.Collect.{env_of, receiver_type, receiver_binds}
-use Rattle.go_tree.specs.GoTypes.WellTyped.{receiver_of, body_env, function_ok}
-use Rattle.go_tree.specs.GoTypes.Agreement.{In, head, tail, Same, On, Agrees}
-use Rattle.go_tree.proofs.GoTypes.Agreeing.{agrees_after}
+use Rattle.go_rules.specs.ScopeNames.FreeNames.{unless_declared, free_params}
+use Rattle.go_rules.specs.GoTypes.Answers.{given, meets, only_if, otherwise, is_among}
+use Rattle.go_rules.specs.GoTypes.Types.{FuncType, named_type, type_name_of, base_of}
+use Rattle.go_rules.specs.GoTypes.Defined.{under}
+use Rattle.go_rules.specs.GoTypes.Entities.{Entity, World, Env, type_of_name, Binds, extend, in_block}
+use Rattle.go_rules.specs.GoTypes.TypeNames.{func_type}
+use Rattle.go_rules.specs.GoTypes.Bodies.{is_body}
+use Rattle.go_rules.specs.GoTypes.Statements.{body_binds, body_ctx}
+use Rattle.go_rules.specs.GoTypes.Typing.{used_stmts, stmts}
+use Rattle.go_rules.specs.GoTypes.Programs.{Header, a_func, Headed}
+use Rattle.go_rules.specs.GoTypes.Collect.{env_of, receiver_type, receiver_binds}
+use Rattle.go_rules.specs.GoTypes.WellTyped.{receiver_of, body_env, function_ok}
+use Rattle.go_rules.specs.GoTypes.Agreement.{In, head, tail, Same, On, Agrees}
+use Rattle.go_rules.proofs.GoTypes.Agreeing.{agrees_after}
 use Rattle.typed_in_place.specs.ImportsMoved.{under_imports, file_names, MovedReceiver, nothing_received, received, MovedIn, moved_func, Moved}
 use Rattle.typed_in_place.proofs.ImportsMoved.{func_type-moved}
 use Rattle.go_kernel.specs.Kernel.{ImportPath, FuncName, Func}

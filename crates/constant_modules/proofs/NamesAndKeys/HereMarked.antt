@@ -2,10 +2,10 @@
 use Rattle.std.specs.Prelude.{◌≡◌, ℕ, Bool, true, false, List, [], ◌∷◌, ◌++◌, if◌then◌else◌, bytes_eq, refl, Some}
 use mathlib.Core.Path.{ap}
 use Rattle.go_tree.specs.Tree.{Sig}
-use Rattle.go_tree.specs.ScopeNames.Means.{Environment, means}
-use Rattle.go_tree.specs.GoTypes.Answers.{is_among}
-use Rattle.go_tree.specs.GoTypes.Types.{FuncType}
-use Rattle.go_tree.specs.GoTypes.Entities.{Entity, Binds}
+use Rattle.go_rules.specs.ScopeNames.Means.{Environment, means}
+use Rattle.go_rules.specs.GoTypes.Answers.{is_among}
+use Rattle.go_rules.specs.GoTypes.Types.{FuncType}
+use Rattle.go_rules.specs.GoTypes.Entities.{Entity, Binds}
 use Rattle.go_translation.specs.Mentions.{Mention}
 use Rattle.go_translation.specs.Here.{Location, Here, declaring, located, at_body}
 use Rattle.go_translation.specs.Facts.{literal_names}

@@ -1,7 +1,7 @@
 -- In a program whose declarations are typed the name of an import is none of a type alone at a part.
 use Rattle.std.proofs.Common.{◌≡◌, sym, subst, ℕ, true, List, [], ◌∷◌}
-use Rattle.go_tree.specs.GoTypes.Agreement.{In}
-use Rattle.go_tree.specs.GoTypes.Entities.{Env}
+use Rattle.go_rules.specs.GoTypes.Agreement.{In}
+use Rattle.go_rules.specs.GoTypes.Entities.{Env}
 use Rattle.pkg_graph.specs.Package.{Package}
 use Rattle.constant_steps.proofs.PlainImports.{Distinct}
 use Rattle.order_runs.specs.CycleRuns.OrderCycles.Orders.{AllOrdered}

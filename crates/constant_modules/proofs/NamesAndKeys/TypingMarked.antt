@@ -3,37 +3,37 @@
 use Rattle.std.specs.Prelude.{◌≡◌, refl, ℕ, ◌+◌, Bool, true, false, not, ◌&&◌, List, [], ◌∷◌, ◌++◌, length, Option, Some, None, if◌then◌else◌, is_some, pos}
 use Rattle.std.specs.List.{list_all}
 use Rattle.go_tree.specs.Tree.{NameAt, Param, Sig, TypeExpr, Expr, ident, int_lit, rune_lit, str_lit, composite, selector, index, slice, call, func_lit, type_operand, unary, binary, star, Exprs, no_exprs, expr_and, ExprOption, no_expr, some_expr, Elems, no_elems, elem, Value, plain, braced, ValueOption, no_value, some_value, Stmt, const_decl, var_decl, empty, eval, step, assign, define, return_, break_, continue_, inner, if_, for_, range_, switch, defer, label, Stmts, no_stmts, stmt_and, StmtOption, no_stmt, some_stmt, BlockOption, no_block, some_block, RangeLeft, nothing, assigns, defines, Arms, no_arms, arm, Cases, no_cases, case, ValueSpecs, no_specs, spec}
-use Rattle.go_tree.specs.declared.const_eval.kinds.Kind.TheVariants as kind
-use Rattle.go_tree.specs.ConstEval.Exact.{number, text}
-use Rattle.go_tree.specs.ConstEval.Literals.{integer_value, literal_value}
+use Rattle.go_rules.specs.declared.const_eval.kinds.Kind.TheVariants as kind
+use Rattle.go_rules.specs.ConstEval.Exact.{number, text}
+use Rattle.go_rules.specs.ConstEval.Literals.{integer_value, literal_value}
 use Rattle.go_tree.specs.GoWords.Texts.{text_value}
-use Rattle.go_tree.specs.GoTypes.Answers.{given, both, meets, only_if, without}
-use Rattle.go_tree.specs.GoTypes.Types.{GoType}
-use Rattle.go_tree.specs.GoTypes.Defined.{under}
-use Rattle.go_tree.specs.GoTypes.Entities.{addressable, literal, elsewhere, Entity, refused, Env, meaning, exported, package_of, defined_in, Binds, extend, in_block}
-use Rattle.go_tree.specs.GoTypes.TypeNames.{type_meant, func_type, written_type}
-use Rattle.go_tree.specs.GoTypes.Operands.{Operand, a_type, a_function, Typed, typed, all_typed, with_value, named_operand, named_place, literal_operand}
-use Rattle.go_tree.specs.GoTypes.Operators.{unary_of, binary_of, star_of}
-use Rattle.go_tree.specs.GoTypes.Primary.{selected, selected_place, index_of, index_place, sliced, call_of, stands_alone, may_be_deferred}
-use Rattle.go_tree.specs.GoTypes.Literals.{unkeyed, of_field, keyed, is_struct, field_key, built, built_inside, key_type, inner_type, literal_type}
-use Rattle.go_tree.specs.GoTypes.Jumps.{breaks, breaks_in}
-use Rattle.go_tree.specs.GoTypes.Statements.{names_once, Declared, no_names, some_declared, blank, target_at, stores_all, updates, is_condition, variable_entity, bind_each, defined_by, range_types, range_assigns, case_value, case_constants, Ctx, in_loop, in_switch, may_break, may_continue, body_binds, body_ctx, is_blank_name, is_panic, no_values, is_absent, is_define, is_empty_stmt, has_last}
+use Rattle.go_rules.specs.GoTypes.Answers.{given, both, meets, only_if, without}
+use Rattle.go_rules.specs.GoTypes.Types.{GoType}
+use Rattle.go_rules.specs.GoTypes.Defined.{under}
+use Rattle.go_rules.specs.GoTypes.Entities.{addressable, literal, elsewhere, Entity, refused, Env, meaning, exported, package_of, defined_in, Binds, extend, in_block}
+use Rattle.go_rules.specs.GoTypes.TypeNames.{type_meant, func_type, written_type}
+use Rattle.go_rules.specs.GoTypes.Operands.{Operand, a_type, a_function, Typed, typed, all_typed, with_value, named_operand, named_place, literal_operand}
+use Rattle.go_rules.specs.GoTypes.Operators.{unary_of, binary_of, star_of}
+use Rattle.go_rules.specs.GoTypes.Primary.{selected, selected_place, index_of, index_place, sliced, call_of, stands_alone, may_be_deferred}
+use Rattle.go_rules.specs.GoTypes.Literals.{unkeyed, of_field, keyed, is_struct, field_key, built, built_inside, key_type, inner_type, literal_type}
+use Rattle.go_rules.specs.GoTypes.Jumps.{breaks, breaks_in}
+use Rattle.go_rules.specs.GoTypes.Statements.{names_once, Declared, no_names, some_declared, blank, target_at, stores_all, updates, is_condition, variable_entity, bind_each, defined_by, range_types, range_assigns, case_value, case_constants, Ctx, in_loop, in_switch, may_break, may_continue, body_binds, body_ctx, is_blank_name, is_panic, no_values, is_absent, is_define, is_empty_stmt, has_last}
 use mathlib.Core.Path.{ap, sym, ◌∙◌, subst}
 use Rattle.std.proofs.Common.{arith}
 use Rattle.go_tree.specs.Tree.{Fields, no_fields, field, named, pointer, slice_type, map_type, struct_type}
-use Rattle.go_tree.specs.ScopeNames.Means.{Environment, means}
-use Rattle.go_tree.specs.ScopeNames.FreeNames.{names_of, declared, declared_option, arms_declared, defined, named_use, sig_names, free_type, free_type_option, free_params}
-use Rattle.go_tree.specs.GoTypes.Types.{pointer_to, slice_of, map_of, struct_of}
-use Rattle.go_tree.specs.GoTypes.Defined.{has_keys}
-use Rattle.go_tree.specs.GoTypes.Entities.{type_of_name, is_declared_here}
-use Rattle.go_tree.specs.GoTypes.TypeNames.{named_meaning, resolved, resolved_fields, field_before, params_meant}
-use Rattle.go_tree.specs.GoTypes.Statements.{means_panic, assigns_to}
-use Rattle.go_tree.specs.GoTypes.Typing.{and_then, unused_after, one_more, step_op, binds_or, binds_of, beyond, new_constants, right_values, new_variables, new_by_define, Repeated, nothing_to_repeat, all_used, is_test, new_by_range, tag_of, choice, place_by, package_before, is_default, is_body, returns, labelled, parts, all_parts, bound, elements, element, with_key, place, places, used, used_all, used_option, used_elems, used_key, used_value, used_left, used_stmt, used_stmts, used_first, used_block, used_range, used_arms, used_cases, used_constants, used_variables, declares, declares_first, declares_constants, declares_variables, range_declares, targets, stmt, stmts, first, block, is_call, ranges, arms, clauses}
-use Rattle.go_tree.specs.GoTypes.Agreement.{with_names, Same, Agrees}
-use Rattle.go_tree.proofs.GoTypes.Agreeing.{among_right, new_constants_cover, new_variables_cover, agrees_in_block, agrees_after, under_same, Covers, declares_cover, first_cover, range_cover, of_covers, literal_cover}
+use Rattle.go_rules.specs.ScopeNames.Means.{Environment, means}
+use Rattle.go_rules.specs.ScopeNames.FreeNames.{names_of, declared, declared_option, arms_declared, defined, named_use, sig_names, free_type, free_type_option, free_params}
+use Rattle.go_rules.specs.GoTypes.Types.{pointer_to, slice_of, map_of, struct_of}
+use Rattle.go_rules.specs.GoTypes.Defined.{has_keys}
+use Rattle.go_rules.specs.GoTypes.Entities.{type_of_name, is_declared_here}
+use Rattle.go_rules.specs.GoTypes.TypeNames.{named_meaning, resolved, resolved_fields, field_before, params_meant}
+use Rattle.go_rules.specs.GoTypes.Statements.{means_panic, assigns_to}
+use Rattle.go_rules.specs.GoTypes.Typing.{and_then, unused_after, one_more, step_op, binds_or, binds_of, beyond, new_constants, right_values, new_variables, new_by_define, Repeated, nothing_to_repeat, all_used, is_test, new_by_range, tag_of, choice, place_by, package_before, is_default, is_body, returns, labelled, parts, all_parts, bound, elements, element, with_key, place, places, used, used_all, used_option, used_elems, used_key, used_value, used_left, used_stmt, used_stmts, used_first, used_block, used_range, used_arms, used_cases, used_constants, used_variables, declares, declares_first, declares_constants, declares_variables, range_declares, targets, stmt, stmts, first, block, is_call, ranges, arms, clauses}
+use Rattle.go_rules.specs.GoTypes.Agreement.{with_names, Same, Agrees}
+use Rattle.go_rules.proofs.GoTypes.Agreeing.{among_right, new_constants_cover, new_variables_cover, agrees_in_block, agrees_after, under_same, Covers, declares_cover, first_cover, range_cover, of_covers, literal_cover}
 use Rattle.std.specs.Prelude.{bytes_eq}
 use Rattle.std.proofs.Common.{inl, inr}
-use Rattle.go_tree.specs.GoTypes.Answers.{is_among}
+use Rattle.go_rules.specs.GoTypes.Answers.{is_among}
 use Rattle.constant_modules.specs.NamesAndKeys.Marked.{Marked, used_name, key_name, unless_marked, unless_key, NoOperand, no_meaning, of_package, of_refused, SameOrNone, Within, at_head, behind, OnMarked, marked_type, marked_fields, marked_type_option, marked_params, marked_expr, marked_exprs, marked_expr_option, marked_elems, marked_value, marked_value_option, marked_key, marked_stmt, marked_stmts, marked_stmt_option, marked_block_option, marked_left, marked_arms, marked_cases, marked_specs}
 
 pub within-left : {x : Marked} {xs : List Marked} (ys : List Marked) → Within x xs → Within x (xs ++ ys)
@@ -115,10 +115,10 @@ defined-alike (n ∷ ns) [] a m around g = refl
 defined-alike (n ∷ ns) (v ∷ vs) a m around g = go (is_declared_here a n) refl (defined-alike ns vs a m around g)
   where
     go : (d : Bool) → is_declared_here a n ≡ d → defined_by (defined_in a) a ns vs ≡ defined_by (defined_in a) (with_names a m) ns vs
-        → (if d then only_if (assigns_to (defined_in a) (meaning a n) v) (defined_by (defined_in a) a ns vs) else both (variable_entity (defined_in a) None v) (defined_by (defined_in a) a ns vs) (λ e bs. Some (Rattle.go_tree.specs.ScopeNames.Means.binding n e ++ bs)))
-        ≡ (if d then only_if (assigns_to (defined_in a) (means m n) v) (defined_by (defined_in a) (with_names a m) ns vs) else both (variable_entity (defined_in a) None v) (defined_by (defined_in a) (with_names a m) ns vs) (λ e bs. Some (Rattle.go_tree.specs.ScopeNames.Means.binding n e ++ bs)))
+        → (if d then only_if (assigns_to (defined_in a) (meaning a n) v) (defined_by (defined_in a) a ns vs) else both (variable_entity (defined_in a) None v) (defined_by (defined_in a) a ns vs) (λ e bs. Some (Rattle.go_rules.specs.ScopeNames.Means.binding n e ++ bs)))
+        ≡ (if d then only_if (assigns_to (defined_in a) (means m n) v) (defined_by (defined_in a) (with_names a m) ns vs) else both (variable_entity (defined_in a) None v) (defined_by (defined_in a) (with_names a m) ns vs) (λ e bs. Some (Rattle.go_rules.specs.ScopeNames.Means.binding n e ++ bs)))
     go true d e = λ w. only_if (assigns_to (defined_in a) (g.here n d w) v) (e w)
-    go false d e = λ w. both (variable_entity (defined_in a) None v) (e w) (λ e bs. Some (Rattle.go_tree.specs.ScopeNames.Means.binding n e ++ bs))
+    go false d e = λ w. both (variable_entity (defined_in a) None v) (e w) (λ e bs. Some (Rattle.go_rules.specs.ScopeNames.Means.binding n e ++ bs))
 
 new_by_define-alike : (ns : List (List ℕ)) (vs : Option (List Typed)) (a : Env) (m : Environment Entity) (around : List (List ℕ)) → Agrees around a m → new_by_define a ns vs ≡ new_by_define (with_names a m) ns vs
 new_by_define-alike ns None a m around g = refl

@@ -5,16 +5,16 @@ use mathlib.Core.Path.{sym, subst}
 use Rattle.std.proofs.Common.{◌⊎◌, inl, inr}
 use Rattle.go_tree.specs.Tree.{TypeExpr, Exprs, no_exprs, expr_and, const_decl, var_decl, ValueSpecs, no_specs, spec}
 use Rattle.go_tree.specs.File.{TypeSpec, Func, Decl, values, types, func}
-use Rattle.go_tree.specs.ScopeNames.FreeNames.{names_of, sig_names, free_type_option, free_params}
-use Rattle.go_tree.specs.ScopeNames.Means.{Environment, is_blank}
+use Rattle.go_rules.specs.ScopeNames.FreeNames.{names_of, sig_names, free_type_option, free_params}
+use Rattle.go_rules.specs.ScopeNames.Means.{Environment, is_blank}
 use Rattle.pkg_graph.specs.Package.{Package}
-use Rattle.go_tree.specs.GoTypes.Agreement.{In}
-use Rattle.go_tree.specs.GoTypes.Answers.{is_among, without}
-use Rattle.go_tree.specs.GoTypes.Entities.{Entity, World, Env}
-use Rattle.go_tree.specs.GoTypes.Programs.{Header, a_type_spec, a_func, Headed, constant_headers, variable_headers, headers, at_member}
-use Rattle.go_tree.specs.GoTypes.Collect.{file_env}
-use Rattle.go_tree.specs.GoTypes.Typing.{used_all, used_stmts}
-use Rattle.go_tree.specs.GoTypes.WellTyped.{receiver_names, body_env, header_uses}
+use Rattle.go_rules.specs.GoTypes.Agreement.{In}
+use Rattle.go_rules.specs.GoTypes.Answers.{is_among, without}
+use Rattle.go_rules.specs.GoTypes.Entities.{Entity, World, Env}
+use Rattle.go_rules.specs.GoTypes.Programs.{Header, a_type_spec, a_func, Headed, constant_headers, variable_headers, headers, at_member}
+use Rattle.go_rules.specs.GoTypes.Collect.{file_env}
+use Rattle.go_rules.specs.GoTypes.Typing.{used_all, used_stmts}
+use Rattle.go_rules.specs.GoTypes.WellTyped.{receiver_names, body_env, header_uses}
 use Rattle.constant_steps.specs.StepLaws.NamesOutside.{NamesOutside}
 use Rattle.constant_steps.specs.StepLaws.SwapPrograms.{headed_there}
 use Rattle.constant_steps.proofs.StepLaws.DeclUses.{body-begins}

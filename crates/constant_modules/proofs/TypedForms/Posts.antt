@@ -8,7 +8,7 @@ use Rattle.go_tree.specs.File.{Decl, values, types, func, File}
 use Rattle.go_read.specs.SpellsTypes.{Lexemes}
 use Rattle.go_read.specs.SpellsSpans.{span_to}
 use Rattle.go_read.specs.SpellsFiles.{SpellsTops, SpellsFront, no_tops_rule, more_tops_rule, front_rule}
-use Rattle.go_tree.specs.GoTypes.Statements.{is_define}
+use Rattle.go_rules.specs.GoTypes.Statements.{is_define}
 use Rattle.printed_constants.specs.TypedParts.Parts.{PartTyped, AllTyped}
 use Rattle.printed_constants.specs.TypedParts.ScopedParts.Posts.{is_post, PostsInExpr, PostsInExprs, PostsInExprOption, PostsInElems, PostsInValue, PostsInValueOption, PostsInStmt, PostsInStmts, PostsInStmtOption, PostsInBlockOption, PostsInLeft, PostsInArms, PostsInCases, PostsInSpecs, PostsInDecl, PostIsSimple, AllPostsSimple}
 use Rattle.printed_constants.proofs.TypedParts.ScopedParts.SpelledPosts.{top_posts}

@@ -5,27 +5,27 @@ use Rattle.std.proofs.Common.{arith}
 use Rattle.std.proofs.lemmas.Option.{same_Some}
 use Rattle.go_tree.specs.Tree.{NameAt, TypeExpr, Exprs, no_exprs, expr_and, const_decl, var_decl, ValueSpecs, no_specs, spec}
 use Rattle.go_tree.specs.File.{TypeSpec, Receiver, Func, Decl, values, types, func}
-use Rattle.go_tree.specs.ScopeNames.FreeNames.{names_of, sig_names}
-use Rattle.go_tree.specs.ScopeNames.Means.{Environment, binding}
+use Rattle.go_rules.specs.ScopeNames.FreeNames.{names_of, sig_names}
+use Rattle.go_rules.specs.ScopeNames.Means.{Environment, binding}
 use Rattle.go_layout.specs.LayoutLaws.Formed.{FormedSpec, FormedSpecs}
 use Rattle.pkg_graph.specs.Package.{Package}
-use Rattle.go_tree.specs.GoTypes.Answers.{given, both, only_if, is_empty, distinct_by}
-use Rattle.go_tree.specs.GoTypes.Types.{GoType}
-use Rattle.go_tree.specs.GoTypes.Defined.{has_keys}
-use Rattle.go_tree.specs.GoTypes.Entities.{Entity, variable, Env, Binds, meaning, type_of_name}
-use Rattle.go_tree.specs.GoTypes.TypeNames.{resolved, func_type, written_type}
-use Rattle.go_tree.specs.GoTypes.Operands.{Operand, all_typed}
-use Rattle.go_tree.specs.GoTypes.Declarations.{bind_all, bind_each, constant_entity, variable_entity}
-use Rattle.go_tree.specs.GoTypes.Bodiless.{all_bodiless}
-use Rattle.go_tree.specs.GoTypes.Bodies.{body_ctx, no_values, is_body}
-use Rattle.go_tree.specs.GoTypes.Jumps.{labels_in}
-use Rattle.go_tree.specs.GoTypes.Typing.{all_parts, stmts}
-use Rattle.go_tree.specs.GoTypes.Programs.{Header, constants, variables, a_type_spec, a_func, Headed, headed, constant_headers, variable_headers, at_member, file_env}
-use Rattle.go_tree.specs.GoTypes.Collect.{DeclaredTypes, types_declared, type_entity, spec_type, is_good_type, good_entity, is_finite, package_constants, package_variables, declared_by}
-use Rattle.go_tree.specs.GoTypes.MethodDeclarations.{receiver_type, method_declared, method_header, is_new_method}
-use Rattle.go_tree.specs.GoTypes.Initial.{all_initial}
-use Rattle.go_tree.specs.GoTypes.WellTyped.{receiver_names, method_ok}
-use Rattle.go_tree.proofs.GoTypes.Agreeing.{from_given, from_both, from_only}
+use Rattle.go_rules.specs.GoTypes.Answers.{given, both, only_if, is_empty, distinct_by}
+use Rattle.go_rules.specs.GoTypes.Types.{GoType}
+use Rattle.go_rules.specs.GoTypes.Defined.{has_keys}
+use Rattle.go_rules.specs.GoTypes.Entities.{Entity, variable, Env, Binds, meaning, type_of_name}
+use Rattle.go_rules.specs.GoTypes.TypeNames.{resolved, func_type, written_type}
+use Rattle.go_rules.specs.GoTypes.Operands.{Operand, all_typed}
+use Rattle.go_rules.specs.GoTypes.Declarations.{bind_all, bind_each, constant_entity, variable_entity}
+use Rattle.go_rules.specs.GoTypes.Bodiless.{all_bodiless}
+use Rattle.go_rules.specs.GoTypes.Bodies.{body_ctx, no_values, is_body}
+use Rattle.go_rules.specs.GoTypes.Jumps.{labels_in}
+use Rattle.go_rules.specs.GoTypes.Typing.{all_parts, stmts}
+use Rattle.go_rules.specs.GoTypes.Programs.{Header, constants, variables, a_type_spec, a_func, Headed, headed, constant_headers, variable_headers, at_member, file_env}
+use Rattle.go_rules.specs.GoTypes.Collect.{DeclaredTypes, types_declared, type_entity, spec_type, is_good_type, good_entity, is_finite, package_constants, package_variables, declared_by}
+use Rattle.go_rules.specs.GoTypes.MethodDeclarations.{receiver_type, method_declared, method_header, is_new_method}
+use Rattle.go_rules.specs.GoTypes.Initial.{all_initial}
+use Rattle.go_rules.specs.GoTypes.WellTyped.{receiver_names, method_ok}
+use Rattle.go_rules.proofs.GoTypes.Agreeing.{from_given, from_both, from_only}
 use Rattle.typed_in_place.specs.ProgramReplaced.{All, all_and}
 use Rattle.constant_steps.specs.StepLaws.SwapPrograms.{headed_there}
 use Rattle.constant_steps.proofs.StepLaws.PartsTyped.{TypedThere, DeclIsTyped}

@@ -3,16 +3,16 @@ use Rattle.std.proofs.Common.{◌≡◌, ◌∙◌, refl, sym, ap, subst, ℕ, B
 use Rattle.std.specs.Prelude.{slice_get}
 use Rattle.go_tree.specs.declared.spans.Span.{Span}
 use Rattle.go_tree.specs.Tree.{NameAt, Expr, ident, selector}
-use Rattle.go_tree.specs.ScopeNames.Means.{Environment, means, numbered, or_else}
+use Rattle.go_rules.specs.ScopeNames.Means.{Environment, means, numbered, or_else}
 use Rattle.pkg_graph.specs.Package.{Package, import_specs}
 use Rattle.pkg_graph.specs.Members.{Target, imported, import_name}
-use Rattle.go_tree.specs.GoTypes.Answers.{given}
-use Rattle.go_tree.specs.GoTypes.Entities.{Entity, Env, meaning, exported, is_exported, package_of, block_of, universe, defined_in}
-use Rattle.go_tree.specs.GoTypes.Operands.{Operand, named_operand, with_value}
-use Rattle.go_tree.specs.GoTypes.Primary.{selected}
-use Rattle.go_tree.specs.GoTypes.Typing.{parts, place}
-use Rattle.go_tree.specs.GoTypes.Programs as source
-use Rattle.go_tree.proofs.GoTypes.Agreeing.{from_given}
+use Rattle.go_rules.specs.GoTypes.Answers.{given}
+use Rattle.go_rules.specs.GoTypes.Entities.{Entity, Env, meaning, exported, is_exported, package_of, block_of, universe, defined_in}
+use Rattle.go_rules.specs.GoTypes.Operands.{Operand, named_operand, with_value}
+use Rattle.go_rules.specs.GoTypes.Primary.{selected}
+use Rattle.go_rules.specs.GoTypes.Typing.{parts, place}
+use Rattle.go_rules.specs.GoTypes.Programs as source
+use Rattle.go_rules.proofs.GoTypes.Agreeing.{from_given}
 use Rattle.go_translation.specs.Packages.{are_well_typed}
 use Rattle.typed_in_place.specs.ImportRule.{imports_sound}
 use Rattle.constant_steps.proofs.WrittenLiteral.NamesMeant.{means_join, IsImport, Answered, matched_means, all_imports_match}

@@ -1,13 +1,13 @@
 -- Written types that mean something where they stand, and the same for each type in them.
 use Rattle.std.proofs.Common.{◌≡◌, ◌∙◌, refl, ap, ℕ, true, List, [], ◌∷◌, ◌++◌, Option, Some, None, is_some, arith}
 use Rattle.go_tree.specs.Tree.{TypeExpr, named, pointer, slice_type, map_type, struct_type, Fields, no_fields, field, selector}
-use Rattle.go_tree.specs.GoTypes.Answers.{given, both, only_if}
-use Rattle.go_tree.specs.GoTypes.Types.{GoType, pointer_to, slice_of, map_of, struct_of, GoFields}
-use Rattle.go_tree.specs.GoTypes.Defined.{has_keys}
-use Rattle.go_tree.specs.GoTypes.Entities.{Env, defined_in}
-use Rattle.go_tree.specs.GoTypes.TypeNames.{field_before, resolved, resolved_fields, type_meant, written_type}
-use Rattle.go_tree.specs.GoTypes.Typing.{parts}
-use Rattle.go_tree.proofs.GoTypes.Agreeing.{from_given}
+use Rattle.go_rules.specs.GoTypes.Answers.{given, both, only_if}
+use Rattle.go_rules.specs.GoTypes.Types.{GoType, pointer_to, slice_of, map_of, struct_of, GoFields}
+use Rattle.go_rules.specs.GoTypes.Defined.{has_keys}
+use Rattle.go_rules.specs.GoTypes.Entities.{Env, defined_in}
+use Rattle.go_rules.specs.GoTypes.TypeNames.{field_before, resolved, resolved_fields, type_meant, written_type}
+use Rattle.go_rules.specs.GoTypes.Typing.{parts}
+use Rattle.go_rules.proofs.GoTypes.Agreeing.{from_given}
 use Rattle.constant_steps.specs.StepLaws.NamesOutside.{NamesOutside}
 use Rattle.run_rules.specs.Surroundings.{Place, Seen, seen, seen_type}
 use Rattle.run_rules.specs.Sites.{named_in, named_in_fields}

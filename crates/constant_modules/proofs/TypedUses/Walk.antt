@@ -5,27 +5,27 @@ use mathlib.Core.Path.{ap, sym, ◌∙◌, subst}
 use Rattle.std.proofs.Common.{arith}
 use Rattle.go_tree.specs.Tree.{NameAt, Param, Sig, TypeExpr, Expr, ident, int_lit, rune_lit, str_lit, composite, selector, index, slice, call, func_lit, type_operand, unary, binary, star, Exprs, no_exprs, expr_and, ExprOption, no_expr, some_expr, Elems, no_elems, elem, Value, plain, braced, ValueOption, no_value, some_value, Stmt, const_decl, var_decl, empty, eval, step, assign, define, return_, break_, continue_, inner, if_, for_, range_, switch, defer, label, Stmts, no_stmts, stmt_and, StmtOption, no_stmt, some_stmt, BlockOption, no_block, some_block, RangeLeft, nothing, assigns, defines, Arms, no_arms, arm, Cases, no_cases, case, ValueSpecs, no_specs, spec}
 use Rattle.go_tree.specs.GoWords.Terminals.{level_of}
-use Rattle.go_tree.specs.ScopeNames.Scopes.{sig_declares}
-use Rattle.go_tree.specs.ScopeNames.FreeNames.{names_of, sig_names, declared, declared_option, defined}
-use Rattle.go_tree.specs.GoTypes.Answers.{given, both, meets, only_if, answers_of, is_among}
-use Rattle.go_tree.specs.GoTypes.Types.{GoType, FuncType}
-use Rattle.go_tree.specs.GoTypes.Defined.{under}
-use Rattle.go_tree.specs.GoTypes.Entities.{variable, Env, Binds, exported, defined_in, extend, in_block}
-use Rattle.go_tree.specs.GoTypes.TypeNames.{type_meant, params_meant, func_type, written_type}
-use Rattle.go_tree.specs.GoTypes.Operands.{Operand, Typed, typed, with_value, all_typed, named_operand}
-use Rattle.go_tree.specs.GoTypes.Operators.{unary_of, binary_of, star_of}
-use Rattle.go_tree.specs.GoTypes.Primary.{selected, index_of, sliced, call_of, stands_alone, may_be_deferred}
-use Rattle.go_tree.specs.GoTypes.Literals.{Element, is_struct, field_key, built, built_inside, key_type, inner_type, literal_type, of_field, keyed}
-use Rattle.go_tree.specs.GoTypes.Declarations.{Declared, no_names, bind_all, bind_each, variable_entity, constant_entity, constants_declared, new_constants, may_declare, variables_declared, new_variables, new_by_define, names_once, some_declared, defined_by, binds_or, binds_of, and_then, unused_after, all_used}
-use Rattle.go_tree.specs.GoTypes.Bodies.{Ctx, in_loop, in_switch, body_binds, body_ctx, no_values, literal_env, is_body, labelled, returns}
-use Rattle.go_tree.specs.GoTypes.Statements.{Target, blank, target_at, stores_all, updates, step_op, one_more, right_values, is_test, is_condition, tag_of, choice, package_before, is_blank_name, is_panic, is_define, is_empty_stmt, range_types, range_assigns, case_value, has_last, Clauses}
-use Rattle.go_tree.specs.GoTypes.Typing.{parts, all_parts, bound, elements, element, with_key, place, places, used, used_option, used_stmts, used_first, used_block, used_arms, used_cases, used_variables, declares, declares_first, declares_constants, declares_variables, range_declares, targets, stmt, stmts, first, block, is_call, ranges, arms, clauses}
-use Rattle.go_tree.proofs.GoTypes.Agreeing.{from_given, from_both, from_only}
+use Rattle.go_rules.specs.ScopeNames.Scopes.{sig_declares}
+use Rattle.go_rules.specs.ScopeNames.FreeNames.{names_of, sig_names, declared, declared_option, defined}
+use Rattle.go_rules.specs.GoTypes.Answers.{given, both, meets, only_if, answers_of, is_among}
+use Rattle.go_rules.specs.GoTypes.Types.{GoType, FuncType}
+use Rattle.go_rules.specs.GoTypes.Defined.{under}
+use Rattle.go_rules.specs.GoTypes.Entities.{variable, Env, Binds, exported, defined_in, extend, in_block}
+use Rattle.go_rules.specs.GoTypes.TypeNames.{type_meant, params_meant, func_type, written_type}
+use Rattle.go_rules.specs.GoTypes.Operands.{Operand, Typed, typed, with_value, all_typed, named_operand}
+use Rattle.go_rules.specs.GoTypes.Operators.{unary_of, binary_of, star_of}
+use Rattle.go_rules.specs.GoTypes.Primary.{selected, index_of, sliced, call_of, stands_alone, may_be_deferred}
+use Rattle.go_rules.specs.GoTypes.Literals.{Element, is_struct, field_key, built, built_inside, key_type, inner_type, literal_type, of_field, keyed}
+use Rattle.go_rules.specs.GoTypes.Declarations.{Declared, no_names, bind_all, bind_each, variable_entity, constant_entity, constants_declared, new_constants, may_declare, variables_declared, new_variables, new_by_define, names_once, some_declared, defined_by, binds_or, binds_of, and_then, unused_after, all_used}
+use Rattle.go_rules.specs.GoTypes.Bodies.{Ctx, in_loop, in_switch, body_binds, body_ctx, no_values, literal_env, is_body, labelled, returns}
+use Rattle.go_rules.specs.GoTypes.Statements.{Target, blank, target_at, stores_all, updates, step_op, one_more, right_values, is_test, is_condition, tag_of, choice, package_before, is_blank_name, is_panic, is_define, is_empty_stmt, range_types, range_assigns, case_value, has_last, Clauses}
+use Rattle.go_rules.specs.GoTypes.Typing.{parts, all_parts, bound, elements, element, with_key, place, places, used, used_option, used_stmts, used_first, used_block, used_arms, used_cases, used_variables, declares, declares_first, declares_constants, declares_variables, range_declares, targets, stmt, stmts, first, block, is_call, ranges, arms, clauses}
+use Rattle.go_rules.proofs.GoTypes.Agreeing.{from_given, from_both, from_only}
 use Rattle.typed_in_place.proofs.Rising.{and_second}
 use Rattle.run_rules.specs.Surroundings.{Use, whole, stored, updated, called, deferred_call, alone, other, a_slot, Slot, Place, Seen, seen, seen_type, seen_stmt, alike, into_or, into_type, head_use, later_uses, arg_uses, unary_use, operand_use, first_operand_use, right_uses, every_use, value_use, return_uses, elem_use, key_use, inner_slot, last_slot, in_slot, callee_place, comma_slot, elem_closed, after_stmt, after_first, first_declares, left_declares, looping, switching, in_heading, at_stmt, plain_slot, ranged, in_literal, after_variables, is_local, is_old, repeated_by, in_constant, after_constants, before_repeats}
 use Rattle.run_rules.specs.Surroundings as around
 use Rattle.run_rules.specs.Places.{type_seen, written_seen, params_seen, sig_seen, old_seen, after_arms, expr_seen, all_seen, option_seen, elems_seen, key_seen, value_seen, stmt_seen, stmts_seen, first_seen, block_seen, left_seen, arms_seen, cases_seen, constants_seen, variables_seen}
-use Rattle.go_tree.specs.GoTypes.Declarations.{Repeated, nothing_to_repeat}
+use Rattle.go_rules.specs.GoTypes.Declarations.{Repeated, nothing_to_repeat}
 use Rattle.constant_steps.specs.StepLaws.Answered.{HoldsWithin}
 use Rattle.constant_steps.specs.StepLaws.NamesOutside.{NamesOutside}
 use Rattle.constant_steps.proofs.StepLaws.OutsideHolds.{outside_holds}
@@ -45,14 +45,14 @@ there o x e = ap is_some e
 
 some_values : (a : Env) (ns : List (List ℕ)) (vs : Option (List Typed)) (d : Declared) → new_by_define a ns vs ≡ Some d → (x : List Typed) × (vs ≡ Some x)
 some_values a ns vs d e =
-    let k : (Binds → Option Declared) = (λ bs. only_if (not (Rattle.go_tree.specs.GoTypes.Answers.is_empty bs)) (variables_declared (Some bs))) in
+    let k : (Binds → Option Declared) = (λ bs. only_if (not (Rattle.go_rules.specs.GoTypes.Answers.is_empty bs)) (variables_declared (Some bs))) in
     let q = from_given (given vs (defined_by (defined_in a) a ns)) k d (from_only (names_once ns) (some_declared (given vs (defined_by (defined_in a) a ns))) d e) in
     let r = from_given vs (defined_by (defined_in a) a ns) q.0 q.1 in (r.0, r.1)
 
 typed_variables : (a : Env) (ns : List (List ℕ)) (t : Option (Option GoType)) (zeros : Bool) (vs : Option (List Typed)) (d : Declared) → new_variables a ns t zeros vs ≡ Some d → (u : Option GoType) × (t ≡ Some u) × (zeros ≡ false → is_some vs ≡ true)
 typed_variables a ns t zeros vs d e =
     let by : (Option GoType → Option Binds) = (λ t. if zeros then given t (λ t. Some (bind_each (variable t) ns)) else given vs (bind_all (variable_entity (defined_in a) t) ns)) in
-    let q = from_given (given t by) (λ bs. Some (record { binds = bs; fresh = Rattle.go_tree.specs.GoTypes.Declarations.bound_names bs })) d (from_only (may_declare a ns) (variables_declared (given t by)) d e) in
+    let q = from_given (given t by) (λ bs. Some (record { binds = bs; fresh = Rattle.go_rules.specs.GoTypes.Declarations.bound_names bs })) d (from_only (may_declare a ns) (variables_declared (given t by)) d e) in
     let r = from_given t by q.0 q.1 in
     (r.0, r.1, go zeros r.0 q.0 r.2)
   where
@@ -232,13 +232,13 @@ module _ {S B : Type 0} (to : S → B) (top : Env) where
   for_stands p l c s i t q z b e h f1 f2 f3 f4 =
       let here : Place S = around.block p in
       let then_ : Place S = after_first here i in
-      let ends : (Declared → Bool → Option Bool) = (λ q ends. Some (Rattle.go_tree.specs.GoTypes.Statements.is_absent t && not (Rattle.go_tree.specs.GoTypes.Jumps.breaks_in false None b))) in
+      let ends : (Declared → Bool → Option Bool) = (λ q ends. Some (Rattle.go_rules.specs.GoTypes.Statements.is_absent t && not (Rattle.go_rules.specs.GoTypes.Jumps.breaks_in false None b))) in
       let inner_ : (Declared → Option Bool) = (λ d. let k : Env = extend d.binds (in_block p.env) in only_if (all_used d.fresh (used_option k t ++ used_first k q ++ used_stmts (in_block k) b) && (not (is_define q) && is_test k (bound k t))) (both (first c k q) (stmts (in_loop c) (in_block k) false b) ends)) in
       let r = from_given (first c (in_block p.env) i) inner_ e h in
       let k : Env = extend (r.0).binds (in_block p.env) in
       let w : Bool = all_used (r.0).fresh (used_option k t ++ used_first k q ++ used_stmts (in_block k) b) in
       let g = passed (w && (not (is_define q) && is_test k (bound k t))) (both (first c k q) (stmts (in_loop c) (in_block k) false b) ends) e r.2 in
-      let test = met (bound k t) (λ v. Rattle.go_tree.specs.GoTypes.Answers.unless_missing v (λ v. is_condition (defined_in k) (Rattle.go_tree.specs.GoTypes.Operands.value v.0 v.1))) (and_second (not (is_define q)) (is_test k (bound k t)) (and_second w (not (is_define q) && is_test k (bound k t)) g)) in
+      let test = met (bound k t) (λ v. Rattle.go_rules.specs.GoTypes.Answers.unless_missing v (λ v. is_condition (defined_in k) (Rattle.go_rules.specs.GoTypes.Operands.value v.0 v.1))) (and_second (not (is_define q)) (is_test k (bound k t)) (and_second w (not (is_define q) && is_test k (bound k t)) g)) in
       let y = from_both (first c k q) (stmts (in_loop c) (in_block k) false b) ends e (from_only (w && (not (is_define q) && is_test k (bound k t))) (both (first c k q) (stmts (in_loop c) (in_block k) false b) ends) e r.2) in
       and_last (first_seen (in_heading true here) i ++ option_seen (in_heading true then_) t ++ first_seen (in_heading true then_) q ++ stmts_seen (looping (around.block then_)) b) (seen_stmt p (for_ s i t q z b)) (joined (first_seen (in_heading true here) i ++ option_seen (in_heading true then_) t ++ first_seen (in_heading true then_) q) (stmts_seen (looping (around.block then_)) b) (joined (first_seen (in_heading true here) i ++ option_seen (in_heading true then_) t) (first_seen (in_heading true then_) q) (joined (first_seen (in_heading true here) i) (option_seen (in_heading true then_) t) (f1 r.0 r.1) (f2 test.0 (first_then here c i r.0 (λ k. bound k t) (Some test.0) r.1 test.1))) (f3 y.0 (first_then here c i r.0 (λ k. first c k q) (Some y.0) r.1 y.2))) (f4 y.1 (first_then here c i r.0 (λ k. stmts (in_loop c) (in_block k) false b) (Some y.1) r.1 y.3))) tt
 
@@ -269,7 +269,7 @@ module _ {S B : Type 0} (to : S → B) (top : Env) where
       let r = from_given (first c (in_block p.env) i) inner_ e h in
       let k : Env = extend (r.0).binds (in_block p.env) in
       let g = from_given (tag_of k (bound k t)) (λ tag. given (clauses (in_switch c) k tag cs) choice) e (from_only (all_used (r.0).fresh (used_option k t ++ used_cases k cs)) (given (tag_of k (bound k t)) (λ tag. given (clauses (in_switch c) k tag cs) choice)) e r.2) in
-      let o = from_given (bound k t) (Rattle.go_tree.specs.GoTypes.Statements.tag_value (defined_in k)) g.0 g.1 in
+      let o = from_given (bound k t) (Rattle.go_rules.specs.GoTypes.Statements.tag_value (defined_in k)) g.0 g.1 in
       let y = from_given (clauses (in_switch c) k g.0 cs) choice e g.2 in
       and_last (first_seen (in_heading true here) i ++ option_seen (in_heading true then_) t ++ cases_seen (switching then_) cs) (seen_stmt p (switch s i t cs)) (joined (first_seen (in_heading true here) i ++ option_seen (in_heading true then_) t) (cases_seen (switching then_) cs) (joined (first_seen (in_heading true here) i) (option_seen (in_heading true then_) t) (f1 r.0 r.1) (f2 o.0 (first_then here c i r.0 (λ k. bound k t) (Some o.0) r.1 o.1))) (f3 g.0 y.0 (first_then here c i r.0 (λ k. clauses (in_switch c) k g.0 cs) (Some y.0) r.1 y.1))) tt
 
@@ -304,17 +304,17 @@ module _ {S B : Type 0} (to : S → B) (top : Env) where
         let k : Place S = callee_place (inner_slot p.slot (call s f xs z) 7 true false) f p in
         and_last (expr_seen k called f ++ all_seen (in_slot (a_slot 1 false true) p) (arg_uses p.env (parts p.env f) (all_parts p.env xs)) xs) (seen p u (call s f xs z)) (joined (expr_seen k called f) (all_seen (in_slot (a_slot 1 false true) p) (arg_uses p.env (parts p.env f) (all_parts p.env xs)) xs) (expr_stands k (callee_known (inner_slot p.slot (call s f xs z) 7 true false) f p known) called f r.0 formed.0 (callee_parts (inner_slot p.slot (call s f xs z) 7 true false) f p f ∙ r.2)) (all_stand (in_slot (a_slot 1 false true) p) known (arg_uses p.env (parts p.env f) (all_parts p.env xs)) xs r.1 formed.1 r.3)) tt
     expr_stands p known u (func_lit s g z b) o formed e =
-        let last : (FuncType → Binds → Option Operand) = (λ f bs. only_if (is_body f b (stmts (body_ctx g f) (extend bs (in_block p.env)) false b)) (Some (Rattle.go_tree.specs.GoTypes.Operands.a_function f))) in
+        let last : (FuncType → Binds → Option Operand) = (λ f bs. only_if (is_body f b (stmts (body_ctx g f) (extend bs (in_block p.env)) false b)) (Some (Rattle.go_rules.specs.GoTypes.Operands.a_function f))) in
         let r = from_given (func_type p.env g) (λ f. given (body_binds [] g f) (last f)) o e in
         let q = from_given (body_binds [] g r.0) (last r.0) o r.2 in
         let here : Env = extend q.0 (in_block p.env) in
-        let y = met (stmts (body_ctx g r.0) here false b) (λ ends. (Rattle.go_tree.specs.GoTypes.Answers.is_empty (r.0).results || ends) && Rattle.go_tree.specs.GoTypes.Answers.distinct_by Rattle.std.specs.Prelude.bytes_eq (Rattle.go_tree.specs.GoTypes.Jumps.labels_in b)) (passed (is_body r.0 b (stmts (body_ctx g r.0) here false b)) (Some (Rattle.go_tree.specs.GoTypes.Operands.a_function r.0)) o q.2) in
+        let y = met (stmts (body_ctx g r.0) here false b) (λ ends. (Rattle.go_rules.specs.GoTypes.Answers.is_empty (r.0).results || ends) && Rattle.go_rules.specs.GoTypes.Answers.distinct_by Rattle.std.specs.Prelude.bytes_eq (Rattle.go_rules.specs.GoTypes.Jumps.labels_in b)) (passed (is_body r.0 b (stmts (body_ctx g r.0) here false b)) (Some (Rattle.go_rules.specs.GoTypes.Operands.a_function r.0)) o q.2) in
         and_last (sig_seen p g ++ stmts_seen (in_literal p g) b) (seen p u (func_lit s g z b)) (joined (sig_seen p g) (stmts_seen (in_literal p g) b) (sig_stands p known g r.0 r.1) (stmts_stand (in_literal p g) (literal_known p g r.0 r.1 known) (body_ctx g r.0) false b y.0 formed.1
         (ap (λ a. stmts (body_ctx g r.0) a false b) (literal_env_is p g r.0 r.1)
         ∙ ap (λ o. stmts (body_ctx g r.0) (extend (binds_or (sig_names g) (given o (body_binds [] g))) (in_block p.env)) false b) r.1
         ∙ ap (λ o. stmts (body_ctx g r.0) (extend (binds_or (sig_names g) o) (in_block p.env)) false b) q.1 ∙ y.1))) tt
     expr_stands p known u (type_operand s t) o formed e =
-        let r = from_given (type_meant p.env t) (λ u. Some (Rattle.go_tree.specs.GoTypes.Operands.a_type u)) o e in
+        let r = from_given (type_meant p.env t) (λ u. Some (Rattle.go_rules.specs.GoTypes.Operands.a_type u)) o e in
         and_last (type_seen p t) (seen p u (type_operand s t)) (type_stands p known t r.0 r.1) tt
     expr_stands p known u (unary s op x) o formed e =
         let r = from_given (parts p.env x) (unary_of (defined_in p.env) op (place p.env x)) o e in
@@ -374,7 +374,7 @@ module _ {S B : Type 0} (to : S → B) (top : Env) where
         let k : (List Target → Bool) = (λ ts. meets (right_values p.env (length ts) (places p.env ys) (all_parts p.env ys)) (stores_all (defined_in p.env) ts)) in
         let r = from_given (targets p.env xs) (λ ts. only_if (k ts) (Some false)) e h in
         let q = met (right_values p.env (length r.0) (places p.env ys) (all_parts p.env ys)) (stores_all (defined_in p.env) r.0) (passed (k r.0) (Some false) e r.2) in
-        let y = from_given (all_parts p.env ys) (Rattle.go_tree.specs.GoTypes.Statements.assigned_values (defined_in p.env) (length r.0) (places p.env ys)) q.0 q.1 in
+        let y = from_given (all_parts p.env ys) (Rattle.go_rules.specs.GoTypes.Statements.assigned_values (defined_in p.env) (length r.0) (places p.env ys)) q.0 q.1 in
         and_last (all_seen p (every_use stored xs) xs ++ all_seen p (right_uses p.env xs) ys) (seen_stmt p (assign s xs None ys)) (joined (all_seen p (every_use stored xs) xs) (all_seen p (right_uses p.env xs) ys) (targets_stand p known (every_use stored xs) xs r.0 formed.1 r.1) (all_stand p known (right_uses p.env xs) ys y.0 formed.4 y.1)) tt
     stmt_stands p known l c (assign s xs (Some op) ys) e formed h =
         let r = from_both (all_parts p.env xs) (all_parts p.env ys) (λ os qs. only_if (updates (defined_in p.env) op (places p.env xs) os qs) (Some false)) e h in
@@ -383,7 +383,7 @@ module _ {S B : Type 0} (to : S → B) (top : Env) where
         let vs : Option (List Typed) = right_values p.env (length ns) (places p.env ys) (all_parts p.env ys) in
         let r = from_given (new_by_define p.env (names_of ns) vs) (λ d. Some false) e h in
         let q = some_values p.env (names_of ns) vs r.0 r.1 in
-        let y = from_given (all_parts p.env ys) (Rattle.go_tree.specs.GoTypes.Statements.assigned_values (defined_in p.env) (length ns) (places p.env ys)) q.0 q.1 in
+        let y = from_given (all_parts p.env ys) (Rattle.go_rules.specs.GoTypes.Statements.assigned_values (defined_in p.env) (length ns) (places p.env ys)) q.0 q.1 in
         and_last (old_seen p ns ++ all_seen p (alike whole ns) ys) (seen_stmt p (define s ns ys)) (joined (old_seen p ns) (all_seen p (alike whole ns) ys) (old_stand p known ns) (all_stand p known (alike whole ns) ys y.0 formed.3 y.1)) tt
     stmt_stands p known l c (return_ s xs) e formed h = and_last (all_seen p (return_uses p.ctx.results xs) xs) (seen_stmt p (return_ s xs)) (returned_stand p known (return_uses p.ctx.results xs) c xs formed (passed (returns c p.env xs (all_parts p.env xs)) (Some true) e h)) tt
     stmt_stands p known l c (break_ s n) e formed h = (tt, tt)
@@ -409,8 +409,8 @@ module _ {S B : Type 0} (to : S → B) (top : Env) where
         let r = from_given (parts p.env x) (λ o. Some false) e (from_only (is_call may_be_deferred p.env x) (given (parts p.env x) (λ o. Some false)) e h) in
         and_last (expr_seen (record p { deferring = true; slot = a_slot 0 false false }) deferred_call x) (seen_stmt p (defer s x)) (expr_stands (record p { deferring = true; slot = a_slot 0 false false }) known deferred_call x r.0 formed.1 r.1) tt
     stmt_stands p known l c (label s n x) e formed h =
-        let jumps : Bool = Rattle.go_tree.specs.GoTypes.Jumps.breaks true (Some n.name) x in
-        let last : (Bool → Option Bool) = (λ ends. Some (ends && not (Rattle.go_tree.specs.GoTypes.Jumps.breaks false (Some n.name) x))) in
+        let jumps : Bool = Rattle.go_rules.specs.GoTypes.Jumps.breaks true (Some n.name) x in
+        let last : (Bool → Option Bool) = (λ ends. Some (ends && not (Rattle.go_rules.specs.GoTypes.Jumps.breaks false (Some n.name) x))) in
         let r = from_given (stmt (labelled c n x) p.env x) last e (from_only jumps (given (stmt (labelled c n x) p.env x) last) e h) in
         and_last (stmt_seen (record p { ctx = labelled p.ctx n x }) false x) (seen_stmt p (label s n x)) (stmt_stands (record p { ctx = labelled p.ctx n x }) known false (labelled c n x) x r.0 formed.1 r.1) tt
 
@@ -447,7 +447,7 @@ module _ {S B : Type 0} (to : S → B) (top : Env) where
     pub returned_stand : (p : Place S) (known : N p) (us : List Use) (c : Ctx) (xs : Exprs S) → FormedExprs (exprs_with to xs) → returns c p.env xs (all_parts p.env xs) ≡ true → Stand (all_seen p us xs)
     returned_stand p known us c no_exprs formed e = tt
     returned_stand p known us c (expr_and x xs) formed e =
-        let m = met (all_parts p.env (expr_and x xs)) (λ os. Rattle.go_tree.specs.GoTypes.Operands.takes_all (defined_in p.env) c.results (Rattle.go_tree.specs.GoTypes.Operands.spread os)) e in
+        let m = met (all_parts p.env (expr_and x xs)) (λ os. Rattle.go_rules.specs.GoTypes.Operands.takes_all (defined_in p.env) c.results (Rattle.go_rules.specs.GoTypes.Operands.spread os)) e in
         let r = from_both (parts p.env x) (all_parts p.env xs) (λ o os. Some (o ∷ os)) m.0 m.1 in
         joined (expr_seen (record p { slot = comma_slot p.slot xs }) (head_use us) x) (all_seen p (later_uses us) xs) (expr_stands (record p { slot = comma_slot p.slot xs }) known (head_use us) x r.0 formed.1 r.2) (all_stand p known (later_uses us) xs r.1 formed.2 r.3)
 
@@ -468,7 +468,7 @@ module _ {S B : Type 0} (to : S → B) (top : Env) where
     pub cases_stand : (p : Place S) (known : N p) (c : Ctx) (tag : Typed) (x : Cases S) (r : Clauses) → FormedCases (cases_with to x) → clauses c p.env tag x ≡ Some r → Stand (cases_seen p x)
     cases_stand p known c tag no_cases r formed h = tt
     cases_stand p known c tag (case s es b cs) r formed h =
-        let last : (List Typed → Bool → Clauses → Option Clauses) = (λ vs ends r. Some (record { consts = Rattle.go_tree.specs.GoTypes.Statements.case_constants vs ++ r.consts; defaults = Rattle.go_tree.specs.GoTypes.Statements.is_default es + r.defaults; ends = (ends && not (Rattle.go_tree.specs.GoTypes.Jumps.breaks_in false None b)) && r.ends })) in
+        let last : (List Typed → Bool → Clauses → Option Clauses) = (λ vs ends r. Some (record { consts = Rattle.go_rules.specs.GoTypes.Statements.case_constants vs ++ r.consts; defaults = Rattle.go_rules.specs.GoTypes.Statements.is_default es + r.defaults; ends = (ends && not (Rattle.go_rules.specs.GoTypes.Jumps.breaks_in false None b)) && r.ends })) in
         let k2 : (List Typed → Option Clauses) = (λ vs. only_if (list_all (case_value (defined_in p.env) tag) vs) (both (stmts c (in_block p.env) false b) (clauses c p.env tag cs) (last vs))) in
         let f = from_given (all_parts p.env es) (λ os. given (all_typed os) k2) r h in
         let g = from_given (all_typed f.0) k2 r f.2 in
@@ -513,6 +513,6 @@ module _ {S B : Type 0} (to : S → B) (top : Env) where
     pub values_stand : (p : Place S) (known : N p) (us : List Use) (n : ℕ) (es : Exprs S) → FormedExprs (exprs_with to es) → (no_values es ≡ false → is_some (right_values p.env n (places p.env es) (all_parts p.env es)) ≡ true) → Stand (all_seen p us es)
     values_stand p known us n no_exprs formed h = tt
     values_stand p known us n (expr_and x xs) formed h =
-        let m = known_values (all_parts p.env (expr_and x xs)) (Rattle.go_tree.specs.GoTypes.Statements.assigned_values (defined_in p.env) n (places p.env (expr_and x xs))) (h refl) in
+        let m = known_values (all_parts p.env (expr_and x xs)) (Rattle.go_rules.specs.GoTypes.Statements.assigned_values (defined_in p.env) n (places p.env (expr_and x xs))) (h refl) in
         let r = from_both (parts p.env x) (all_parts p.env xs) (λ o os. Some (o ∷ os)) m.0 m.1 in
         joined (expr_seen (record p { slot = comma_slot p.slot xs }) (head_use us) x) (all_seen p (later_uses us) xs) (expr_stands (record p { slot = comma_slot p.slot xs }) known (head_use us) x r.0 formed.1 r.2) (all_stand p known (later_uses us) xs r.1 formed.2 r.3)

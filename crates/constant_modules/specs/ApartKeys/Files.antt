@@ -3,10 +3,10 @@
 use Rattle.std.specs.Prelude.{◌≡◌, ℕ, Bool, true, false, not, ◌&&◌, ◌||◌, List, Some, is_some, slice_get}
 use Rattle.std.specs.List.{list_all}
 use Rattle.go_tree.specs.File.{ImportSpec, Decl, File}
-use Rattle.go_tree.specs.GoTypes.Agreement.{In}
-use Rattle.go_tree.specs.GoTypes.Answers.{is_among}
-use Rattle.go_tree.specs.GoTypes.Entities.{universe}
-use Rattle.go_tree.specs.ScopeNames.Means.{means, is_blank}
+use Rattle.go_rules.specs.GoTypes.Agreement.{In}
+use Rattle.go_rules.specs.GoTypes.Answers.{is_among}
+use Rattle.go_rules.specs.GoTypes.Entities.{universe}
+use Rattle.go_rules.specs.ScopeNames.Means.{means, is_blank}
 use Rattle.pkg_graph.specs.Package.{Package, import_specs}
 use Rattle.pkg_graph.specs.Members.{import_name}
 use Rattle.run_rules.specs.Sites.{Where}

@@ -10,7 +10,7 @@ use Rattle.go_tree.specs.Tree.{stmt_and, StmtOption, no_stmt, some_stmt, BlockOp
 use Rattle.go_tree.specs.Tree.{nothing, assigns, defines, Arms, no_arms, arm, Cases, no_cases, case, ValueSpecs}
 use Rattle.go_tree.specs.Tree.{no_specs, spec}
 use Rattle.go_tree.specs.File.{Decl, values, types, func}
-use Rattle.go_tree.specs.GoTypes.Literals.{field_key}
+use Rattle.go_rules.specs.GoTypes.Literals.{field_key}
 
 -- a key that is an identifier
 abbrev pub named_key : Option (List ℕ) → List (List ℕ)

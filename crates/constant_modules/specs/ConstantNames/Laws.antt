@@ -3,19 +3,19 @@
 -- block; Qualified identifiers).
 use Rattle.std.specs.Prelude.{◌≡◌, ℕ, Bool, true, false, List, [], Some, None, slice_get}
 use Rattle.std.specs.List.{list_all}
-use Rattle.go_tree.specs.declared.const_eval.consts.Const.{Const}
+use Rattle.go_rules.specs.declared.const_eval.consts.Const.{Const}
 use Rattle.go_tree.specs.declared.spans.Span.{Span}
 use Rattle.go_tree.specs.GoWords.Tokens.Characters.{each}
 use Rattle.go_tree.specs.Tree.{Expr, const_decl, ValueSpecs}
 use Rattle.go_tree.specs.File.{values}
-use Rattle.go_tree.specs.ScopeNames.Means.{means, is_blank}
+use Rattle.go_rules.specs.ScopeNames.Means.{means, is_blank}
 use Rattle.pkg_graph.specs.Package.{Package}
 use Rattle.pkg_graph.specs.Reads.{Source}
 use Rattle.pkg_graph.specs.Members.{member}
-use Rattle.go_tree.specs.GoTypes.Types.{GoType}
-use Rattle.go_tree.specs.GoTypes.Entities.{World, constant, block_of}
-use Rattle.go_tree.specs.GoTypes.Programs.{SourceFile, SourcePackage, Program, file_block}
-use Rattle.go_tree.specs.GoTypes.Collect.{file_env}
+use Rattle.go_rules.specs.GoTypes.Types.{GoType}
+use Rattle.go_rules.specs.GoTypes.Entities.{World, constant, block_of}
+use Rattle.go_rules.specs.GoTypes.Programs.{SourceFile, SourcePackage, Program, file_block}
+use Rattle.go_rules.specs.GoTypes.Collect.{file_env}
 use Rattle.go_translation.specs.SameMeaning.{WellTyped}
 use Rattle.splice_laws.specs.ImportSplices.AddedFile.{is_byte}
 use Rattle.typed_in_place.specs.Declared.{ConstantOrRefused}

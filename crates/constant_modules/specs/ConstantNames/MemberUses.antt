@@ -2,10 +2,10 @@
 -- is asked that it means a constant (Go specification, Constant declarations; Iota; Qualified identifiers).
 use Rattle.std.specs.Prelude.{◌≡◌, ℕ, true, false, not, List, [], None}
 use Rattle.go_tree.specs.Tree.{NameAt, Expr}
-use Rattle.go_tree.specs.ScopeNames.Means.{means, is_blank}
+use Rattle.go_rules.specs.ScopeNames.Means.{means, is_blank}
 use Rattle.pkg_graph.specs.Package.{Package}
-use Rattle.go_tree.specs.GoTypes.Entities.{World, block_of}
-use Rattle.go_tree.specs.GoTypes.Programs.{Headed, Program, headed, file_block, is_init}
+use Rattle.go_rules.specs.GoTypes.Entities.{World, block_of}
+use Rattle.go_rules.specs.GoTypes.Programs.{Headed, Program, headed, file_block, is_init}
 use Rattle.typed_in_place.specs.Declared.{FirstWith, HasNumber, ConstantOrRefused}
 use Rattle.typed_in_place.specs.ImportRule.{imports_sound}
 use Rattle.typed_in_place.specs.ProgramReplaced.{ValuesEnd}

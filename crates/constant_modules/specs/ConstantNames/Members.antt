@@ -4,7 +4,7 @@ use Rattle.std.specs.Prelude.{◌≡◌, Bool, true, ℕ, List, Some, slice_get}
 use Rattle.go_tree.specs.Tree.{NameAt, Expr, ident, selector, const_decl, ValueSpecs}
 use Rattle.go_tree.specs.File.{values}
 use Rattle.pkg_graph.specs.Package.{Package}
-use Rattle.go_tree.specs.GoTypes.Entities.{is_exported}
+use Rattle.go_rules.specs.GoTypes.Entities.{is_exported}
 use Rattle.run_rules.specs.Programs.{top_place}
 use Rattle.run_rules.specs.Sites.{MarkRef, Where, a_constant, is_among_marks, where_is, inlinable, qualifier, member_of}
 use Rattle.run_rules.specs.Steps.{At}

@@ -3,10 +3,10 @@
 use Rattle.std.specs.Prelude.{◌≡◌, ℕ, zero, suc, false, List, [], ◌∷◌, Option, None, bytes_eq, slice_get}
 use Rattle.go_tree.specs.Tree.{NameAt, TypeExpr, Expr, Exprs, expr_and, const_decl, ValueSpecs, no_specs, spec}
 use Rattle.go_tree.specs.File.{Decl, values}
-use Rattle.go_tree.specs.ScopeNames.Means.{Environment}
-use Rattle.go_tree.specs.GoTypes.Answers.{given}
-use Rattle.go_tree.specs.GoTypes.Entities.{Entity}
-use Rattle.go_tree.specs.GoTypes.Programs.{Header, constants, Headed}
+use Rattle.go_rules.specs.ScopeNames.Means.{Environment}
+use Rattle.go_rules.specs.GoTypes.Answers.{given}
+use Rattle.go_rules.specs.GoTypes.Entities.{Entity}
+use Rattle.go_rules.specs.GoTypes.Programs.{Header, constants, Headed}
 use Rattle.pkg_graph.specs.Package.{Package}
 use Rattle.run_rules.specs.Sites.{MarkRef, less, where_is}
 use Rattle.typed_in_place.specs.Declared.{FirstWith}

@@ -4,14 +4,14 @@ use Rattle.std.specs.Prelude.{◌≡◌, ℕ, Bool, true, false, List, [], ◌�
 use Rattle.go_tree.specs.declared.spans.Span.{Span}
 use Rattle.go_tree.specs.Tree.{NameAt, TypeExpr, Expr, no_exprs, expr_and}
 use Rattle.go_tree.specs.File.{Decl, File}
-use Rattle.go_tree.specs.ScopeNames.Means.{Environment, means, is_blank}
-use Rattle.go_tree.specs.GoTypes.Entities.{Entity, constant, World, block_of}
-use Rattle.go_tree.specs.GoTypes.Programs.{constants, Headed, SourceFile, SourcePackage, Program, headed, block_names}
-use Rattle.go_tree.specs.GoTypes.Programs.{file_block, env_of}
-use Rattle.go_tree.specs.GoTypes.SingleNames.{has_value_each, with_header, by_names}
-use Rattle.go_tree.specs.GoTypes.Types.{GoType}
-use Rattle.go_tree.specs.GoTypes.Collect.{file_env, types_declared, valued_world, collected}
-use Rattle.go_tree.specs.declared.const_eval.consts.Const.{Const}
+use Rattle.go_rules.specs.ScopeNames.Means.{Environment, means, is_blank}
+use Rattle.go_rules.specs.GoTypes.Entities.{Entity, constant, World, block_of}
+use Rattle.go_rules.specs.GoTypes.Programs.{constants, Headed, SourceFile, SourcePackage, Program, headed, block_names}
+use Rattle.go_rules.specs.GoTypes.Programs.{file_block, env_of}
+use Rattle.go_rules.specs.GoTypes.SingleNames.{has_value_each, with_header, by_names}
+use Rattle.go_rules.specs.GoTypes.Types.{GoType}
+use Rattle.go_rules.specs.GoTypes.Collect.{file_env, types_declared, valued_world, collected}
+use Rattle.go_rules.specs.declared.const_eval.consts.Const.{Const}
 use Rattle.pkg_graph.specs.Package.{Package}
 use Rattle.pkg_graph.specs.Members.{member}
 use Rattle.run_rules.specs.Rewriting.{Changes}

@@ -4,7 +4,7 @@ use Rattle.std.specs.Prelude.{◌≡◌, ◌+◌, ◌≤◌, ℕ, true, false, L
 use Rattle.std.specs.List.{list_any}
 use Rattle.go_tree.specs.File.{ImportSpec}
 use Rattle.go_tree.specs.Tree.{Expr}
-use Rattle.go_tree.specs.ScopeNames.Means.{is_blank}
+use Rattle.go_rules.specs.ScopeNames.Means.{is_blank}
 use Rattle.go_translation.specs.SameMeaning.{WellTyped}
 use Rattle.pkg_graph.specs.Package.{import_specs}
 use Rattle.pkg_graph.specs.Members.{import_name}

@@ -4,11 +4,11 @@
 use Rattle.std.specs.Prelude.{◌≡◌, ◌⊎◌, ℕ, false, List, [], ◌++◌, map, Some, None, slice_get}
 use Rattle.go_tree.specs.Tree.{const_decl, var_decl, ValueSpecs, no_specs, spec}
 use Rattle.go_tree.specs.File.{Decl, values, types, func}
-use Rattle.go_tree.specs.ScopeNames.FreeNames.{free_type_option, free_params}
-use Rattle.go_tree.specs.ScopeNames.Means.{means}
-use Rattle.go_tree.specs.GoTypes.Answers.{is_among}
-use Rattle.go_tree.specs.GoTypes.Entities.{universe}
-use Rattle.go_tree.specs.GoTypes.Programs.{SourceFile, block_names}
+use Rattle.go_rules.specs.ScopeNames.FreeNames.{free_type_option, free_params}
+use Rattle.go_rules.specs.ScopeNames.Means.{means}
+use Rattle.go_rules.specs.GoTypes.Answers.{is_among}
+use Rattle.go_rules.specs.GoTypes.Entities.{universe}
+use Rattle.go_rules.specs.GoTypes.Programs.{SourceFile, block_names}
 use Rattle.go_translation.specs.Packages.{Package}
 use Rattle.order_runs.specs.CycleRuns.ImportCycles.LookedUp.{types_looked_up, receiver_looked_up, names_around}
 use Rattle.order_runs.specs.ImportCodes.PackagesMoved.{imported_as}

@@ -2,9 +2,9 @@
 -- function of this crate (Go specification, Import declarations; Composite literals; Declarations and scope).
 use Rattle.std.specs.Prelude.{◌≡◌, ℕ, true, List}
 use Rattle.go_tree.specs.declared.spans.Span.{Span}
-use Rattle.go_tree.specs.GoTypes.Programs.{headed}
-use Rattle.go_tree.specs.GoTypes.Collect.{collected}
-use Rattle.go_tree.specs.GoTypes.WellTyped.{is_used_in}
+use Rattle.go_rules.specs.GoTypes.Programs.{headed}
+use Rattle.go_rules.specs.GoTypes.Collect.{collected}
+use Rattle.go_rules.specs.GoTypes.WellTyped.{is_used_in}
 use Rattle.typed_in_place.specs.ImportRule.{declarations_ok}
 use Rattle.go_translation.specs.Packages.{Package, sources, are_distinct, codes_of}
 use Rattle.constant_modules.specs.KeyedImports.Keyed.{PackagesKeyed}

@@ -3,8 +3,8 @@
 use Rattle.std.specs.Prelude.{◌≡◌, ◌⊎◌, ℕ, true, false, List, [], Some, Contains, slice_get}
 use Rattle.std.specs.List.{list_any}
 use Rattle.go_tree.specs.File.{ImportSpec, Decl, File}
-use Rattle.go_tree.specs.GoTypes.Agreement.{In}
-use Rattle.go_tree.specs.ScopeNames.Means.{is_blank}
+use Rattle.go_rules.specs.GoTypes.Agreement.{In}
+use Rattle.go_rules.specs.ScopeNames.Means.{is_blank}
 use Rattle.go_translation.specs.SameMeaning.{WellTyped}
 use Rattle.pkg_graph.specs.Package.{Package, import_specs}
 use Rattle.pkg_graph.specs.Members.{import_name}

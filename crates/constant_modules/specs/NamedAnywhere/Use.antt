@@ -5,11 +5,11 @@ use Rattle.std.specs.Prelude.{◌≡◌, true, ℕ, Bool, List, [], ◌++◌, ma
 use Rattle.go_tree.specs.Tree.{NameAt, Expr, const_decl, ValueSpecs}
 use Rattle.go_tree.specs.File.{Decl, values}
 use Rattle.pkg_graph.specs.Package.{Package}
-use Rattle.go_tree.specs.GoTypes.Answers.{is_among}
-use Rattle.go_tree.specs.GoTypes.Entities.{World, Env}
-use Rattle.go_tree.specs.GoTypes.Programs.{Program, block_names, file_block, headed}
-use Rattle.go_tree.specs.GoTypes.Collect.{file_env, collected}
-use Rattle.go_tree.specs.GoTypes.WellTyped.{is_used_in}
+use Rattle.go_rules.specs.GoTypes.Answers.{is_among}
+use Rattle.go_rules.specs.GoTypes.Entities.{World, Env}
+use Rattle.go_rules.specs.GoTypes.Programs.{Program, block_names, file_block, headed}
+use Rattle.go_rules.specs.GoTypes.Collect.{file_env, collected}
+use Rattle.go_rules.specs.GoTypes.WellTyped.{is_used_in}
 use Rattle.typed_in_place.specs.ImportRule.{import_names}
 use Rattle.typed_in_place.specs.ProgramReplaced.{ValuesEnd}
 use Rattle.run_rules.specs.FormTrees.{FormKind, as_expr}

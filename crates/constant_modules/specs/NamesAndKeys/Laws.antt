@@ -4,25 +4,25 @@ use Rattle.std.specs.Prelude.{◌≡◌, ℕ, Bool, true, false, List, [], Some,
 use Rattle.std.specs.List.{list_any}
 use Rattle.go_kernel.specs.Kernel.{ImportPath}
 use Rattle.go_tree.specs.declared.spans.Span.{Span}
-use Rattle.go_tree.specs.ScopeNames.Means.{Environment}
+use Rattle.go_rules.specs.ScopeNames.Means.{Environment}
 use Rattle.go_tree.specs.File.{Func}
 use Rattle.go_tree.specs.Tree.{Expr, Exprs, Stmts}
-use Rattle.go_tree.specs.GoTypes.Agreement.{Agrees, with_names}
-use Rattle.go_tree.specs.GoTypes.Entities.{Entity, Env, World}
-use Rattle.go_tree.specs.GoTypes.Programs.{Headed, a_func}
-use Rattle.go_tree.specs.GoTypes.Statements.{Ctx}
-use Rattle.go_tree.specs.GoTypes.Typing.{parts, all_parts, used_stmts, stmts}
+use Rattle.go_rules.specs.GoTypes.Agreement.{Agrees, with_names}
+use Rattle.go_rules.specs.GoTypes.Entities.{Entity, Env, World}
+use Rattle.go_rules.specs.GoTypes.Programs.{Headed, a_func}
+use Rattle.go_rules.specs.GoTypes.Statements.{Ctx}
+use Rattle.go_rules.specs.GoTypes.Typing.{parts, all_parts, used_stmts, stmts}
 use Rattle.go_translation.specs.Agreement.{AgreesHere, at_names}
 use Rattle.go_translation.specs.Here.{Here, Location}
 use Rattle.go_translation.specs.Packages.{func_code}
 use Rattle.go_translation.specs.Translation.{stmts_term}
-use Rattle.go_tree.specs.GoTypes.Collect.{DeclaredTypes, env_of}
-use Rattle.go_tree.specs.GoTypes.MethodDeclarations.{MethodName}
-use Rattle.go_tree.specs.GoTypes.WellTyped.{body_env, function_ok, header_ok}
+use Rattle.go_rules.specs.GoTypes.Collect.{DeclaredTypes, env_of}
+use Rattle.go_rules.specs.GoTypes.MethodDeclarations.{MethodName}
+use Rattle.go_rules.specs.GoTypes.WellTyped.{body_env, function_ok, header_ok}
 use Rattle.order_runs.specs.CycleRuns.ImportCycles.LookedUp.{names_around}
 use Rattle.typed_in_place.specs.ImportsMoved.{under_imports, file_names, Moved}
 use Rattle.go_tree.specs.File.{ImportSpec, Decl}
-use Rattle.go_tree.specs.ScopeNames.Means.{is_blank}
+use Rattle.go_rules.specs.ScopeNames.Means.{is_blank}
 use Rattle.go_translation.specs.SameMeaning.{WellTyped}
 use Rattle.constant_steps.specs.FormImports.ImportLaws.Steps.{used_after, removed_specs}
 use Rattle.order_runs.specs.CycleRuns.OrderCycles.Orders.{AllOrdered}

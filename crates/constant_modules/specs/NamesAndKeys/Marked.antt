@@ -10,12 +10,12 @@ use Rattle.go_tree.specs.Tree.{return_, break_, continue_, inner, if_, for_, ran
 use Rattle.go_tree.specs.Tree.{no_stmts, stmt_and, StmtOption, no_stmt, some_stmt, BlockOption, no_block, some_block}
 use Rattle.go_tree.specs.Tree.{RangeLeft, nothing, assigns, defines, Arms, no_arms, arm, Cases, no_cases, case}
 use Rattle.go_tree.specs.Tree.{ValueSpecs, no_specs, spec}
-use Rattle.go_tree.specs.ScopeNames.FreeNames.{names_of, declared, declared_option, arms_declared, defined}
-use Rattle.go_tree.specs.ScopeNames.FreeNames.{named_use, sig_names}
-use Rattle.go_tree.specs.ScopeNames.Means.{Environment, means}
-use Rattle.go_tree.specs.GoTypes.Answers.{is_among}
-use Rattle.go_tree.specs.GoTypes.Entities.{Entity, package_name, refused, Env}
-use Rattle.go_tree.specs.GoTypes.Agreement.{Same}
+use Rattle.go_rules.specs.ScopeNames.FreeNames.{names_of, declared, declared_option, arms_declared, defined}
+use Rattle.go_rules.specs.ScopeNames.FreeNames.{named_use, sig_names}
+use Rattle.go_rules.specs.ScopeNames.Means.{Environment, means}
+use Rattle.go_rules.specs.GoTypes.Answers.{is_among}
+use Rattle.go_rules.specs.GoTypes.Entities.{Entity, package_name, refused, Env}
+use Rattle.go_rules.specs.GoTypes.Agreement.{Same}
 use Rattle.go_translation.specs.Agreement.{SameVariable}
 use Rattle.go_translation.specs.Here.{Location, Here}
 

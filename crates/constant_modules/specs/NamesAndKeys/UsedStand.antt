@@ -1,7 +1,7 @@
 -- Where names that typing counts as used stand: at a part where nothing declares them, or as the name of a type alone
 -- (Go specification, Composite literals; Types; Declarations and scope). A key that names a field is neither.
 use Rattle.std.specs.Prelude.{ℕ, List, [], ◌⊎◌}
-use Rattle.go_tree.specs.GoTypes.Agreement.{In}
+use Rattle.go_rules.specs.GoTypes.Agreement.{In}
 use Rattle.run_rules.specs.Sites.{named_in}
 use Rattle.run_rules.specs.Surroundings.{Seen, seen, seen_type, seen_stmt}
 use Rattle.constant_modules.specs.LookUps.Beside.{names_over, type_alone, StandsAt}

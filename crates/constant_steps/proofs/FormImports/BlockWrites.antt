@@ -3,13 +3,13 @@ use Rattle.std.proofs.Common.{◌≡◌, refl, ℕ, Bool, true, false, not, ◌|
 use Rattle.std.specs.List.{list_any}
 use Rattle.go_tree.specs.Tree.{NameAt, TypeExpr, Expr, ident, Stmt, define, assign, Stmts, stmt_and}
 use Rattle.go_tree.specs.File.{func}
-use Rattle.go_tree.specs.ScopeNames.Binders.{func_binders}
-use Rattle.go_tree.specs.ScopeNames.FreeNames.{name_then, names_of}
-use Rattle.go_tree.specs.ScopeNames.Identifiers.{expr_identifiers, exprs_identifiers, stmt_identifiers, stmts_identifiers, decl_identifiers}
-use Rattle.go_tree.specs.ScopeNames.Means.{is_blank}
-use Rattle.go_tree.specs.ScopeNames.Scopes as scopes
+use Rattle.go_rules.specs.ScopeNames.Binders.{func_binders}
+use Rattle.go_rules.specs.ScopeNames.FreeNames.{name_then, names_of}
+use Rattle.go_rules.specs.ScopeNames.Identifiers.{expr_identifiers, exprs_identifiers, stmt_identifiers, stmts_identifiers, decl_identifiers}
+use Rattle.go_rules.specs.ScopeNames.Means.{is_blank}
+use Rattle.go_rules.specs.ScopeNames.Scopes as scopes
 use Rattle.pkg_graph.specs.Package.{Package}
-use Rattle.go_tree.specs.GoTypes.Answers.{is_among}
+use Rattle.go_rules.specs.GoTypes.Answers.{is_among}
 use Rattle.run_rules.specs.Surroundings.{Use, whole, stored, other, alike, every_use, right_uses, head_use, later_uses, comma_slot, at_stmt, after_stmt, Place, Seen, seen, seen_type, seen_stmt, is_local}
 use Rattle.run_rules.specs.Places.{old_seen, expr_seen, all_seen, stmt_seen, stmts_seen}
 use Rattle.run_rules.specs.Sites.{named_in}

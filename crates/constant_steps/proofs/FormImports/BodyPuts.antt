@@ -5,14 +5,14 @@ use Rattle.std.proofs.lemmas.Bool.{or_left, and_parts, not-true}
 use Rattle.std.proofs.lemmas.Slice.Eq.{bytes_eq-Decides}
 use Rattle.std.specs.List.{list_any}
 use Rattle.go_tree.specs.Tree.{NameAt, TypeExpr, named, pointer, slice_type, map_type, struct_type, Expr, ident, int_lit, rune_lit, str_lit, composite, selector, index, slice, call, func_lit, type_operand, unary, binary, star, plain}
-use Rattle.go_tree.specs.ScopeNames.FreeNames.{names_of}
-use Rattle.go_tree.specs.ScopeNames.Means.{means}
-use Rattle.go_tree.specs.ScopeNames.Identifiers.{type_identifiers, expr_identifiers}
+use Rattle.go_rules.specs.ScopeNames.FreeNames.{names_of}
+use Rattle.go_rules.specs.ScopeNames.Means.{means}
+use Rattle.go_rules.specs.ScopeNames.Identifiers.{type_identifiers, expr_identifiers}
 use Rattle.pkg_graph.specs.Package.{Package}
 use Rattle.pkg_graph.specs.Members.{Target, local, imported, member, predeclared}
 use Rattle.param_choice.specs.Chosen.{has}
-use Rattle.go_tree.specs.GoTypes.Answers.{given, meets, is_among}
-use Rattle.go_tree.specs.GoTypes.Literals.{field_key}
+use Rattle.go_rules.specs.GoTypes.Answers.{given, meets, is_among}
+use Rattle.go_rules.specs.GoTypes.Literals.{field_key}
 use Rattle.run_rules.specs.Surroundings.{Use, other, called, Slot, inner_slot, last_slot, in_slot, callee_place, Place, Seen, seen, seen_type, seen_stmt, declared_at, is_local}
 use Rattle.run_rules.specs.Places.{expr_seen}
 use Rattle.run_rules.specs.Sites.{MarkRef, mark_of, imported_by, import_number, named_in, outer, qualifier}

@@ -4,17 +4,17 @@ use Rattle.std.proofs.Common.{◌≡◌, ◌∙◌, refl, sym, ap, ℕ, suc, Boo
 use Rattle.std.proofs.lemmas.Bool.{or_left}
 use Rattle.std.specs.List.{list_any}
 use Rattle.go_tree.specs.Tree.{NameAt, Param, Sig, TypeExpr, Expr, ident, int_lit, rune_lit, str_lit, composite, selector, index, slice, call, func_lit, type_operand, unary, binary, star, Exprs, no_exprs, expr_and, ExprOption, no_expr, some_expr, Elems, no_elems, elem, Value, plain, braced, ValueOption, no_value, some_value, Stmt, const_decl, var_decl, empty, eval, step, assign, define, return_, break_, continue_, inner, if_, for_, range_, switch, defer, label, Stmts, no_stmts, stmt_and, StmtOption, no_stmt, some_stmt, BlockOption, no_block, some_block, RangeLeft, nothing, assigns, defines, Arms, no_arms, arm, Cases, no_cases, case, ValueSpecs, no_specs, spec}
-use Rattle.go_tree.specs.ScopeNames.Binders.{expr_binders, exprs_binders, expr_option_binders, elems_binders, value_binders, value_option_binders, stmt_binders, stmts_binders, stmt_option_binders, block_option_binders, left_binders, arms_binders, cases_binders, specs_binders}
-use Rattle.go_tree.specs.ScopeNames.Identifiers.{name_option, type_identifiers, type_option_identifiers, params_identifiers, sig_identifiers, expr_identifiers, exprs_identifiers, expr_option_identifiers, elems_identifiers, value_identifiers, value_option_identifiers, stmt_identifiers, stmts_identifiers, stmt_option_identifiers, block_option_identifiers, left_identifiers, arms_identifiers, cases_identifiers, specs_identifiers}
-use Rattle.go_tree.specs.ScopeNames.FreeNames.{name_then, names_of, params_names, sig_names}
-use Rattle.go_tree.specs.ScopeNames.Scopes as scopes
-use Rattle.go_tree.specs.ScopeNames.Scopes.{not_blank, specs_declare, with_name, param_names, sig_declares}
-use Rattle.go_tree.specs.GoTypes.Answers.{meets, otherwise, is_among}
-use Rattle.go_tree.specs.GoTypes.Types.{GoType, FuncType}
-use Rattle.go_tree.specs.GoTypes.TypeNames.{func_type}
-use Rattle.go_tree.specs.GoTypes.Literals.{is_struct, field_key}
-use Rattle.go_tree.specs.GoTypes.Bodies.{labelled}
-use Rattle.go_tree.specs.GoTypes.Declarations.{Repeated, nothing_to_repeat}
+use Rattle.go_rules.specs.ScopeNames.Binders.{expr_binders, exprs_binders, expr_option_binders, elems_binders, value_binders, value_option_binders, stmt_binders, stmts_binders, stmt_option_binders, block_option_binders, left_binders, arms_binders, cases_binders, specs_binders}
+use Rattle.go_rules.specs.ScopeNames.Identifiers.{name_option, type_identifiers, type_option_identifiers, params_identifiers, sig_identifiers, expr_identifiers, exprs_identifiers, expr_option_identifiers, elems_identifiers, value_identifiers, value_option_identifiers, stmt_identifiers, stmts_identifiers, stmt_option_identifiers, block_option_identifiers, left_identifiers, arms_identifiers, cases_identifiers, specs_identifiers}
+use Rattle.go_rules.specs.ScopeNames.FreeNames.{name_then, names_of, params_names, sig_names}
+use Rattle.go_rules.specs.ScopeNames.Scopes as scopes
+use Rattle.go_rules.specs.ScopeNames.Scopes.{not_blank, specs_declare, with_name, param_names, sig_declares}
+use Rattle.go_rules.specs.GoTypes.Answers.{meets, otherwise, is_among}
+use Rattle.go_rules.specs.GoTypes.Types.{GoType, FuncType}
+use Rattle.go_rules.specs.GoTypes.TypeNames.{func_type}
+use Rattle.go_rules.specs.GoTypes.Literals.{is_struct, field_key}
+use Rattle.go_rules.specs.GoTypes.Bodies.{labelled}
+use Rattle.go_rules.specs.GoTypes.Declarations.{Repeated, nothing_to_repeat}
 use Rattle.form_meaning.proofs.FormInPlace.Uses.{among_append}
 use Rattle.run_rules.specs.Surroundings.{Use, updated, deferred_call, alone, other, a_slot, Place, Seen, seen, seen_type, seen_stmt, block, looping, switching, in_heading, at_stmt, plain_slot, ranged, in_literal, repeated_by, in_constant, after_stmt, after_first, after_constants, before_repeats, after_variables, first_declares, left_declares}
 use Rattle.run_rules.specs.Places.{written_seen, params_seen, sig_seen, after_arms, expr_seen, all_seen, option_seen, elems_seen, key_seen, value_seen, stmt_seen, stmts_seen, first_seen, block_seen, left_seen, arms_seen, cases_seen, constants_seen, variables_seen}

@@ -2,12 +2,12 @@
 use Rattle.std.proofs.Common.{◌≡◌, ℕ, Bool, false, List, [], ◌∷◌, ◌++◌, Option, Some, None, bytes_eq}
 use Rattle.go_tree.specs.Tree.{NameAt, Param}
 use Rattle.go_tree.specs.File.{Receiver, func}
-use Rattle.go_tree.specs.ScopeNames.Binders.{receiver_names, stmts_binders, func_binders}
-use Rattle.go_tree.specs.ScopeNames.FreeNames.{name_then, names_of, params_names, sig_names}
-use Rattle.go_tree.specs.ScopeNames.Identifiers.{params_identifiers, sig_identifiers, stmts_identifiers, receiver_identifiers, decl_identifiers}
-use Rattle.go_tree.specs.ScopeNames.Scopes.{with_name, param_names}
+use Rattle.go_rules.specs.ScopeNames.Binders.{receiver_names, stmts_binders, func_binders}
+use Rattle.go_rules.specs.ScopeNames.FreeNames.{name_then, names_of, params_names, sig_names}
+use Rattle.go_rules.specs.ScopeNames.Identifiers.{params_identifiers, sig_identifiers, stmts_identifiers, receiver_identifiers, decl_identifiers}
+use Rattle.go_rules.specs.ScopeNames.Scopes.{with_name, param_names}
 use Rattle.pkg_graph.specs.Package.{Package}
-use Rattle.go_tree.specs.GoTypes.Answers.{is_among}
+use Rattle.go_rules.specs.GoTypes.Answers.{is_among}
 use Rattle.run_rules.specs.Programs.{world, headed_func, with_receiver, params_of}
 use Rattle.run_rules.specs.Calls.{Given, Call, start_with, all_params, args, given_params, bound_params}
 use Rattle.run_rules.specs.Naming.{Names}

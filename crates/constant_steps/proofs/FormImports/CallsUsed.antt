@@ -2,14 +2,14 @@
 use Rattle.std.proofs.Common.{◌≡◌, ◌∙◌, refl, sym, ap, subst, ℕ, ◌+◌, ◌<◌, ◌^◌, Bool, true, false, ◌&&◌, if◌then◌else◌, List, [], ◌++◌, length, Option, Some, None}
 use Rattle.std.proofs.lemmas.Bool.{and_parts}
 use Rattle.go_tree.specs.Tree.{Expr}
-use Rattle.go_tree.specs.declared.scope_names.names.ImportName.{ImportName}
-use Rattle.go_tree.specs.ScopeNames.Binders.{receiver_names, stmts_binders, func_binders}
-use Rattle.go_tree.specs.ScopeNames.FreeNames.{sig_names}
+use Rattle.go_rules.specs.declared.scope_names.names.ImportName.{ImportName}
+use Rattle.go_rules.specs.ScopeNames.Binders.{receiver_names, stmts_binders, func_binders}
+use Rattle.go_rules.specs.ScopeNames.FreeNames.{sig_names}
 use Rattle.pkg_graph.specs.Package.{Package, import_specs}
 use Rattle.pkg_graph.specs.Members.{import_name}
 use Rattle.run_rules.specs.ImportRules.Needs.{avoided}
-use Rattle.go_tree.specs.GoTypes.Answers.{given, meets, is_among}
-use Rattle.go_tree.specs.GoTypes.Types.{GoType}
+use Rattle.go_rules.specs.GoTypes.Answers.{given, meets, is_among}
+use Rattle.go_rules.specs.GoTypes.Types.{GoType}
 use Rattle.run_rules.specs.Surroundings.{Use, into, beside, whole, returned, stored, updated, addressed, called, deferred_call, alone, other, Place, is_local}
 use Rattle.run_rules.specs.Places.{expr_seen}
 use Rattle.run_rules.specs.Sites.{MarkRef, Where, Part, an_expr, Inlinable, named_in}

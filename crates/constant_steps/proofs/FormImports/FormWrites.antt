@@ -6,12 +6,12 @@ use Rattle.std.specs.List.{list_any}
 use Rattle.std.proofs.lemmas.List.Folds.{list_any-append}
 use Rattle.go_tree.specs.Tree.{NameAt, TypeExpr, named, pointer, slice_type, map_type, struct_type, Fields, no_fields, field, Expr, ident, int_lit, rune_lit, str_lit, composite, selector, index, slice, call, func_lit, type_operand, unary, binary, star, Exprs, no_exprs, expr_and, ExprOption, no_expr, some_expr, plain}
 use Rattle.go_tree.specs.GoWords.Terminals.{level_of}
-use Rattle.go_tree.specs.ScopeNames.Identifiers.{type_identifiers, fields_identifiers, expr_identifiers, exprs_identifiers, expr_option_identifiers}
+use Rattle.go_rules.specs.ScopeNames.Identifiers.{type_identifiers, fields_identifiers, expr_identifiers, exprs_identifiers, expr_option_identifiers}
 use Rattle.pkg_graph.specs.Package.{Package}
 use Rattle.pkg_graph.specs.Members.{Target}
-use Rattle.go_tree.specs.GoTypes.Answers.{given, meets, otherwise}
-use Rattle.go_tree.specs.GoTypes.Literals.{field_key}
-use Rattle.go_tree.specs.GoTypes.Typing.{parts, all_parts}
+use Rattle.go_rules.specs.GoTypes.Answers.{given, meets, otherwise}
+use Rattle.go_rules.specs.GoTypes.Literals.{field_key}
+use Rattle.go_rules.specs.GoTypes.Typing.{parts, all_parts}
 use Rattle.run_rules.specs.Surroundings.{Use, other, called, a_slot, inner_slot, last_slot, in_slot, comma_slot, head_use, later_uses, arg_uses, unary_use, operand_use, callee_place, Place, Seen, seen, seen_type, is_local}
 use Rattle.run_rules.specs.Places.{expr_seen, all_seen, option_seen}
 use Rattle.run_rules.specs.Sites.{MarkRef, Where, mark_of, named_in, named_in_fields, outer_meaning, qualifier}

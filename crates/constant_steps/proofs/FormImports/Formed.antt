@@ -3,9 +3,9 @@ use Rattle.std.proofs.Common.{◌≡◌, ◌∙◌, refl, sym, ap, subst, ℕ, B
 use Rattle.std.proofs.lemmas.Bool.{and_parts}
 use Rattle.go_tree.specs.Tree.{NameAt, TypeExpr, Expr}
 use Rattle.go_tree.specs.File.{Func}
-use Rattle.go_tree.specs.ScopeNames.Binders.{func_binders}
+use Rattle.go_rules.specs.ScopeNames.Binders.{func_binders}
 use Rattle.pkg_graph.specs.Package.{Package}
-use Rattle.go_tree.specs.GoTypes.Answers.{given}
+use Rattle.go_rules.specs.GoTypes.Answers.{given}
 use Rattle.run_rules.specs.Surroundings.{other, Seen, seen_type}
 use Rattle.run_rules.specs.Places.{expr_seen}
 use Rattle.run_rules.specs.Sites.{Where, MarkRef, Inlinable, a_constant, an_alias, a_function, an_expr, where_is, inlinable}

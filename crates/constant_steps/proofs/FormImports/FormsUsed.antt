@@ -6,14 +6,14 @@ use Rattle.std.specs.List.{list_any}
 use Rattle.std.proofs.lemmas.List.Folds.{list_any-append}
 use Rattle.go_tree.specs.Tree.{TypeExpr, named, pointer, slice_type, map_type, struct_type, Fields, no_fields, field, Expr, plain}
 use Rattle.go_tree.specs.File.{Receiver, Decl, values, types, func}
-use Rattle.go_tree.specs.declared.scope_names.names.Entity.{Entity}
-use Rattle.go_tree.specs.declared.scope_names.names.Entity.TheVariants.{Import}
-use Rattle.go_tree.specs.ScopeNames.Means.{Environment, means, outermost}
-use Rattle.go_tree.specs.ScopeNames.Scopes.{expr_span}
+use Rattle.go_rules.specs.declared.scope_names.names.Entity.{Entity}
+use Rattle.go_rules.specs.declared.scope_names.names.Entity.TheVariants.{Import}
+use Rattle.go_rules.specs.ScopeNames.Means.{Environment, means, outermost}
+use Rattle.go_rules.specs.ScopeNames.Scopes.{expr_span}
 use Rattle.pkg_graph.specs.Package.{Package}
 use Rattle.run_rules.specs.ImportRules.Unused.{AreUsed}
-use Rattle.go_tree.specs.GoTypes.Answers.{is_among}
-use Rattle.go_tree.specs.GoTypes.Literals.{field_key}
+use Rattle.go_rules.specs.GoTypes.Answers.{is_among}
+use Rattle.go_rules.specs.GoTypes.Literals.{field_key}
 use Rattle.run_rules.specs.Surroundings.{Use, Place, Seen, is_local}
 use Rattle.run_rules.specs.Places.{expr_seen, stmts_seen}
 use Rattle.run_rules.specs.Programs.{top_place, receiver_seen, decl_seen}

@@ -4,16 +4,16 @@ use Rattle.std.proofs.Common.{◌≡◌, refl, ap, subst, ℕ, zero, suc, Bool, 
 use Rattle.go_tree.specs.declared.operators.UnOp.TheVariants.{Address}
 use Rattle.go_tree.specs.Tree.{NameAt, Param, named, pointer, Expr, ident, int_lit, rune_lit, str_lit, composite, selector, index, slice, call, func_lit, type_operand, unary, binary, star, Exprs, no_exprs, expr_and}
 use Rattle.go_tree.specs.File.{Receiver, Func, func}
-use Rattle.go_tree.specs.ScopeNames.Binders.{receiver_names, stmts_binders, func_binders}
-use Rattle.go_tree.specs.ScopeNames.FreeNames.{name_then, params_names, sig_names}
-use Rattle.go_tree.specs.ScopeNames.Identifiers.{name_option, type_identifiers, params_identifiers, sig_identifiers, expr_identifiers, exprs_identifiers, stmts_identifiers, receiver_identifiers, decl_identifiers}
+use Rattle.go_rules.specs.ScopeNames.Binders.{receiver_names, stmts_binders, func_binders}
+use Rattle.go_rules.specs.ScopeNames.FreeNames.{name_then, params_names, sig_names}
+use Rattle.go_rules.specs.ScopeNames.Identifiers.{name_option, type_identifiers, params_identifiers, sig_identifiers, expr_identifiers, exprs_identifiers, stmts_identifiers, receiver_identifiers, decl_identifiers}
 use Rattle.pkg_graph.specs.Package.{Package}
 use Rattle.param_choice.specs.Chosen.{has}
-use Rattle.go_tree.specs.GoTypes.Types.{GoType, base_of}
-use Rattle.go_tree.specs.GoTypes.Answers.{given, otherwise, is_among}
-use Rattle.go_tree.specs.GoTypes.Defined.{Method, methods}
-use Rattle.go_tree.specs.GoTypes.Primary.{find_method}
-use Rattle.go_tree.specs.GoTypes.Entities.{Env, defined_in}
+use Rattle.go_rules.specs.GoTypes.Types.{GoType, base_of}
+use Rattle.go_rules.specs.GoTypes.Answers.{given, otherwise, is_among}
+use Rattle.go_rules.specs.GoTypes.Defined.{Method, methods}
+use Rattle.go_rules.specs.GoTypes.Primary.{find_method}
+use Rattle.go_rules.specs.GoTypes.Entities.{Env, defined_in}
 use Rattle.run_rules.specs.Programs.{numbered_from, with_receiver, params_of, param_types}
 use Rattle.run_rules.specs.Calls.{Given, Call, param_name, givens, list_of, exprs_of, receiver_for, receiver_of, receiver_in, arguments, all_params, spread_call, args, given_params, bound_from, has_receiver}
 use Rattle.run_rules.specs.Classes.{type_at, points}

@@ -2,23 +2,23 @@
 -- there.
 use Rattle.std.proofs.Common.{◌≡◌, ◌∙◌, refl, sym, ap, ℕ, suc, Bool, true, false, not, ◌||◌, if◌then◌else◌, bytes_eq, List, [], ◌∷◌, ◌++◌, Option, Some, None, is_some, arith}
 use Rattle.go_tree.specs.Tree.{NameAt, Param, Sig, TypeExpr, Expr, ident, int_lit, rune_lit, str_lit, composite, selector, index, slice, call, func_lit, type_operand, unary, binary, star, Exprs, ValueSpecs, no_specs, spec, Stmt, const_decl, var_decl, empty, eval, step, assign, define, return_, break_, continue_, inner, if_, for_, range_, switch, defer, label, StmtOption, no_stmt, some_stmt, RangeLeft, nothing, assigns, defines, Arms, no_arms, arm}
-use Rattle.go_tree.specs.ScopeNames.FreeNames.{names_of}
-use Rattle.go_tree.specs.ScopeNames.Means.{is_blank}
-use Rattle.go_tree.specs.ScopeNames.Scopes.{not_blank, specs_declare, with_name, param_names, sig_declares}
-use Rattle.go_tree.specs.ScopeNames.Scopes as scopes
-use Rattle.go_tree.specs.GoTypes.Answers.{is_among}
-use Rattle.go_tree.specs.GoTypes.Types.{FuncType}
-use Rattle.go_tree.specs.GoTypes.Entities.{Env, Binds, extend, in_block}
-use Rattle.go_tree.specs.GoTypes.TypeNames.{func_type}
-use Rattle.go_tree.specs.GoTypes.Bodies.{body_ctx, labelled, literal_env}
-use Rattle.go_tree.specs.GoTypes.Statements.{bound_names}
-use Rattle.go_tree.specs.GoTypes.Declarations.{Repeated}
+use Rattle.go_rules.specs.ScopeNames.FreeNames.{names_of}
+use Rattle.go_rules.specs.ScopeNames.Means.{is_blank}
+use Rattle.go_rules.specs.ScopeNames.Scopes.{not_blank, specs_declare, with_name, param_names, sig_declares}
+use Rattle.go_rules.specs.ScopeNames.Scopes as scopes
+use Rattle.go_rules.specs.GoTypes.Answers.{is_among}
+use Rattle.go_rules.specs.GoTypes.Types.{FuncType}
+use Rattle.go_rules.specs.GoTypes.Entities.{Env, Binds, extend, in_block}
+use Rattle.go_rules.specs.GoTypes.TypeNames.{func_type}
+use Rattle.go_rules.specs.GoTypes.Bodies.{body_ctx, labelled, literal_env}
+use Rattle.go_rules.specs.GoTypes.Statements.{bound_names}
+use Rattle.go_rules.specs.GoTypes.Declarations.{Repeated}
 use Rattle.form_meaning.specs.FormInPlace.Bound.{stmt_binds, first_binds, range_left_binds, literal_binds, variable_binds}
 use Rattle.form_meaning.proofs.FormInPlace.Uses.{among_append, among_left}
 use Rattle.run_rules.specs.Surroundings.{Slot, callee_place, Place, after_stmt, after_first, block, ranged, in_literal, repeated_by, in_heading, after_constants, after_variables, first_declares, left_declares}
 use Rattle.run_rules.specs.Places.{after_arms}
 use Rattle.run_rules.specs.Rewriting.{Changes, new_name, new_names, new_label, new_params, new_sig, new_stmt, new_first, new_left, new_arms, new_constants, new_variables}
-use Rattle.go_tree.specs.GoTypes.Answers.{otherwise}
+use Rattle.go_rules.specs.GoTypes.Answers.{otherwise}
 use Rattle.constant_steps.specs.WrittenLiteral.Within.{Grows}
 use Rattle.constant_steps.specs.WrittenLiteral.Listing.{Listing}
 use Rattle.constant_steps.proofs.WrittenLiteral.ListedHeads.{listing, names_both}

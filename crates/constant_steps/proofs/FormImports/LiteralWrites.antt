@@ -5,14 +5,14 @@ use Rattle.std.specs.List.{list_any}
 use Rattle.go_tree.specs.declared.exprs.Rest.TheVariants.{Plain}
 use Rattle.go_tree.specs.Tree.{NameAt, Param, Sig, TypeExpr, Expr, call, func_lit}
 use Rattle.go_tree.specs.File.{func}
-use Rattle.go_tree.specs.ScopeNames.Binders.{receiver_names, stmts_binders, func_binders}
-use Rattle.go_tree.specs.ScopeNames.FreeNames.{name_then, names_of, sig_names}
-use Rattle.go_tree.specs.ScopeNames.Identifiers.{name_option, type_identifiers, params_identifiers, sig_identifiers, expr_identifiers, exprs_identifiers, stmts_identifiers, decl_identifiers}
-use Rattle.go_tree.specs.ScopeNames.Means.{is_blank}
-use Rattle.go_tree.specs.ScopeNames.Scopes.{not_blank, param_names}
+use Rattle.go_rules.specs.ScopeNames.Binders.{receiver_names, stmts_binders, func_binders}
+use Rattle.go_rules.specs.ScopeNames.FreeNames.{name_then, names_of, sig_names}
+use Rattle.go_rules.specs.ScopeNames.Identifiers.{name_option, type_identifiers, params_identifiers, sig_identifiers, expr_identifiers, exprs_identifiers, stmts_identifiers, decl_identifiers}
+use Rattle.go_rules.specs.ScopeNames.Means.{is_blank}
+use Rattle.go_rules.specs.ScopeNames.Scopes.{not_blank, param_names}
 use Rattle.pkg_graph.specs.Package.{Package}
-use Rattle.go_tree.specs.GoTypes.Answers.{is_among}
-use Rattle.go_tree.specs.GoTypes.Typing.{parts, all_parts}
+use Rattle.go_rules.specs.GoTypes.Answers.{is_among}
+use Rattle.go_rules.specs.GoTypes.Typing.{parts, all_parts}
 use Rattle.run_rules.specs.Surroundings.{Use, called, arg_uses, a_slot, inner_slot, callee_place, in_slot, in_literal, Place, Seen, seen, seen_type, is_local}
 use Rattle.run_rules.specs.Places.{params_seen, sig_seen, expr_seen, all_seen, stmts_seen}
 use Rattle.run_rules.specs.Sites.{named_in}

@@ -3,7 +3,7 @@ use Rattle.std.proofs.Common.{◌≡◌, ◌∙◌, refl, sym, ap, subst, ℕ, B
 use Rattle.std.proofs.lemmas.Bool.{or_left, or_right, eq-eqb}
 use Rattle.pkg_graph.specs.Package.{Package}
 use Rattle.run_rules.specs.ImportRules.Needs.{serving, avoided}
-use Rattle.go_tree.specs.GoTypes.Answers.{meets}
+use Rattle.go_rules.specs.GoTypes.Answers.{meets}
 use Rattle.run_rules.specs.Surroundings.{Place}
 use Rattle.run_rules.specs.Sites.{Where}
 use Rattle.run_rules.specs.Naming.{unnamed_package, new_first, unnamed_in, Named, name_added, names_by, package_path, own_name, names_here, environment_here, added_import, fresh_name, named_package, named_packages}

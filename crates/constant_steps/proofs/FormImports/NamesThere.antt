@@ -4,13 +4,13 @@ use Rattle.std.proofs.lemmas.Bool.{eq-eqb}
 use Rattle.std.proofs.lemmas.Slice.Eq.{bytes_eq-Decides}
 use Rattle.go_tree.specs.Tree.{NameAt}
 use Rattle.go_tree.specs.File.{ImportSpec, ImportDecl, File}
-use Rattle.go_tree.specs.declared.scope_names.names.Entity.{Entity}
-use Rattle.go_tree.specs.declared.scope_names.names.Entity.TheVariants.{Local, Import, Package as Member, Universe}
-use Rattle.go_tree.specs.ScopeNames.FreeNames.{names_of}
-use Rattle.go_tree.specs.ScopeNames.Means.{Environment, means, is_blank, numbered, predeclared, outermost}
+use Rattle.go_rules.specs.declared.scope_names.names.Entity.{Entity}
+use Rattle.go_rules.specs.declared.scope_names.names.Entity.TheVariants.{Local, Import, Package as Member, Universe}
+use Rattle.go_rules.specs.ScopeNames.FreeNames.{names_of}
+use Rattle.go_rules.specs.ScopeNames.Means.{Environment, means, is_blank, numbered, predeclared, outermost}
 use Rattle.pkg_graph.specs.Package.{Package, import_specs, specs_in}
 use Rattle.pkg_graph.specs.Members.{Target, imported, predeclared as predeclared_name, name_or, package_name, import_name, package_block}
-use Rattle.go_tree.specs.GoTypes.Answers.{given, is_among}
+use Rattle.go_rules.specs.GoTypes.Answers.{given, is_among}
 use Rattle.run_rules.specs.Surroundings.{Place, is_local}
 use Rattle.run_rules.specs.Naming.{no_span}
 use Rattle.run_rules.specs.Sites.{Where, imported_by, outer}
@@ -120,7 +120,7 @@ module _ (ps : List (Package At)) (same : At → At → Bool) (w v : Where At) (
       let rest : Environment Entity = numbered Member 0 told.«package» ++ numbered Universe 0 predeclared in
       let behind : Environment Target = package_block v.number v.of ++ numbered predeclared_name 0 predeclared in
       let more_names : List (List ℕ) = map (import_name after) (specs_in more) in
-      let by_specs : map (λ i. i.name) told.imports ≡ own = map_twice _ (λ (i : Rattle.go_tree.specs.declared.scope_names.names.ImportName.ImportName). i.name) (import_specs w.source.tree) in
+      let by_specs : map (λ i. i.name) told.imports ≡ own = map_twice _ (λ (i : Rattle.go_rules.specs.declared.scope_names.names.ImportName.ImportName). i.name) (import_specs w.source.tree) in
       ap (λ env. means env n) (assoc (numbered imported 0 (map (import_name after) (import_specs v.source.tree))) (package_block v.number v.of) (numbered predeclared_name 0 predeclared))
       ∙ ap (λ (f : File At). means (numbered imported 0 (map (import_name after) (import_specs f)) ++ behind) n) is
       ∙ ap (λ ns. means (numbered imported 0 ns ++ behind) n) names_are

@@ -3,9 +3,9 @@ use Rattle.std.proofs.Common.{◌≡◌, refl, ℕ, suc, ◌+◌, ◌<◌, ◌^�
 use Rattle.std.proofs.lemmas.Bool.{and_parts, not-true}
 use Rattle.std.proofs.lemmas.List.{length-append}
 use Rattle.go_tree.specs.GoWords.Tokens.Pieces.{is_among, keyword_spellings}
-use Rattle.go_tree.specs.ScopeNames.Identifiers.{identifiers}
-use Rattle.go_tree.specs.ScopeNames.Means.{predeclared}
-use Rattle.go_tree.specs.ScopeNames.Fresh.{is_new}
+use Rattle.go_rules.specs.ScopeNames.Identifiers.{identifiers}
+use Rattle.go_rules.specs.ScopeNames.Means.{predeclared}
+use Rattle.go_rules.specs.ScopeNames.Fresh.{is_new}
 use Rattle.pkg_graph.specs.Package.{Package}
 use Rattle.run_rules.specs.ImportRules.Needs.{serving, avoided}
 use Rattle.run_rules.proofs.ImportRules.NeededMeans.{serves_of, fresh_passes}

@@ -16,7 +16,7 @@ use Rattle.go_tree.specs.GoWords.Tokens.Pieces.{PieceKind, blanks, remark, token
 use Rattle.splice_laws.proofs.Rises.{piece_size}
 use Rattle.go_read.specs.SpellsSpans.{span_to}
 use Rattle.go_read.specs.SpellsFiles.{SpellsFront, front_rule}
-use Rattle.go_tree.specs.ScopeNames.Means.{is_blank}
+use Rattle.go_rules.specs.ScopeNames.Means.{is_blank}
 use Rattle.run_rules.specs.ImportRules.SettledNames.{IsOwnName}
 use Rattle.pkg_graph.specs.Package.{SourceTree, Package, first_seen, home_of, first_name, package_of, packages_of}
 use Rattle.pkg_graph.specs.Reads.{Source, AreTrees, none, file}

@@ -5,18 +5,18 @@ use Rattle.std.specs.List.{list_any}
 use Rattle.go_tree.specs.declared.spans.Span.{Span}
 use Rattle.go_tree.specs.Tree.{NameAt, TypeExpr, Expr, ident, int_lit, rune_lit, str_lit, composite, selector, index, slice, call, func_lit, type_operand, unary, binary, star}
 use Rattle.go_tree.specs.File.{Decl}
-use Rattle.go_tree.specs.ScopeNames.FreeNames.{names_of}
-use Rattle.go_tree.specs.ScopeNames.Scopes.{expr_span}
+use Rattle.go_rules.specs.ScopeNames.FreeNames.{names_of}
+use Rattle.go_rules.specs.ScopeNames.Scopes.{expr_span}
 use Rattle.run_rules.specs.ImportRules.Removed.{same_span}
 use Rattle.pkg_graph.specs.Package.{SourceTree, Package}
-use Rattle.go_tree.specs.GoTypes.Answers.{given, one_of, is_among}
+use Rattle.go_rules.specs.GoTypes.Answers.{given, one_of, is_among}
 use Rattle.run_rules.specs.Surroundings.{Use, Place, Seen, seen, seen_type, seen_stmt, other, is_local}
 use Rattle.run_rules.specs.Programs.{numbered, numbered_from, in_dependency_order, decl_seen}
 use Rattle.run_rules.specs.Sites.{MarkRef, Where, Part, an_expr, a_type_part, Site, type_span, named_in, mark_of, outer, name_mark, not_function, marked_as, expr_mark, type_mark, site_by, type_sites, site_here, sites_among, decls_sites, files_sites, packages_sites, sites}
 use Rattle.run_rules.specs.Forms.{is_at}
 use Rattle.run_rules.specs.Steps.{At, same_here, Found, found_by, first_found, first_step}
 use Rattle.run_rules.specs.Reduced.{Reduced, becomes, kept, reduced}
-use Rattle.go_tree.specs.ScopeNames.Means.{means}
+use Rattle.go_rules.specs.ScopeNames.Means.{means}
 use Rattle.constant_steps.proofs.FormImports.StatementsListed.{wanted_use, used_so}
 
 -- an identifier means nothing local

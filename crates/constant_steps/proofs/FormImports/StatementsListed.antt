@@ -9,15 +9,15 @@ use Rattle.go_tree.specs.declared.operators.BinOp.{BinOp}
 use Rattle.go_tree.specs.Tree.{NameAt, Param, TypeExpr, Expr, ident, int_lit, rune_lit, str_lit, composite, selector, index, slice, call, func_lit, type_operand, unary, binary, star, Exprs, no_exprs, expr_and, ExprOption, no_expr, some_expr, Elems, no_elems, elem, Value, plain, braced, ValueOption, no_value, some_value, Stmt, const_decl, var_decl, empty, eval, step, assign, define, return_, break_, continue_, inner, if_, for_, range_, switch, defer, label, Stmts, no_stmts, stmt_and, StmtOption, no_stmt, some_stmt, BlockOption, no_block, some_block, RangeLeft, nothing, assigns, defines, Arms, no_arms, arm, Cases, no_cases, case, ValueSpecs, no_specs, spec}
 use Rattle.go_tree.specs.File.{TypeSpec, Receiver, Decl, values, types, func, File}
 use Rattle.pkg_graph.specs.Package.{Package}
-use Rattle.go_tree.specs.GoTypes.Answers.{given, meets}
-use Rattle.go_tree.specs.GoTypes.Types.{GoType, is_untyped}
-use Rattle.go_tree.specs.GoTypes.Entities.{Env, Builtin, Append, Cap, Copy, Delete, Len, Make, New, Panic, Print, Println, Recover, run, exact, shift}
-use Rattle.go_tree.specs.GoTypes.Literals.{is_struct}
-use Rattle.go_tree.specs.GoTypes.Operands.{Operand, value, several, a_type, a_function, a_builtin, recovered, typed}
-use Rattle.go_tree.specs.GoTypes.TypeNames.{type_meant}
-use Rattle.go_tree.specs.GoTypes.Typing.{parts, all_parts}
-use Rattle.go_tree.specs.GoTypes.Statements.{is_blank_name}
-use Rattle.go_tree.specs.GoTypes.Declarations.{Repeated, nothing_to_repeat}
+use Rattle.go_rules.specs.GoTypes.Answers.{given, meets}
+use Rattle.go_rules.specs.GoTypes.Types.{GoType, is_untyped}
+use Rattle.go_rules.specs.GoTypes.Entities.{Env, Builtin, Append, Cap, Copy, Delete, Len, Make, New, Panic, Print, Println, Recover, run, exact, shift}
+use Rattle.go_rules.specs.GoTypes.Literals.{is_struct}
+use Rattle.go_rules.specs.GoTypes.Operands.{Operand, value, several, a_type, a_function, a_builtin, recovered, typed}
+use Rattle.go_rules.specs.GoTypes.TypeNames.{type_meant}
+use Rattle.go_rules.specs.GoTypes.Typing.{parts, all_parts}
+use Rattle.go_rules.specs.GoTypes.Statements.{is_blank_name}
+use Rattle.go_rules.specs.GoTypes.Declarations.{Repeated, nothing_to_repeat}
 use Rattle.run_rules.specs.Surroundings.{Use, whole, stored, updated, called, deferred_call, alone, returned, into, beside, other, a_slot, Place, Seen, seen, seen_type, seen_stmt, alike, into_or, head_use, later_uses, arg_uses, builtin_uses, beside_value, unary_use, is_shift_op, operand_use, first_operand_use, right_uses, every_use, value_use, elem_use, key_use, in_slot, comma_slot, block, at_stmt, plain_slot, after_stmt, is_old}
 use Rattle.run_rules.specs.Places.{written_seen, params_seen, old_seen, after_arms, expr_seen, all_seen, option_seen, elems_seen, key_seen, value_seen, stmt_seen, stmts_seen, first_seen, block_seen, left_seen, arms_seen, cases_seen, constants_seen, variables_seen}
 use Rattle.run_rules.specs.Programs.{top_place, body_place, constants_at_top, variables_at_top, types_at_top, receiver_seen, decl_seen}

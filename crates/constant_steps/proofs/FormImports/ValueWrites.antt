@@ -3,12 +3,12 @@ use Rattle.std.proofs.Common.{◌≡◌, ◌∙◌, refl, sym, ap, subst, ℕ, B
 use Rattle.std.specs.List.{list_any}
 use Rattle.go_tree.specs.Tree.{Param, TypeExpr, Expr, ident, no_exprs, expr_and, const_decl, var_decl, empty, eval, step, assign, define, return_, break_, continue_, inner, if_, for_, range_, switch, defer, label, Stmts, no_stmts, stmt_and, plain}
 use Rattle.go_tree.specs.File.{func}
-use Rattle.go_tree.specs.ScopeNames.Binders.{expr_binders, stmts_binders, func_binders}
-use Rattle.go_tree.specs.ScopeNames.Identifiers.{name_option, type_identifiers, params_identifiers, expr_identifiers, stmts_identifiers, decl_identifiers}
+use Rattle.go_rules.specs.ScopeNames.Binders.{expr_binders, stmts_binders, func_binders}
+use Rattle.go_rules.specs.ScopeNames.Identifiers.{name_option, type_identifiers, params_identifiers, expr_identifiers, stmts_identifiers, decl_identifiers}
 use Rattle.pkg_graph.specs.Package.{Package}
-use Rattle.go_tree.specs.GoTypes.Answers.{given}
-use Rattle.go_tree.specs.GoTypes.Literals.{field_key}
-use Rattle.go_tree.specs.GoTypes.Typing.{parts, all_parts}
+use Rattle.go_rules.specs.GoTypes.Answers.{given}
+use Rattle.go_rules.specs.GoTypes.Literals.{field_key}
+use Rattle.go_rules.specs.GoTypes.Typing.{parts, all_parts}
 use Rattle.run_rules.specs.Surroundings.{Use, called, head_use, arg_uses, a_slot, inner_slot, callee_place, in_slot, Place, Seen, seen, seen_type, is_local}
 use Rattle.run_rules.specs.Places.{expr_seen}
 use Rattle.run_rules.specs.Sites.{named_in}

@@ -6,18 +6,18 @@ use Rattle.std.proofs.lemmas.List.{map-append, reverse-append}
 use Rattle.go_tree.specs.declared.spans.Span.{Span}
 use Rattle.go_tree.specs.Tree.{NameAt}
 use Rattle.go_tree.specs.File.{Decl, File}
-use Rattle.go_tree.specs.declared.scope_names.names.Entity.{Entity}
-use Rattle.go_tree.specs.declared.scope_names.names.Entity.TheVariants.{Local, Import, Package, Universe}
-use Rattle.go_tree.specs.declared.scope_names.names.FileNames.{FileNames}
-use Rattle.go_tree.specs.ScopeNames.Means.{Environment, is_blank, or_else, means, binding, numbered, outermost}
-use Rattle.go_tree.specs.ScopeNames.Means as universe
-use Rattle.go_tree.specs.ScopeNames.Scopes.{Scope, decls_scopes, holds_at, locals_at}
+use Rattle.go_rules.specs.declared.scope_names.names.Entity.{Entity}
+use Rattle.go_rules.specs.declared.scope_names.names.Entity.TheVariants.{Local, Import, Package, Universe}
+use Rattle.go_rules.specs.declared.scope_names.names.FileNames.{FileNames}
+use Rattle.go_rules.specs.ScopeNames.Means.{Environment, is_blank, or_else, means, binding, numbered, outermost}
+use Rattle.go_rules.specs.ScopeNames.Means as universe
+use Rattle.go_rules.specs.ScopeNames.Scopes.{Scope, decls_scopes, holds_at, locals_at}
 use Rattle.scope_tables.specs.Table.{Table, meaning_in, IsTableOf}
 use Rattle.scope_tables.proofs.TableLaws.{turned, first_of, grouped}
 use Rattle.pkg_graph.specs.Package.{SourceTree, import_specs}
 use Rattle.pkg_graph.specs.Package as packages
 use Rattle.pkg_graph.specs.Members.{Target, imported, member, predeclared, import_name, block_names, items_from, decls_from, files_from, package_block}
-use Rattle.go_tree.specs.GoTypes.Answers.{given}
+use Rattle.go_rules.specs.GoTypes.Answers.{given}
 use Rattle.run_rules.specs.Surroundings.{Place, is_local}
 use Rattle.run_rules.specs.Sites.{Where, outer}
 use Rattle.constant_steps.specs.PlaceMeanings.Agreement.{means_local, target_of, AgreesAt}

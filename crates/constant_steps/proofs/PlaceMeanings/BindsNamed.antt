@@ -3,21 +3,21 @@ use Rattle.std.specs.Prelude.{◌≡◌, ℕ, ◌+◌, Bool, true, false, ◌||�
 use Rattle.std.proofs.Common.{sym, ap, ◌∙◌, subst}
 use Rattle.go_tree.specs.Tree.{NameAt, Param, Sig, Stmt, const_decl, var_decl, define, label, ValueSpecs, no_specs, spec}
 use Rattle.go_tree.specs.File.{Receiver, Func}
-use Rattle.go_tree.specs.ScopeNames.Means.{binding, is_blank}
-use Rattle.go_tree.specs.ScopeNames.FreeNames.{names_of, name_then, specs_names, declared, params_names, sig_names}
-use Rattle.go_tree.specs.ScopeNames.Scopes.{with_name, param_names, receiver_declares}
-use Rattle.go_tree.specs.GoTypes.Answers.{given, both, only_if, otherwise, distinct_by, is_among}
-use Rattle.go_tree.specs.GoTypes.Types.{GoType, FuncType, named_type, pointer_to}
-use Rattle.go_tree.specs.GoTypes.Entities.{Entity, World, variable, refused, Env, meaning, Binds, extend, in_block, is_declared_here, defined_in}
-use Rattle.go_tree.specs.GoTypes.TypeNames.{func_type, written_type}
-use Rattle.go_tree.specs.GoTypes.Operands.{Operand, Typed, all_typed}
-use Rattle.go_tree.specs.GoTypes.Statements.{constant_entity, may_declare, names_once, bound_names, Declared, constants_declared, variables_declared, some_declared, bind_all, bind_each, defined_by, assigns_to, variable_entity, param_binding, param_binds, no_values}
-use Rattle.go_tree.specs.GoTypes.Typing.{new_constants, new_variables, new_by_define, binds_or, binds_of, and_then, unused_after, declares, declares_constants, declares_variables, Repeated, nothing_to_repeat, right_values, places, all_parts, used_variables}
-use Rattle.go_tree.specs.GoTypes.Bodies.{body_binds, literal_env}
-use Rattle.go_tree.specs.GoTypes.Programs.{Headed, env_of}
-use Rattle.go_tree.specs.GoTypes.MethodDeclarations.{receiver_type, receiver_binds}
-use Rattle.go_tree.specs.GoTypes.WellTyped.{receiver_of, body_env}
-use Rattle.go_tree.proofs.GoTypes.Agreeing.{from_given, from_both, from_only, some_same, binds_same, declared_as_constants, declared_as_variables, declared_as_some}
+use Rattle.go_rules.specs.ScopeNames.Means.{binding, is_blank}
+use Rattle.go_rules.specs.ScopeNames.FreeNames.{names_of, name_then, specs_names, declared, params_names, sig_names}
+use Rattle.go_rules.specs.ScopeNames.Scopes.{with_name, param_names, receiver_declares}
+use Rattle.go_rules.specs.GoTypes.Answers.{given, both, only_if, otherwise, distinct_by, is_among}
+use Rattle.go_rules.specs.GoTypes.Types.{GoType, FuncType, named_type, pointer_to}
+use Rattle.go_rules.specs.GoTypes.Entities.{Entity, World, variable, refused, Env, meaning, Binds, extend, in_block, is_declared_here, defined_in}
+use Rattle.go_rules.specs.GoTypes.TypeNames.{func_type, written_type}
+use Rattle.go_rules.specs.GoTypes.Operands.{Operand, Typed, all_typed}
+use Rattle.go_rules.specs.GoTypes.Statements.{constant_entity, may_declare, names_once, bound_names, Declared, constants_declared, variables_declared, some_declared, bind_all, bind_each, defined_by, assigns_to, variable_entity, param_binding, param_binds, no_values}
+use Rattle.go_rules.specs.GoTypes.Typing.{new_constants, new_variables, new_by_define, binds_or, binds_of, and_then, unused_after, declares, declares_constants, declares_variables, Repeated, nothing_to_repeat, right_values, places, all_parts, used_variables}
+use Rattle.go_rules.specs.GoTypes.Bodies.{body_binds, literal_env}
+use Rattle.go_rules.specs.GoTypes.Programs.{Headed, env_of}
+use Rattle.go_rules.specs.GoTypes.MethodDeclarations.{receiver_type, receiver_binds}
+use Rattle.go_rules.specs.GoTypes.WellTyped.{receiver_of, body_env}
+use Rattle.go_rules.proofs.GoTypes.Agreeing.{from_given, from_both, from_only, some_same, binds_same, declared_as_constants, declared_as_variables, declared_as_some}
 
 none_some : {A B : Type 0} {x : B} → None ≡ Some x → A
 none_some e = absurd cc

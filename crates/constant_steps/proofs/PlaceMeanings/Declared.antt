@@ -6,10 +6,10 @@ use Rattle.std.specs.Option.{option_map}
 use Rattle.go_tree.specs.declared.spans.Span.{Span}
 use Rattle.go_tree.specs.Tree.{NameAt, const_decl, var_decl, ValueSpecs, no_specs, spec}
 use Rattle.go_tree.specs.File.{TypeSpec, Receiver, Func, Decl, values, types, func, File}
-use Rattle.go_tree.specs.ScopeNames.FreeNames.{names_of}
-use Rattle.go_tree.specs.ScopeNames.Scopes.{Scope, not_blank, param_names, func_declares, scopes_of, exprs_scopes, stmts_scopes, func_scopes, values_scopes, decl_scopes, decls_scopes}
+use Rattle.go_rules.specs.ScopeNames.FreeNames.{names_of}
+use Rattle.go_rules.specs.ScopeNames.Scopes.{Scope, not_blank, param_names, func_declares, scopes_of, exprs_scopes, stmts_scopes, func_scopes, values_scopes, decl_scopes, decls_scopes}
 use Rattle.pkg_graph.specs.Package.{Package}
-use Rattle.go_tree.specs.GoTypes.Answers.{is_among}
+use Rattle.go_rules.specs.GoTypes.Answers.{is_among}
 use Rattle.run_rules.specs.Surroundings.{Place, Seen, alike, value_use, in_constant, is_local}
 use Rattle.run_rules.specs.Places.{written_seen, sig_seen, all_seen, stmts_seen}
 use Rattle.run_rules.specs.Programs.{world, headed_func, params_of, top_place, body_place, constants_at_top, variables_at_top, types_at_top, receiver_seen, func_seen, decl_seen}

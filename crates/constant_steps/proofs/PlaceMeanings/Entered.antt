@@ -2,18 +2,18 @@
 use Rattle.std.proofs.Common.{◌≡◌, ◌≤◌, ◌<◌, ℕ, Bool, true, false, ◌||◌, List, [], ◌++◌, map, length, Option, Some, refl, sym, ap, ◌∙◌, arith}
 use Rattle.go_tree.specs.declared.spans.Span.{Span}
 use Rattle.go_tree.specs.Tree.{NameAt, TypeExpr, Exprs, Stmt, StmtOption, RangeLeft, Arms, ValueSpecs, const_decl, var_decl, empty, eval, step, assign, define, return_, break_, continue_, inner, if_, for_, range_, switch, defer, label, no_stmt, some_stmt, no_arms, arm, no_specs, spec}
-use Rattle.go_tree.specs.ScopeNames.Means.{is_blank}
-use Rattle.go_tree.specs.ScopeNames.FreeNames.{names_of, declared}
-use Rattle.go_tree.specs.ScopeNames.Scopes.{Scope, not_blank, new_names, specs_declare, declares, known_after, range_declares, scopes_of, expr_scopes, exprs_scopes, stmt_scopes, stmts_scopes, stmt_option_scopes, arms_scopes, specs_scopes}
-use Rattle.go_tree.specs.GoTypes.Answers.{is_among}
-use Rattle.go_tree.specs.GoTypes.Entities.{Env, Binds}
-use Rattle.go_tree.specs.GoTypes.Operands.{Typed}
-use Rattle.go_tree.specs.GoTypes.TypeNames.{written_type}
-use Rattle.go_tree.specs.GoTypes.Declarations.{Repeated}
-use Rattle.go_tree.specs.GoTypes.Bodies.{no_values}
-use Rattle.go_tree.specs.GoTypes.Statements.{bound_names}
-use Rattle.go_tree.specs.GoTypes.Typing.{binds_of, right_values}
-use Rattle.go_tree.specs.GoTypes.Typing as typing
+use Rattle.go_rules.specs.ScopeNames.Means.{is_blank}
+use Rattle.go_rules.specs.ScopeNames.FreeNames.{names_of, declared}
+use Rattle.go_rules.specs.ScopeNames.Scopes.{Scope, not_blank, new_names, specs_declare, declares, known_after, range_declares, scopes_of, expr_scopes, exprs_scopes, stmt_scopes, stmts_scopes, stmt_option_scopes, arms_scopes, specs_scopes}
+use Rattle.go_rules.specs.GoTypes.Answers.{is_among}
+use Rattle.go_rules.specs.GoTypes.Entities.{Env, Binds}
+use Rattle.go_rules.specs.GoTypes.Operands.{Typed}
+use Rattle.go_rules.specs.GoTypes.TypeNames.{written_type}
+use Rattle.go_rules.specs.GoTypes.Declarations.{Repeated}
+use Rattle.go_rules.specs.GoTypes.Bodies.{no_values}
+use Rattle.go_rules.specs.GoTypes.Statements.{bound_names}
+use Rattle.go_rules.specs.GoTypes.Typing.{binds_of, right_values}
+use Rattle.go_rules.specs.GoTypes.Typing as typing
 use Rattle.run_rules.specs.Surroundings.{Place, first_declares, left_declares, after_stmt, after_first, after_constants, after_variables, block}
 use Rattle.run_rules.specs.Places.{after_arms}
 use Rattle.run_rules.specs.Respanned.{name_with, expr_with, stmt_with, stmts_with, stmt_option_with, left_with, arms_with}

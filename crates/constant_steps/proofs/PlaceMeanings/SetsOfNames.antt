@@ -5,12 +5,12 @@ use Rattle.std.proofs.lemmas.List.{map-append}
 use Rattle.go_tree.specs.Tree.{NameAt, Param, Sig, Stmt, const_decl, var_decl, empty, eval, step, assign, define, return_, break_, continue_, inner, if_, for_, range_, switch, defer, label, StmtOption, no_stmt, some_stmt, RangeLeft, nothing, assigns, defines, ValueSpecs, no_specs, spec}
 use Rattle.go_tree.specs.File.{Receiver, Func}
 use Rattle.go_tree.specs.GoWords.Tokens.Pieces as words
-use Rattle.go_tree.specs.ScopeNames.Means.{is_blank}
-use Rattle.go_tree.specs.ScopeNames.FreeNames.{names_of, specs_names, declared}
-use Rattle.go_tree.specs.ScopeNames.Scopes.{not_blank, new_names, specs_declare, declares, with_name, param_names, range_declares, sig_declares, receiver_declares, func_declares}
+use Rattle.go_rules.specs.ScopeNames.Means.{is_blank}
+use Rattle.go_rules.specs.ScopeNames.FreeNames.{names_of, specs_names, declared}
+use Rattle.go_rules.specs.ScopeNames.Scopes.{not_blank, new_names, specs_declare, declares, with_name, param_names, range_declares, sig_declares, receiver_declares, func_declares}
 use Rattle.scope_tables.proofs.RowLaws.{same_name}
 use Rattle.pkg_graph.specs.Package.{Package}
-use Rattle.go_tree.specs.GoTypes.Answers.{is_among}
+use Rattle.go_rules.specs.GoTypes.Answers.{is_among}
 use Rattle.run_rules.specs.Surroundings.{first_declares, left_declares}
 use Rattle.run_rules.specs.Programs.{with_receiver, params_of}
 use Rattle.run_rules.specs.Respanned.{name_with, param_with, sig_with, stmt_with, stmt_option_with, left_with, specs_with, receiver_with, func_with}

@@ -5,15 +5,15 @@ use mathlib.Core.Path.{ap, sym, ◌∙◌, subst}
 use Rattle.std.proofs.Common.{arith}
 use Rattle.go_tree.specs.Tree.{NameAt, TypeExpr, Expr, no_exprs, expr_and}
 use Rattle.go_tree.specs.File.{Decl, File}
-use Rattle.go_tree.specs.ScopeNames.Means.{means}
+use Rattle.go_rules.specs.ScopeNames.Means.{means}
 use Rattle.pkg_graph.specs.Package.{Package}
 use Rattle.pkg_graph.specs.Members.{member}
-use Rattle.go_tree.specs.GoTypes.Answers.{given, only_if}
-use Rattle.go_tree.specs.GoTypes.Entities.{World}
-use Rattle.go_tree.specs.GoTypes.Programs.{constants, Headed, SourceFile, SourcePackage, Program, headed, file_block, block_names, is_init}
-use Rattle.go_tree.specs.GoTypes.Collect.{declared_by, types_declared, collected}
-use Rattle.go_tree.specs.GoTypes.WellTyped.{first_import, well_typed}
-use Rattle.go_tree.proofs.GoTypes.Agreeing.{some_same}
+use Rattle.go_rules.specs.GoTypes.Answers.{given, only_if}
+use Rattle.go_rules.specs.GoTypes.Entities.{World}
+use Rattle.go_rules.specs.GoTypes.Programs.{constants, Headed, SourceFile, SourcePackage, Program, headed, file_block, block_names, is_init}
+use Rattle.go_rules.specs.GoTypes.Collect.{declared_by, types_declared, collected}
+use Rattle.go_rules.specs.GoTypes.WellTyped.{first_import, well_typed}
+use Rattle.go_rules.proofs.GoTypes.Agreeing.{some_same}
 use Rattle.typed_in_place.specs.Declared.{HasNumber}
 use Rattle.typed_in_place.specs.ImportRule.{imports_sound, imports_used, files_import, package_imports, declarations_ok, imports_ok}
 use Rattle.typed_in_place.proofs.ImportRule.{well_typed_apart, file_imports}

@@ -6,14 +6,14 @@ use Rattle.std.proofs.Common.{arith}
 use Rattle.std.proofs.lemmas.Slice.Eq.{bytes_eq-Decides}
 use Rattle.go_tree.specs.Tree.{NameAt, Expr, ident, selector}
 use Rattle.go_tree.specs.File.{File, Decl}
-use Rattle.go_tree.specs.ScopeNames.Means.{means, is_blank}
+use Rattle.go_rules.specs.ScopeNames.Means.{means, is_blank}
 use Rattle.pkg_graph.specs.Package.{Package, import_specs}
 use Rattle.pkg_graph.specs.Members.{import_name}
-use Rattle.go_tree.specs.GoTypes.Answers.{is_among}
-use Rattle.go_tree.specs.GoTypes.Programs.{Import, SourcePackage, Program, headed, headed_file, all_headers, file_block, block_names, is_main}
-use Rattle.go_tree.specs.GoTypes.Collect.{collected}
-use Rattle.go_tree.specs.GoTypes.WellTyped.{is_used_in}
-use Rattle.go_tree.proofs.GoTypes.Agreeing.{from_given}
+use Rattle.go_rules.specs.GoTypes.Answers.{is_among}
+use Rattle.go_rules.specs.GoTypes.Programs.{Import, SourcePackage, Program, headed, headed_file, all_headers, file_block, block_names, is_main}
+use Rattle.go_rules.specs.GoTypes.Collect.{collected}
+use Rattle.go_rules.specs.GoTypes.WellTyped.{is_used_in}
+use Rattle.go_rules.proofs.GoTypes.Agreeing.{from_given}
 use Rattle.typed_in_place.specs.ImportRule.{import_names}
 use Rattle.run_rules.specs.Surroundings.{Seen, seen, seen_type, seen_stmt, is_local}
 use Rattle.run_rules.specs.Programs.{linked_file, linked_imports, decl_seen}

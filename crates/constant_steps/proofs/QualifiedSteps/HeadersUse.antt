@@ -5,15 +5,15 @@ use Rattle.std.proofs.Common.{arith}
 use Rattle.std.proofs.lemmas.Slice.Eq.{bytes_eq-Decides}
 use Rattle.go_tree.specs.Tree.{NameAt, TypeExpr, Expr, ident, selector, Exprs, no_exprs, expr_and, Stmts, ValueSpecs}
 use Rattle.go_tree.specs.File.{TypeSpec, Receiver, Func, Decl, func, File}
-use Rattle.go_tree.specs.ScopeNames.Means.{Environment}
-use Rattle.go_tree.specs.ScopeNames.FreeNames.{sig_names, free_params, free_type_option}
+use Rattle.go_rules.specs.ScopeNames.Means.{Environment}
+use Rattle.go_rules.specs.ScopeNames.FreeNames.{sig_names, free_params, free_type_option}
 use Rattle.pkg_graph.specs.Package.{Package}
-use Rattle.go_tree.specs.GoTypes.Answers.{is_among, without}
-use Rattle.go_tree.specs.GoTypes.Entities.{Entity, World, Env}
-use Rattle.go_tree.specs.GoTypes.Typing.{used_all, used_stmts}
-use Rattle.go_tree.specs.GoTypes.Programs.{Header, constants, variables, a_type_spec, a_func, headers, constant_headers, variable_headers, at_member, header_names}
-use Rattle.go_tree.specs.GoTypes.Collect.{file_env}
-use Rattle.go_tree.specs.GoTypes.WellTyped.{header_uses, receiver_names, body_env}
+use Rattle.go_rules.specs.GoTypes.Answers.{is_among, without}
+use Rattle.go_rules.specs.GoTypes.Entities.{Entity, World, Env}
+use Rattle.go_rules.specs.GoTypes.Typing.{used_all, used_stmts}
+use Rattle.go_rules.specs.GoTypes.Programs.{Header, constants, variables, a_type_spec, a_func, headers, constant_headers, variable_headers, at_member, header_names}
+use Rattle.go_rules.specs.GoTypes.Collect.{file_env}
+use Rattle.go_rules.specs.GoTypes.WellTyped.{header_uses, receiver_names, body_env}
 use Rattle.typed_in_place.specs.Replaced.{same_type}
 use Rattle.typed_in_place.specs.SameFacts.{UsedAlike, SameOperand}
 use Rattle.typed_in_place.specs.ProgramsAlike.{OneByOne, no_more, and_more}

@@ -8,7 +8,7 @@ use Rattle.go_tree.specs.Tree.{Expr, ident, int_lit, selector}
 use Rattle.go_tree.specs.File.{Decl, ImportDecl}
 use Rattle.pkg_graph.specs.ModuleFiles.Internal.{passes}
 use Rattle.pkg_graph.specs.Package.{SourceTree, Package}
-use Rattle.go_tree.specs.GoTypes.Programs.{Program}
+use Rattle.go_rules.specs.GoTypes.Programs.{Program}
 use Rattle.run_rules.specs.Surroundings.{whole, in_constant}
 use Rattle.run_rules.specs.Programs.{top_place}
 use Rattle.run_rules.specs.Sites.{MarkRef, Where, Site, an_expr}

@@ -4,8 +4,8 @@ use mathlib.Core.Path.{ap}
 use Rattle.std.proofs.Common.{arith}
 use Rattle.go_tree.specs.declared.spans.Span.{Span}
 use Rattle.go_tree.specs.Tree.{TypeExpr, Expr, ident, selector, Exprs, no_exprs, expr_and}
-use Rattle.go_tree.specs.declared.scope_names.names.Entity.{Entity}
-use Rattle.go_tree.specs.ScopeNames.Means.{Environment}
+use Rattle.go_rules.specs.declared.scope_names.names.Entity.{Entity}
+use Rattle.go_rules.specs.ScopeNames.Means.{Environment}
 use Rattle.run_rules.specs.MarkKind.TheVariants.{Constant}
 use Rattle.run_rules.specs.Verdict.{Verdict}
 use Rattle.run_rules.specs.Verdict.TheVariants.{Good, Bad}

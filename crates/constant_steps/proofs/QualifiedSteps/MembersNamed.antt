@@ -4,14 +4,14 @@ use mathlib.Core.Path.{ap, sym, ◌∙◌, subst}
 use Rattle.std.proofs.Common.{arith}
 use Rattle.go_tree.specs.Tree.{Expr}
 use Rattle.go_tree.specs.File.{ImportSpec}
-use Rattle.go_tree.specs.ScopeNames.Means.{Environment, means, is_blank, numbered, or_else}
+use Rattle.go_rules.specs.ScopeNames.Means.{Environment, means, is_blank, numbered, or_else}
 use Rattle.pkg_graph.specs.Package.{Package, import_specs}
 use Rattle.pkg_graph.specs.Members.{Target, local, imported, member, predeclared, import_name, package_block}
-use Rattle.go_tree.specs.GoTypes.Answers.{given}
-use Rattle.go_tree.specs.GoTypes.Entities.{Entity, universe, World, Env, meaning, block_of, exported, package_of}
-use Rattle.go_tree.specs.GoTypes.Programs.{file_block}
-use Rattle.go_tree.specs.GoTypes.Collect.{file_env}
-use Rattle.go_tree.proofs.GoTypes.Agreeing.{from_given, some_same}
+use Rattle.go_rules.specs.GoTypes.Answers.{given}
+use Rattle.go_rules.specs.GoTypes.Entities.{Entity, universe, World, Env, meaning, block_of, exported, package_of}
+use Rattle.go_rules.specs.GoTypes.Programs.{file_block}
+use Rattle.go_rules.specs.GoTypes.Collect.{file_env}
+use Rattle.go_rules.proofs.GoTypes.Agreeing.{from_given, some_same}
 use Rattle.typed_in_place.specs.Declared.{ConstantOrRefused, a_constant, refused_yet}
 use Rattle.typed_in_place.specs.ImportRule.{imports_sound}
 use Rattle.typed_in_place.specs.Leaves.{plain_name, qualified_name}

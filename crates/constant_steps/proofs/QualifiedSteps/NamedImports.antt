@@ -6,14 +6,14 @@ use Rattle.std.proofs.Common.{arith}
 use Rattle.std.proofs.lemmas.Slice.Eq.{bytes_eq-Decides}
 use Rattle.go_tree.specs.Tree.{Expr, ident, selector}
 use Rattle.go_tree.specs.File.{Decl, File}
-use Rattle.go_tree.specs.ScopeNames.Means.{Environment, means}
+use Rattle.go_rules.specs.ScopeNames.Means.{Environment, means}
 use Rattle.pkg_graph.specs.Package.{Package}
-use Rattle.go_tree.specs.GoTypes.Answers.{is_among}
-use Rattle.go_tree.specs.GoTypes.Entities.{Entity, World, Env}
-use Rattle.go_tree.specs.GoTypes.Programs.{Header, Headed, Import, SourceFile, SourcePackage, Program, headed, file_block, block_names, is_main}
-use Rattle.go_tree.specs.GoTypes.Collect.{file_env, collected}
-use Rattle.go_tree.specs.GoTypes.WellTyped.{is_used_in, well_typed}
-use Rattle.go_tree.proofs.GoTypes.Agreeing.{some_same}
+use Rattle.go_rules.specs.GoTypes.Answers.{is_among}
+use Rattle.go_rules.specs.GoTypes.Entities.{Entity, World, Env}
+use Rattle.go_rules.specs.GoTypes.Programs.{Header, Headed, Import, SourceFile, SourcePackage, Program, headed, file_block, block_names, is_main}
+use Rattle.go_rules.specs.GoTypes.Collect.{file_env, collected}
+use Rattle.go_rules.specs.GoTypes.WellTyped.{is_used_in, well_typed}
+use Rattle.go_rules.proofs.GoTypes.Agreeing.{some_same}
 use Rattle.typed_in_place.specs.ImportRule.{import_names, declarations_ok, imports_ok, package_imports}
 use Rattle.typed_in_place.specs.Leaves.{Names, plain_name, qualified_name}
 use Rattle.typed_in_place.specs.ProgramReplaced.{at_last, InPlaceBeside}

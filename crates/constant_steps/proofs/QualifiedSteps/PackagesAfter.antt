@@ -5,8 +5,8 @@ use Rattle.std.proofs.Common.{arith}
 use Rattle.go_tree.specs.Tree.{NameAt, TypeExpr, Expr, ident, selector, Exprs, no_exprs, expr_and, ValueSpecs}
 use Rattle.go_tree.specs.File.{TypeSpec, Receiver, Decl, File}
 use Rattle.pkg_graph.specs.Package.{Package}
-use Rattle.go_tree.specs.GoTypes.Answers.{given}
-use Rattle.go_tree.specs.GoTypes.Programs.{Header, a_type_spec, SourceFile, SourcePackage, Program, headers, all_headers, constant_headers, variable_headers, header_names, names_in, block_names, at_member}
+use Rattle.go_rules.specs.GoTypes.Answers.{given}
+use Rattle.go_rules.specs.GoTypes.Programs.{Header, a_type_spec, SourceFile, SourcePackage, Program, headers, all_headers, constant_headers, variable_headers, header_names, names_in, block_names, at_member}
 use Rattle.run_rules.specs.Surroundings.{Place, Use, Seen, head_use, alike, value_use, in_constant}
 use Rattle.run_rules.specs.Places.{expr_seen}
 use Rattle.run_rules.specs.Rewriting.{Changes, new_expr, new_all, new_written}

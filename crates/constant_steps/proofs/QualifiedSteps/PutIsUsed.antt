@@ -7,17 +7,17 @@ use Rattle.std.proofs.lemmas.List.Folds.{list_any-append}
 use Rattle.std.proofs.lemmas.Slice.Eq.{bytes_eq-Decides}
 use Rattle.go_tree.specs.Tree.{NameAt, TypeExpr, Expr, ident, int_lit, rune_lit, str_lit, composite, selector, index, slice, call, func_lit, type_operand, unary, binary, star, Exprs, no_exprs, expr_and, ExprOption, no_expr, some_expr, Stmt, const_decl, var_decl, empty, eval, step, assign, define, return_, break_, continue_, inner, if_, for_, range_, switch, defer, label, Stmts, no_stmts, stmt_and, StmtOption, no_stmt, some_stmt, BlockOption, no_block, some_block, RangeLeft, nothing, assigns, defines, Arms, no_arms, arm, Cases, no_cases, case, ValueSpecs, no_specs, spec}
 use Rattle.go_tree.specs.GoWords.Terminals.{level_of}
-use Rattle.go_tree.specs.ScopeNames.FreeNames.{names_of, free_type_option}
-use Rattle.go_tree.specs.ScopeNames.Scopes as scopes
-use Rattle.go_tree.specs.ScopeNames.Scopes.{not_blank}
-use Rattle.go_tree.specs.GoTypes.Answers.{given, is_among, otherwise}
-use Rattle.go_tree.specs.GoTypes.Defined.{under}
-use Rattle.go_tree.specs.GoTypes.Entities.{refused, Env, Binds, extend, in_block, defined_in}
-use Rattle.go_tree.specs.GoTypes.TypeNames.{type_meant}
-use Rattle.go_tree.specs.GoTypes.Statements.{bound_names}
-use Rattle.go_tree.specs.GoTypes.Typing.{parts, all_parts, beyond, used, used_all, used_option, used_left, used_stmt, used_stmts, used_first, used_block, used_range, used_arms, used_cases, used_constants, used_variables, labelled}
-use Rattle.go_tree.specs.GoTypes.Declarations as declarations
-use Rattle.go_tree.specs.GoTypes.Declarations.{Repeated, nothing_to_repeat, bind_each, binds_of}
+use Rattle.go_rules.specs.ScopeNames.FreeNames.{names_of, free_type_option}
+use Rattle.go_rules.specs.ScopeNames.Scopes as scopes
+use Rattle.go_rules.specs.ScopeNames.Scopes.{not_blank}
+use Rattle.go_rules.specs.GoTypes.Answers.{given, is_among, otherwise}
+use Rattle.go_rules.specs.GoTypes.Defined.{under}
+use Rattle.go_rules.specs.GoTypes.Entities.{refused, Env, Binds, extend, in_block, defined_in}
+use Rattle.go_rules.specs.GoTypes.TypeNames.{type_meant}
+use Rattle.go_rules.specs.GoTypes.Statements.{bound_names}
+use Rattle.go_rules.specs.GoTypes.Typing.{parts, all_parts, beyond, used, used_all, used_option, used_left, used_stmt, used_stmts, used_first, used_block, used_range, used_arms, used_cases, used_constants, used_variables, labelled}
+use Rattle.go_rules.specs.GoTypes.Declarations as declarations
+use Rattle.go_rules.specs.GoTypes.Declarations.{Repeated, nothing_to_repeat, bind_each, binds_of}
 use Rattle.form_meaning.specs.FormInPlace.Bound.{stmt_binds, first_binds, range_left_binds, variable_binds}
 use Rattle.form_meaning.proofs.FormInPlace.Uses.{among_append, among_without}
 use Rattle.run_rules.specs.Surroundings.{Use, whole, stored, updated, called, deferred_call, alone, other, Slot, a_slot, Place, Seen, seen, seen_type, seen_stmt, is_local, is_old, alike, head_use, later_uses, arg_uses, unary_use, operand_use, first_operand_use, right_uses, every_use, value_use, return_uses, inner_slot, last_slot, in_slot, callee_place, comma_slot, after_stmt, after_first, block, looping, switching, in_heading, at_stmt, plain_slot, ranged, in_literal, after_variables, in_constant, after_constants, before_repeats, repeated_by, first_declares, left_declares}

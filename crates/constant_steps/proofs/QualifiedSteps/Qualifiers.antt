@@ -4,16 +4,16 @@ use mathlib.Core.Path.{ap, sym, ◌∙◌}
 use Rattle.std.proofs.Common.{arith}
 use Rattle.std.proofs.lemmas.Slice.Eq.{bytes_eq-Decides}
 use Rattle.go_tree.specs.File.{ImportSpec}
-use Rattle.go_tree.specs.declared.scope_names.names.ImportName.{ImportName}
-use Rattle.go_tree.specs.ScopeNames.FreeNames.{names_of}
-use Rattle.go_tree.specs.ScopeNames.Means.{means, outermost}
+use Rattle.go_rules.specs.declared.scope_names.names.ImportName.{ImportName}
+use Rattle.go_rules.specs.ScopeNames.FreeNames.{names_of}
+use Rattle.go_rules.specs.ScopeNames.Means.{means, outermost}
 use Rattle.pkg_graph.specs.Package.{Package, import_specs}
 use Rattle.pkg_graph.specs.Members.{import_name, imported}
 use Rattle.run_rules.specs.ImportRules.Needs.{serving, avoided}
 use Rattle.run_rules.specs.ImportRules.SettledNames.{import_at}
 use Rattle.run_rules.proofs.ImportRules.NeededMeans.{Serves, serves_of}
-use Rattle.go_tree.specs.GoTypes.Answers.{given}
-use Rattle.go_tree.proofs.GoTypes.Agreeing.{from_given, some_same}
+use Rattle.go_rules.specs.GoTypes.Answers.{given}
+use Rattle.go_rules.proofs.GoTypes.Agreeing.{from_given, some_same}
 use Rattle.run_rules.specs.Surroundings.{Place}
 use Rattle.run_rules.specs.Programs.{package_number, number_from}
 use Rattle.run_rules.specs.Sites.{Where, imported_by, outer, import_number, qualifier}

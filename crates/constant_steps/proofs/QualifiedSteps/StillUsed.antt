@@ -6,16 +6,16 @@ use Rattle.std.proofs.Common.{arith}
 use Rattle.std.proofs.lemmas.List.Folds.{list_any-append}
 use Rattle.go_tree.specs.Tree.{Param, TypeExpr, Expr, Exprs, no_exprs, expr_and, Stmts, ValueSpecs}
 use Rattle.go_tree.specs.File.{TypeSpec, Receiver, Func, Decl, File}
-use Rattle.go_tree.specs.ScopeNames.Means.{Environment, is_blank}
-use Rattle.go_tree.specs.ScopeNames.FreeNames.{sig_names, free_params, free_type_option}
+use Rattle.go_rules.specs.ScopeNames.Means.{Environment, is_blank}
+use Rattle.go_rules.specs.ScopeNames.FreeNames.{sig_names, free_params, free_type_option}
 use Rattle.pkg_graph.specs.Package.{Package}
-use Rattle.go_tree.specs.GoTypes.Answers.{is_among, without}
-use Rattle.go_tree.specs.GoTypes.Entities.{Entity, World, Env}
-use Rattle.go_tree.specs.GoTypes.Typing.{used, used_all, used_stmts}
-use Rattle.go_tree.specs.GoTypes.Programs.{Header, constants, variables, a_func, Headed, SourceFile, SourcePackage, Program, headers, all_headers, header_sound, constant_headers, variable_headers, at_member, header_names, names_in, headed, headed_file, headed_files, headed_package, file_block}
-use Rattle.go_tree.specs.GoTypes.Collect.{env_of}
-use Rattle.go_tree.specs.GoTypes.WellTyped.{header_uses, is_used_in, receiver_names, body_env}
-use Rattle.go_tree.proofs.GoTypes.Agreeing.{some_same}
+use Rattle.go_rules.specs.GoTypes.Answers.{is_among, without}
+use Rattle.go_rules.specs.GoTypes.Entities.{Entity, World, Env}
+use Rattle.go_rules.specs.GoTypes.Typing.{used, used_all, used_stmts}
+use Rattle.go_rules.specs.GoTypes.Programs.{Header, constants, variables, a_func, Headed, SourceFile, SourcePackage, Program, headers, all_headers, header_sound, constant_headers, variable_headers, at_member, header_names, names_in, headed, headed_file, headed_files, headed_package, file_block}
+use Rattle.go_rules.specs.GoTypes.Collect.{env_of}
+use Rattle.go_rules.specs.GoTypes.WellTyped.{header_uses, is_used_in, receiver_names, body_env}
+use Rattle.go_rules.proofs.GoTypes.Agreeing.{some_same}
 use Rattle.form_meaning.proofs.FormInPlace.Uses.{among_append, among_without}
 use Rattle.run_rules.specs.Surroundings.{Place, Use, Seen, alike, value_use, in_constant}
 use Rattle.run_rules.specs.Places.{written_seen, all_seen, stmts_seen, params_seen, sig_seen}

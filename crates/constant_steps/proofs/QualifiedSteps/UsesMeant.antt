@@ -2,11 +2,11 @@
 use Rattle.std.specs.Prelude.{◌≡◌, refl, ℕ, true, false, not, List, [], Option, Some, None}
 use mathlib.Core.Path.{ap, sym, ◌∙◌, subst}
 use Rattle.go_tree.specs.Tree.{NameAt, TypeExpr, Expr}
-use Rattle.go_tree.specs.ScopeNames.Means.{means, is_blank}
+use Rattle.go_rules.specs.ScopeNames.Means.{means, is_blank}
 use Rattle.pkg_graph.specs.Package.{Package}
-use Rattle.go_tree.specs.GoTypes.Entities.{Entity, World, Env, block_of}
-use Rattle.go_tree.specs.GoTypes.Programs.{Headed, SourcePackage, Program, headed, file_block, is_init}
-use Rattle.go_tree.specs.GoTypes.Collect.{file_env, env_of}
+use Rattle.go_rules.specs.GoTypes.Entities.{Entity, World, Env, block_of}
+use Rattle.go_rules.specs.GoTypes.Programs.{Headed, SourcePackage, Program, headed, file_block, is_init}
+use Rattle.go_rules.specs.GoTypes.Collect.{file_env, env_of}
 use Rattle.typed_in_place.specs.Declared.{FirstWith, HasNumber, ConstantOrRefused, NamesConstant}
 use Rattle.typed_in_place.specs.Declared as declared
 use Rattle.typed_in_place.specs.ImportRule.{imports_sound}

@@ -2,18 +2,18 @@
 use Rattle.std.specs.Prelude.{◌≡◌, refl, ℕ, suc, ◌+◌, Bool, true, false, ◌&&◌, List, Option, Some, None, if◌then◌else◌}
 use Rattle.go_tree.specs.Tree.{Expr, ident, int_lit, rune_lit, str_lit, composite, selector, index, slice, call, func_lit, type_operand, unary, binary, star, Exprs, no_exprs, expr_and, ExprOption, no_expr, some_expr, Elems, no_elems, elem, Value, plain, braced, ValueOption, no_value, some_value}
 use Rattle.go_tree.specs.GoWords.Terminals.{level_of}
-use Rattle.go_tree.specs.GoTypes.Answers.{given, meets, otherwise}
-use Rattle.go_tree.specs.GoTypes.Types.{GoType}
-use Rattle.go_tree.specs.GoTypes.Defined.{under}
-use Rattle.go_tree.specs.GoTypes.Entities.{Env, defined_in}
-use Rattle.go_tree.specs.GoTypes.TypeNames.{type_meant}
-use Rattle.go_tree.specs.GoTypes.Literals.{is_struct, key_type, inner_type, literal_type}
-use Rattle.go_tree.specs.GoTypes.Typing.{parts, all_parts}
+use Rattle.go_rules.specs.GoTypes.Answers.{given, meets, otherwise}
+use Rattle.go_rules.specs.GoTypes.Types.{GoType}
+use Rattle.go_rules.specs.GoTypes.Defined.{under}
+use Rattle.go_rules.specs.GoTypes.Entities.{Env, defined_in}
+use Rattle.go_rules.specs.GoTypes.TypeNames.{type_meant}
+use Rattle.go_rules.specs.GoTypes.Literals.{is_struct, key_type, inner_type, literal_type}
+use Rattle.go_rules.specs.GoTypes.Typing.{parts, all_parts}
 use Rattle.run_rules.specs.Surroundings.{Use, called, other, a_slot, Place, into_type, head_use, later_uses, arg_uses, unary_use, operand_use, elem_use, key_use, inner_slot, last_slot, in_slot, callee_place, comma_slot, elem_closed, in_literal}
 use Rattle.run_rules.specs.Respanned.{value_with}
 use Rattle.run_rules.specs.Rewriting.{Changes, new_name, new_type, new_sig, new_expr, new_all, new_option, new_elems, new_key, new_value, new_stmts}
 use Rattle.run_rules.specs.Respanned.{expr_with, exprs_with, expr_option_with, elems_with, value_option_with}
-use Rattle.go_tree.specs.GoTypes.Bodiless.{bodiless, all_bodiless, bodiless_option, bodiless_elems, bodiless_value, bodiless_key}
+use Rattle.go_rules.specs.GoTypes.Bodiless.{bodiless, all_bodiless, bodiless_option, bodiless_elems, bodiless_value, bodiless_key}
 use Rattle.typed_in_place.specs.HeaderReplaced.{BodilessAlike, no_more_bodies, bodies_alike}
 use Rattle.constant_steps.specs.StepLaws.Stands.{Asked, stays, is_put, SameExpr, AsOperand, names_a_field, is_operand, ExprStands, ExprsStands, ExprOptionStands, ElemsStands, KeyStands, ValueStands}
 

@@ -2,14 +2,14 @@
 use Rattle.std.specs.Prelude.{◌≡◌, refl, ℕ, Bool, true, false, List, Option, Some, None, if◌then◌else◌}
 use mathlib.Core.Path.{ap, sym, ◌∙◌}
 use Rattle.go_tree.specs.Tree.{NameAt, Expr, ident, selector}
-use Rattle.go_tree.specs.declared.const_eval.consts.Const.{Const}
-use Rattle.go_tree.specs.ScopeNames.Means.{means, is_blank}
+use Rattle.go_rules.specs.declared.const_eval.consts.Const.{Const}
+use Rattle.go_rules.specs.ScopeNames.Means.{means, is_blank}
 use Rattle.pkg_graph.specs.Package.{Package}
-use Rattle.go_tree.specs.GoTypes.Answers.{given, otherwise, is_among}
-use Rattle.go_tree.specs.GoTypes.Types.{GoType}
-use Rattle.go_tree.specs.GoTypes.Entities.{Entity, constant, package_name, World, Env, block_of, package_of}
-use Rattle.go_tree.specs.GoTypes.Bodiless.{bodiless}
-use Rattle.go_tree.specs.GoTypes.Programs.{Headed, Program}
+use Rattle.go_rules.specs.GoTypes.Answers.{given, otherwise, is_among}
+use Rattle.go_rules.specs.GoTypes.Types.{GoType}
+use Rattle.go_rules.specs.GoTypes.Entities.{Entity, constant, package_name, World, Env, block_of, package_of}
+use Rattle.go_rules.specs.GoTypes.Bodiless.{bodiless}
+use Rattle.go_rules.specs.GoTypes.Programs.{Headed, Program}
 use Rattle.typed_in_place.specs.Declared.{RoundsEnd}
 use Rattle.typed_in_place.specs.Leaves.{Names, plain_name, qualified_name}
 use Rattle.typed_in_place.proofs.DeclaredConstants.{NamesConstant, declared_constant_stands}

@@ -2,12 +2,12 @@
 use Rattle.std.specs.Prelude.{◌≡◌, refl, ℕ, zero, suc, Bool, List, [], ◌∷◌, Option, Some, None}
 use Rattle.go_tree.specs.Tree.{TypeExpr, Expr}
 use Rattle.go_tree.specs.File.{TypeSpec, Receiver, Func, Decl, values, types, func, File}
-use Rattle.go_tree.specs.ScopeNames.Means.{Environment}
+use Rattle.go_rules.specs.ScopeNames.Means.{Environment}
 use Rattle.pkg_graph.specs.Package.{Package}
-use Rattle.go_tree.specs.GoTypes.Entities.{Entity, World, Env}
-use Rattle.go_tree.specs.GoTypes.TypeNames.{resolved}
-use Rattle.go_tree.specs.GoTypes.Programs.{Header, SourceFile, Program, headed, block_names, file_block, is_main}
-use Rattle.go_tree.specs.GoTypes.Collect.{file_env}
+use Rattle.go_rules.specs.GoTypes.Entities.{Entity, World, Env}
+use Rattle.go_rules.specs.GoTypes.TypeNames.{resolved}
+use Rattle.go_rules.specs.GoTypes.Programs.{Header, SourceFile, Program, headed, block_names, file_block, is_main}
+use Rattle.go_rules.specs.GoTypes.Collect.{file_env}
 use Rattle.run_rules.specs.Surroundings.{Place}
 use Rattle.run_rules.specs.Rewriting.{Changes}
 use Rattle.run_rules.specs.Programs.{top_place, body_place}

@@ -2,11 +2,11 @@
 use Rattle.std.specs.Prelude.{◌≡◌, refl, ℕ, zero, suc, Bool, true, List, [], ◌∷◌, Option, Some, None}
 use Rattle.go_tree.specs.Tree.{TypeExpr}
 use Rattle.go_tree.specs.File.{Receiver, Func, Decl}
-use Rattle.go_tree.specs.ScopeNames.Means.{Environment}
-use Rattle.go_tree.specs.GoTypes.Entities.{Entity, World, Env}
-use Rattle.go_tree.specs.GoTypes.TypeNames.{resolved}
-use Rattle.go_tree.specs.GoTypes.Programs.{Header, constants, variables, a_type_spec, a_func, Headed, SourceFile, SourcePackage, Program, headers, all_headers, block_names, file_block, is_main}
-use Rattle.go_tree.specs.GoTypes.Collect.{file_env}
+use Rattle.go_rules.specs.ScopeNames.Means.{Environment}
+use Rattle.go_rules.specs.GoTypes.Entities.{Entity, World, Env}
+use Rattle.go_rules.specs.GoTypes.TypeNames.{resolved}
+use Rattle.go_rules.specs.GoTypes.Programs.{Header, constants, variables, a_type_spec, a_func, Headed, SourceFile, SourcePackage, Program, headers, all_headers, block_names, file_block, is_main}
+use Rattle.go_rules.specs.GoTypes.Collect.{file_env}
 use Rattle.run_rules.specs.Steps.{change_nth}
 use Rattle.typed_in_place.specs.Replaced.{same_type, TypeReplaced, SameName, no_name, one_name}
 use Rattle.typed_in_place.specs.ProgramsAlike.{OneByOne, no_more, and_more}

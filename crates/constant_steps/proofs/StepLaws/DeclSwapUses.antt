@@ -4,17 +4,17 @@ use mathlib.Core.Path.{ap, sym, ◌∙◌}
 use Rattle.std.proofs.Common.{arith}
 use Rattle.go_tree.specs.Tree.{Expr, const_decl, var_decl, empty, eval, step, assign, define, return_, break_, continue_, inner, if_, for_, range_, switch, defer, label, ValueSpecs, no_specs, spec}
 use Rattle.go_tree.specs.File.{Func, Decl, values, types, func, File}
-use Rattle.go_tree.specs.ScopeNames.Means.{Environment}
-use Rattle.go_tree.specs.ScopeNames.FreeNames.{names_of, sig_names}
-use Rattle.go_tree.specs.ScopeNames.Scopes.{param_names}
+use Rattle.go_rules.specs.ScopeNames.Means.{Environment}
+use Rattle.go_rules.specs.ScopeNames.FreeNames.{names_of, sig_names}
+use Rattle.go_rules.specs.ScopeNames.Scopes.{param_names}
 use Rattle.pkg_graph.specs.Package as run
-use Rattle.go_tree.specs.GoTypes.Answers.{otherwise, is_among}
-use Rattle.go_tree.specs.GoTypes.Types.{FuncType}
-use Rattle.go_tree.specs.GoTypes.Entities.{Entity, World, Env, Binds}
-use Rattle.go_tree.specs.GoTypes.Statements.{bound_names, body_binds}
-use Rattle.go_tree.specs.GoTypes.Programs.{variables, a_func, Headed}
-use Rattle.go_tree.specs.GoTypes.Collect.{file_env, env_of}
-use Rattle.go_tree.specs.GoTypes.WellTyped.{receiver_of, receiver_names}
+use Rattle.go_rules.specs.GoTypes.Answers.{otherwise, is_among}
+use Rattle.go_rules.specs.GoTypes.Types.{FuncType}
+use Rattle.go_rules.specs.GoTypes.Entities.{Entity, World, Env, Binds}
+use Rattle.go_rules.specs.GoTypes.Statements.{bound_names, body_binds}
+use Rattle.go_rules.specs.GoTypes.Programs.{variables, a_func, Headed}
+use Rattle.go_rules.specs.GoTypes.Collect.{file_env, env_of}
+use Rattle.go_rules.specs.GoTypes.WellTyped.{receiver_of, receiver_names}
 use Rattle.go_kernel.specs.Kernel.{ImportPath}
 use Rattle.go_translation.specs.Packages.{binds_or_none, file_here, function_binds}
 use Rattle.go_translation.specs.SwappedPackages.{function_here}

@@ -4,19 +4,19 @@ use mathlib.Core.Path.{ap, sym, ◌∙◌}
 use Rattle.std.proofs.Common.{arith}
 use Rattle.go_tree.specs.Tree.{NameAt, Param, Sig, TypeExpr, Expr, Exprs, no_exprs, expr_and, const_decl, var_decl, empty, eval, step, assign, define, return_, break_, continue_, inner, if_, for_, range_, switch, defer, label, ValueSpecs, no_specs, spec}
 use Rattle.go_tree.specs.File.{TypeSpec, Receiver, Func, Decl, values, types, func, File}
-use Rattle.go_tree.specs.ScopeNames.Means.{Environment, is_blank, binding}
-use Rattle.go_tree.specs.ScopeNames.FreeNames.{names_of, params_names, sig_names, name_then}
-use Rattle.go_tree.specs.ScopeNames.Scopes.{not_blank, param_names, with_name}
+use Rattle.go_rules.specs.ScopeNames.Means.{Environment, is_blank, binding}
+use Rattle.go_rules.specs.ScopeNames.FreeNames.{names_of, params_names, sig_names, name_then}
+use Rattle.go_rules.specs.ScopeNames.Scopes.{not_blank, param_names, with_name}
 use Rattle.pkg_graph.specs.Package.{Package}
-use Rattle.go_tree.specs.GoTypes.Answers.{given, otherwise, is_among, only_if, distinct_by}
-use Rattle.go_tree.specs.GoTypes.Types.{GoType, FuncType, named_type, pointer_to}
-use Rattle.go_tree.specs.GoTypes.Entities.{Entity, variable, World, Env, Binds, in_block}
-use Rattle.go_tree.specs.GoTypes.TypeNames.{func_type}
-use Rattle.go_tree.specs.GoTypes.Statements.{bound_names, param_binding, param_binds, body_binds}
-use Rattle.go_tree.specs.GoTypes.MethodDeclarations.{receiver_type, receiver_binds}
-use Rattle.go_tree.specs.GoTypes.Programs.{a_func, Headed}
-use Rattle.go_tree.specs.GoTypes.Collect.{file_env, env_of}
-use Rattle.go_tree.specs.GoTypes.WellTyped.{receiver_of, receiver_names, body_env}
+use Rattle.go_rules.specs.GoTypes.Answers.{given, otherwise, is_among, only_if, distinct_by}
+use Rattle.go_rules.specs.GoTypes.Types.{GoType, FuncType, named_type, pointer_to}
+use Rattle.go_rules.specs.GoTypes.Entities.{Entity, variable, World, Env, Binds, in_block}
+use Rattle.go_rules.specs.GoTypes.TypeNames.{func_type}
+use Rattle.go_rules.specs.GoTypes.Statements.{bound_names, param_binding, param_binds, body_binds}
+use Rattle.go_rules.specs.GoTypes.MethodDeclarations.{receiver_type, receiver_binds}
+use Rattle.go_rules.specs.GoTypes.Programs.{a_func, Headed}
+use Rattle.go_rules.specs.GoTypes.Collect.{file_env, env_of}
+use Rattle.go_rules.specs.GoTypes.WellTyped.{receiver_of, receiver_names, body_env}
 use Rattle.form_meaning.proofs.FormInPlace.Uses.{among_left}
 use Rattle.typed_in_place.specs.Replaced.{same_type}
 use Rattle.typed_in_place.proofs.Leaves.{type_itself}

@@ -4,8 +4,8 @@ use Rattle.go_tree.specs.Tree.{NameAt, TypeExpr, Exprs, no_exprs, expr_and, cons
 use Rattle.go_tree.specs.File.{TypeSpec, Func, Decl, values, types, func, File}
 use Rattle.pkg_graph.specs.Package.{Package}
 use Rattle.run_rules.specs.Programs.{top_place, body_place}
-use Rattle.go_tree.specs.GoTypes.Entities.{Env}
-use Rattle.go_tree.specs.GoTypes.Programs.{Header, constants, a_type_spec, a_func, headers, constant_headers, variable_headers, at_member}
+use Rattle.go_rules.specs.GoTypes.Entities.{Env}
+use Rattle.go_rules.specs.GoTypes.Programs.{Header, constants, a_type_spec, a_func, headers, constant_headers, variable_headers, at_member}
 use Rattle.typed_in_place.specs.ProgramsAlike.{OneByOne, no_more, and_more}
 use Rattle.typed_in_place.specs.HeaderReplaced.{SpecsIn, types_of_constants, types_of_variables, types_of_spec, types_of_func, in_constants, in_variables, in_type_spec, in_func}
 use Rattle.run_rules.specs.Surroundings.{Place, alike, value_use, in_constant}

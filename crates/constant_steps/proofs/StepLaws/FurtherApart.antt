@@ -2,9 +2,9 @@
 use Rattle.std.specs.Prelude.{◌≡◌, ℕ, suc, Bool, true, false, not, ◌||◌, List, [], ◌∷◌, ◌++◌, nat_eq}
 use Rattle.std.specs.List.{list_any}
 use Rattle.std.proofs.Common.{arith}
-use Rattle.go_tree.specs.ScopeNames.Means.{Environment}
-use Rattle.go_tree.specs.GoTypes.Entities.{Entity}
-use Rattle.go_tree.specs.GoTypes.Programs.{Header, SourceFile, SourcePackage, header_names, names_in, all_headers, block_names, file_block, is_main, headed, headed_file, headed_files, headed_package}
+use Rattle.go_rules.specs.ScopeNames.Means.{Environment}
+use Rattle.go_rules.specs.GoTypes.Entities.{Entity}
+use Rattle.go_rules.specs.GoTypes.Programs.{Header, SourceFile, SourcePackage, header_names, names_in, all_headers, block_names, file_block, is_main, headed, headed_file, headed_files, headed_package}
 use Rattle.typed_in_place.specs.ProgramReplaced.{All, all_of_none, all_and, Apart}
 use Rattle.typed_in_place.proofs.Rising.{and_first, and_second}
 use Rattle.go_translation.specs.Packages.{Package, sources, has_path, has_number, are_distinct}

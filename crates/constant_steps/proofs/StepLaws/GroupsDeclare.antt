@@ -2,11 +2,11 @@
 use Rattle.std.specs.Prelude.{◌≡◌, refl, ℕ, ◌+◌, List, Option, Some, None}
 use mathlib.Core.Path.{ap, ◌∙◌, subst}
 use Rattle.go_tree.specs.Tree.{ValueSpecs}
-use Rattle.go_tree.specs.ScopeNames.FreeNames.{names_of}
-use Rattle.go_tree.specs.GoTypes.Answers.{given}
-use Rattle.go_tree.specs.GoTypes.Entities.{Env, Binds, extend}
-use Rattle.go_tree.specs.GoTypes.Declarations.{Declared}
-use Rattle.go_tree.specs.GoTypes.Typing.{and_then, binds_of, new_constants, Repeated, own_or_repeated, declares_constants}
+use Rattle.go_rules.specs.ScopeNames.FreeNames.{names_of}
+use Rattle.go_rules.specs.GoTypes.Answers.{given}
+use Rattle.go_rules.specs.GoTypes.Entities.{Env, Binds, extend}
+use Rattle.go_rules.specs.GoTypes.Declarations.{Declared}
+use Rattle.go_rules.specs.GoTypes.Typing.{and_then, binds_of, new_constants, Repeated, own_or_repeated, declares_constants}
 use Rattle.typed_in_place.specs.Replaced.{ConstantsReplaced, no_more_constants, in_constants}
 
 then-each : {A B : Type 0} {p q : Option A} (k l : A → Option B) → p ≡ q → ((x : A) → p ≡ Some x → k x ≡ l x) → given p k ≡ given q l

@@ -3,16 +3,16 @@ use Rattle.std.specs.Prelude.{◌≡◌, refl, ℕ, true, false, ◌&&◌, List,
 use mathlib.Core.Path.{ap, ap₂, sym, ◌∙◌}
 use Rattle.std.proofs.Common.{arith}
 use Rattle.go_tree.specs.Tree.{NameAt, Expr, no_exprs, expr_and}
-use Rattle.go_tree.specs.declared.const_eval.consts.Const.{Const}
-use Rattle.go_tree.specs.GoTypes.Answers.{given, both, only_if}
-use Rattle.go_tree.specs.GoTypes.Types.{GoType}
-use Rattle.go_tree.specs.GoTypes.Entities.{Entity, constant, refused, World, Env, Binds}
-use Rattle.go_tree.specs.GoTypes.Operands.{Operand, all_typed, named_operand}
-use Rattle.go_tree.specs.GoTypes.Statements.{bind_all, constant_entity}
-use Rattle.go_tree.specs.GoTypes.Programs.{constants, Header, Program, Headed, headed}
-use Rattle.go_tree.specs.GoTypes.Collect.{env_of, good_entity, declared_by, DeclaredTypes, types_declared, collected}
-use Rattle.go_tree.specs.GoTypes.MethodDeclarations.{MethodName}
-use Rattle.go_tree.specs.GoTypes.WellTyped.{header_ok, is_method, method_ok, well_typed}
+use Rattle.go_rules.specs.declared.const_eval.consts.Const.{Const}
+use Rattle.go_rules.specs.GoTypes.Answers.{given, both, only_if}
+use Rattle.go_rules.specs.GoTypes.Types.{GoType}
+use Rattle.go_rules.specs.GoTypes.Entities.{Entity, constant, refused, World, Env, Binds}
+use Rattle.go_rules.specs.GoTypes.Operands.{Operand, all_typed, named_operand}
+use Rattle.go_rules.specs.GoTypes.Statements.{bind_all, constant_entity}
+use Rattle.go_rules.specs.GoTypes.Programs.{constants, Header, Program, Headed, headed}
+use Rattle.go_rules.specs.GoTypes.Collect.{env_of, good_entity, declared_by, DeclaredTypes, types_declared, collected}
+use Rattle.go_rules.specs.GoTypes.MethodDeclarations.{MethodName}
+use Rattle.go_rules.specs.GoTypes.WellTyped.{header_ok, is_method, method_ok, well_typed}
 use Rattle.typed_in_place.specs.Declared.{FirstWith, this_one, a_later_one, NamesConstant, ConstantOrRefused, a_constant, refused_yet}
 use Rattle.typed_in_place.specs.Leaves.{Names, plain_name, qualified_name}
 use Rattle.typed_in_place.specs.Known.{Keeps, no_answer, kept}

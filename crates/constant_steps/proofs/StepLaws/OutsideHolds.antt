@@ -4,17 +4,17 @@ use mathlib.Core.Path.{ap, ap₂, sym, ◌∙◌}
 use Rattle.std.proofs.lemmas.Slice.Eq.{bytes_eq-Decides}
 use Rattle.std.proofs.Common.{arith}
 use Rattle.go_tree.specs.Tree.{NameAt, Sig, ValueSpecs, no_specs, spec, Stmt, const_decl, var_decl, empty, eval, step, assign, define, return_, break_, continue_, inner, if_, for_, range_, switch, defer, label, StmtOption, no_stmt, some_stmt, RangeLeft, nothing, assigns, defines}
-use Rattle.go_tree.specs.ScopeNames.Means.{is_blank}
-use Rattle.go_tree.specs.ScopeNames.FreeNames.{names_of, sig_names, specs_names, declared, declared_option, defined}
-use Rattle.go_tree.specs.ScopeNames.Scopes.{not_blank, new_names, specs_declare, param_names, sig_declares}
-use Rattle.go_tree.specs.ScopeNames.Scopes as scopes
-use Rattle.go_tree.specs.GoTypes.Answers.{is_among}
-use Rattle.go_tree.specs.GoTypes.Types.{FuncType}
-use Rattle.go_tree.specs.GoTypes.Entities.{Env, Binds, extend, in_block, refused}
-use Rattle.go_tree.specs.GoTypes.TypeNames.{func_type}
-use Rattle.go_tree.specs.GoTypes.Bodies.{body_ctx}
-use Rattle.go_tree.specs.GoTypes.Statements.{bound_names, bind_each}
-use Rattle.go_tree.specs.GoTypes.Typing.{literal_env}
+use Rattle.go_rules.specs.ScopeNames.Means.{is_blank}
+use Rattle.go_rules.specs.ScopeNames.FreeNames.{names_of, sig_names, specs_names, declared, declared_option, defined}
+use Rattle.go_rules.specs.ScopeNames.Scopes.{not_blank, new_names, specs_declare, param_names, sig_declares}
+use Rattle.go_rules.specs.ScopeNames.Scopes as scopes
+use Rattle.go_rules.specs.GoTypes.Answers.{is_among}
+use Rattle.go_rules.specs.GoTypes.Types.{FuncType}
+use Rattle.go_rules.specs.GoTypes.Entities.{Env, Binds, extend, in_block, refused}
+use Rattle.go_rules.specs.GoTypes.TypeNames.{func_type}
+use Rattle.go_rules.specs.GoTypes.Bodies.{body_ctx}
+use Rattle.go_rules.specs.GoTypes.Statements.{bound_names, bind_each}
+use Rattle.go_rules.specs.GoTypes.Typing.{literal_env}
 use Rattle.form_meaning.specs.FormInPlace.Bound.{stmt_binds, first_binds, range_left_binds, literal_binds, variable_binds}
 use Rattle.form_meaning.proofs.FormInPlace.Uses.{among_append, among_left}
 use Rattle.run_rules.specs.Surroundings.{Place, first_declares, left_declares}

@@ -4,16 +4,16 @@ use Rattle.std.specs.List.{list_all}
 use mathlib.Core.Path.{ap, sym, ◌∙◌}
 use Rattle.std.proofs.Common.{arith}
 use Rattle.go_tree.specs.File.{Decl, values, types, func}
-use Rattle.go_tree.specs.ScopeNames.Means.{Environment}
-use Rattle.go_tree.specs.GoTypes.Answers.{meets, one_of, and_also}
-use Rattle.go_tree.specs.GoTypes.Entities.{Entity, World}
-use Rattle.go_tree.specs.GoTypes.TypeNames.{func_type}
-use Rattle.go_tree.specs.GoTypes.Bodies.{body_ctx, is_body}
-use Rattle.go_tree.specs.GoTypes.Typing.{stmts}
-use Rattle.go_tree.specs.GoTypes.Programs.{Header, a_func, SourceFile, SourcePackage, Program, Headed, headed, headed_file, headed_files, headed_package, headers, all_headers, header_names, header_sound, names_in, block_names, file_block, is_main}
-use Rattle.go_tree.specs.GoTypes.Collect.{DeclaredTypes, declared_on, types_declared, collected, file_env}
-use Rattle.go_tree.specs.GoTypes.MethodDeclarations.{MethodName}
-use Rattle.go_tree.specs.GoTypes.WellTyped.{body_env, refused_unless, header_ok, body_ok, first_header, first_body, lacks_main, well_typed}
+use Rattle.go_rules.specs.ScopeNames.Means.{Environment}
+use Rattle.go_rules.specs.GoTypes.Answers.{meets, one_of, and_also}
+use Rattle.go_rules.specs.GoTypes.Entities.{Entity, World}
+use Rattle.go_rules.specs.GoTypes.TypeNames.{func_type}
+use Rattle.go_rules.specs.GoTypes.Bodies.{body_ctx, is_body}
+use Rattle.go_rules.specs.GoTypes.Typing.{stmts}
+use Rattle.go_rules.specs.GoTypes.Programs.{Header, a_func, SourceFile, SourcePackage, Program, Headed, headed, headed_file, headed_files, headed_package, headers, all_headers, header_names, header_sound, names_in, block_names, file_block, is_main}
+use Rattle.go_rules.specs.GoTypes.Collect.{DeclaredTypes, declared_on, types_declared, collected, file_env}
+use Rattle.go_rules.specs.GoTypes.MethodDeclarations.{MethodName}
+use Rattle.go_rules.specs.GoTypes.WellTyped.{body_env, refused_unless, header_ok, body_ok, first_header, first_body, lacks_main, well_typed}
 use Rattle.typed_in_place.specs.ImportRule.{files_declare, package_declares, declarations_ok, imports_ok}
 use Rattle.typed_in_place.specs.ProgramReplaced.{All, all_of_none, all_and}
 use Rattle.typed_in_place.proofs.ImportRule.{well_typed_apart}

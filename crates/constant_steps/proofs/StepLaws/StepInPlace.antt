@@ -3,12 +3,12 @@ use Rattle.std.specs.Prelude.{◌≡◌, refl, ℕ, suc, Bool, not, ◌&&◌, �
 use Rattle.std.specs.List.{list_all}
 use Rattle.go_tree.specs.Tree.{TypeExpr}
 use Rattle.go_tree.specs.File.{Receiver}
-use Rattle.go_tree.specs.ScopeNames.Means.{Environment, is_blank}
-use Rattle.go_tree.specs.GoTypes.Answers.{is_among}
-use Rattle.go_tree.specs.GoTypes.Entities.{Entity, World, Env}
-use Rattle.go_tree.specs.GoTypes.Statements.{names_once}
-use Rattle.go_tree.specs.GoTypes.Programs.{Header, Headed, SourceFile, SourcePackage, Program, headed, headed_package, headed_files, headed_file, all_headers, header_names, names_in, block_names, file_block, is_main, is_init}
-use Rattle.go_tree.specs.GoTypes.Collect.{env_of}
+use Rattle.go_rules.specs.ScopeNames.Means.{Environment, is_blank}
+use Rattle.go_rules.specs.GoTypes.Answers.{is_among}
+use Rattle.go_rules.specs.GoTypes.Entities.{Entity, World, Env}
+use Rattle.go_rules.specs.GoTypes.Statements.{names_once}
+use Rattle.go_rules.specs.GoTypes.Programs.{Header, Headed, SourceFile, SourcePackage, Program, headed, headed_package, headed_files, headed_file, all_headers, header_names, names_in, block_names, file_block, is_main, is_init}
+use Rattle.go_rules.specs.GoTypes.Collect.{env_of}
 use Rattle.typed_in_place.specs.ProgramsAlike.{OneByOne, no_more, and_more, AliasesStand, TypesStand, ValuesStand, BodiesAlike}
 use Rattle.typed_in_place.specs.HeaderReplaced.{SpecsIn, types_of_constants, types_of_variables, types_of_spec, types_of_func, SameReceiver, no_receiver, one_receiver, HeaderIn, in_constants, in_variables, in_type_spec, in_func, BodyIn, in_body, no_body_of_constants, no_body_of_variables, no_body_of_a_type}
 use Rattle.typed_in_place.specs.ProgramReplaced.{InPlaceBeside}

@@ -4,9 +4,9 @@ use mathlib.Core.Path.{◌∙◌}
 use Rattle.go_tree.specs.Tree.{NameAt, Expr}
 use Rattle.go_tree.specs.File.{File}
 use Rattle.pkg_graph.specs.Package.{Package}
-use Rattle.go_tree.specs.GoTypes.Entities.{World, Env}
-use Rattle.go_tree.specs.GoTypes.Programs.{SourceFile, Program, Headed, headed, block_names, file_block, is_main}
-use Rattle.go_tree.specs.GoTypes.Collect.{file_env}
+use Rattle.go_rules.specs.GoTypes.Entities.{World, Env}
+use Rattle.go_rules.specs.GoTypes.Programs.{SourceFile, Program, Headed, headed, block_names, file_block, is_main}
+use Rattle.go_rules.specs.GoTypes.Collect.{file_env}
 use Rattle.run_rules.specs.Surroundings.{Place}
 use Rattle.run_rules.specs.Programs.{decl_seen}
 use Rattle.typed_in_place.specs.Declared.{NamesConstant}

@@ -1,10 +1,10 @@
 -- Programs in place of one another, one after the other: the worlds at the ends of the rounds are the same in all of them.
 use Rattle.std.specs.Prelude.{◌≡◌, refl, List, [], ◌∷◌, ◌++◌}
 use mathlib.Core.Path.{ap, sym, ◌∙◌, subst}
-use Rattle.go_tree.specs.GoTypes.Entities.{World}
-use Rattle.go_tree.specs.GoTypes.Programs.{Headed, Program, headed, headed_package}
-use Rattle.go_tree.specs.GoTypes.Collect.{aliased_world, typed_world, named_world, valued_world, collected}
-use Rattle.go_tree.specs.GoTypes.WellTyped.{body_ok}
+use Rattle.go_rules.specs.GoTypes.Entities.{World}
+use Rattle.go_rules.specs.GoTypes.Programs.{Headed, Program, headed, headed_package}
+use Rattle.go_rules.specs.GoTypes.Collect.{aliased_world, typed_world, named_world, valued_world, collected}
+use Rattle.go_rules.specs.GoTypes.WellTyped.{body_ok}
 use Rattle.typed_in_place.specs.ProgramsAlike.{OneByOne, no_more, and_more, AliasesStand, TypesStand, ValuesStand, BodiesAlike, DeclareAlike}
 use Rattle.typed_in_place.specs.ImportRule.{SamePackage}
 use Rattle.typed_in_place.specs.ProgramReplaced.{InPlace, InPlaceBeside, ValuesEnd, after_names, after_values, at_last}

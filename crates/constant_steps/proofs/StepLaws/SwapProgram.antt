@@ -4,13 +4,13 @@ use Rattle.std.specs.List.{list_all}
 use mathlib.Core.Path.{ap, sym, ◌∙◌, subst}
 use Rattle.go_tree.specs.Tree.{TypeExpr, Expr, Exprs, no_exprs, expr_and, const_decl, var_decl, ValueSpecs, no_specs, spec, empty, eval, step, assign, define, return_, break_, continue_, inner, if_, for_, range_, switch, defer, label}
 use Rattle.go_tree.specs.File.{TypeSpec, Receiver, Func as Function, Decl, values, types, func, File}
-use Rattle.go_tree.specs.ScopeNames.Means.{Environment, is_blank}
+use Rattle.go_rules.specs.ScopeNames.Means.{Environment, is_blank}
 use Rattle.pkg_graph.specs.Package as run
-use Rattle.go_tree.specs.GoTypes.Answers.{is_among}
-use Rattle.go_tree.specs.GoTypes.Entities.{Entity, World}
-use Rattle.go_tree.specs.GoTypes.Statements.{names_once}
-use Rattle.go_tree.specs.GoTypes.Programs.{Header, constants, variables, a_func, Headed, SourceFile, headed_package, headed_files, headed_file, headers, constant_headers, variable_headers, at_member, all_headers, header_names, names_in, block_names, file_block, is_main, is_init, header_sound}
-use Rattle.go_tree.specs.GoTypes.Collect.{collected}
+use Rattle.go_rules.specs.GoTypes.Answers.{is_among}
+use Rattle.go_rules.specs.GoTypes.Entities.{Entity, World}
+use Rattle.go_rules.specs.GoTypes.Statements.{names_once}
+use Rattle.go_rules.specs.GoTypes.Programs.{Header, constants, variables, a_func, Headed, SourceFile, headed_package, headed_files, headed_file, headers, constant_headers, variable_headers, at_member, all_headers, header_names, names_in, block_names, file_block, is_main, is_init, header_sound}
+use Rattle.go_rules.specs.GoTypes.Collect.{collected}
 use Rattle.go_kernel.specs.Kernel.{ImportPath}
 use Rattle.typed_in_place.specs.ProgramsAlike.{OneByOne, no_more, and_more}
 use Rattle.typed_in_place.proofs.ProgramsReplaced.{append_one, declares_the_same_beside}

@@ -3,10 +3,10 @@ use Rattle.std.specs.Prelude.{◌≡◌, refl, ℕ, Bool, true, false, List, [],
 use mathlib.Core.Path.{ap, sym, ◌∙◌, subst}
 use Rattle.std.proofs.Common.{arith}
 use Rattle.go_tree.specs.Tree.{NameAt, Expr, Stmt, Stmts, eval, return_, const_decl, ValueSpecs, no_specs, spec}
-use Rattle.go_tree.specs.ScopeNames.Means.{is_blank}
-use Rattle.go_tree.specs.ScopeNames.FreeNames.{names_of}
-use Rattle.go_tree.specs.GoTypes.Answers.{is_among}
-use Rattle.go_tree.specs.GoTypes.Entities.{Entity, Env, meaning, exported, package_of}
+use Rattle.go_rules.specs.ScopeNames.Means.{is_blank}
+use Rattle.go_rules.specs.ScopeNames.FreeNames.{names_of}
+use Rattle.go_rules.specs.GoTypes.Answers.{is_among}
+use Rattle.go_rules.specs.GoTypes.Entities.{Entity, Env, meaning, exported, package_of}
 use Rattle.typed_in_place.specs.Leaves.{Names, plain_name, qualified_name}
 use Rattle.typed_in_place.specs.Replaced.{same_type}
 use Rattle.typed_in_place.proofs.Leaves.{same_constant_name, type_itself}
@@ -22,7 +22,7 @@ use Rattle.constant_steps.specs.StepLaws.NamesOutside.{NamesOutside, UseThere, A
 use Rattle.constant_steps.proofs.StepLaws.ConstantLeaves.{names-bodiless}
 use Rattle.constant_steps.proofs.StepLaws.Walking.{expr-walks, stmts-walk}
 use Rattle.constant_steps.proofs.StepLaws.OutsideHolds.{outside_holds}
-use Rattle.go_tree.specs.GoTypes.Typing.{Repeated, nothing_to_repeat}
+use Rattle.go_rules.specs.GoTypes.Typing.{Repeated, nothing_to_repeat}
 use Rattle.constant_steps.specs.StepLaws.Kept.{RepeatsKept, GroupKept}
 use Rattle.constant_steps.proofs.StepLaws.NothingPut.{all-free}
 use Rattle.constant_steps.proofs.StepLaws.Swapping.{written-same}

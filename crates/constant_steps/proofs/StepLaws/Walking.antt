@@ -3,16 +3,16 @@ use Rattle.std.specs.Prelude.{◌≡◌, refl, ℕ, suc, ◌+◌, Bool, true, fa
 use mathlib.Core.Path.{ap, sym, ◌∙◌}
 use Rattle.go_tree.specs.Tree.{NameAt, Param, Sig, TypeExpr, Expr, ident, int_lit, rune_lit, str_lit, composite, selector, index, slice, call, func_lit, type_operand, unary, binary, star, Exprs, no_exprs, expr_and, ExprOption, no_expr, some_expr, Elems, no_elems, elem, Value, plain, braced, ValueOption, no_value, some_value, Stmt, const_decl, var_decl, empty, eval, step, assign, define, return_, break_, continue_, inner, if_, for_, range_, switch, defer, label, Stmts, no_stmts, stmt_and, StmtOption, no_stmt, some_stmt, BlockOption, no_block, some_block, RangeLeft, nothing, assigns, defines, Arms, no_arms, arm, Cases, no_cases, case, ValueSpecs, no_specs, spec}
 use Rattle.go_tree.specs.GoWords.Terminals.{level_of}
-use Rattle.go_tree.specs.ScopeNames.FreeNames.{names_of, sig_names, declared, declared_option, defined}
-use Rattle.go_tree.specs.GoTypes.Answers.{given, meets}
-use Rattle.go_tree.specs.GoTypes.Types.{GoType}
-use Rattle.go_tree.specs.GoTypes.Defined.{under}
-use Rattle.go_tree.specs.GoTypes.Entities.{Env, defined_in, extend, in_block, refused}
-use Rattle.go_tree.specs.GoTypes.TypeNames.{type_meant, written_type}
-use Rattle.go_tree.specs.GoTypes.Literals.{is_struct, key_type, inner_type, literal_type}
-use Rattle.go_tree.specs.GoTypes.Statements.{no_values, bind_each}
-use Rattle.go_tree.specs.GoTypes.Typing.{parts, all_parts, places, declares, declares_first, range_declares, binds_of, literal_env, right_values, labelled, nothing_to_repeat, Repeated}
-use Rattle.go_tree.specs.GoTypes.Typing as typing
+use Rattle.go_rules.specs.ScopeNames.FreeNames.{names_of, sig_names, declared, declared_option, defined}
+use Rattle.go_rules.specs.GoTypes.Answers.{given, meets}
+use Rattle.go_rules.specs.GoTypes.Types.{GoType}
+use Rattle.go_rules.specs.GoTypes.Defined.{under}
+use Rattle.go_rules.specs.GoTypes.Entities.{Env, defined_in, extend, in_block, refused}
+use Rattle.go_rules.specs.GoTypes.TypeNames.{type_meant, written_type}
+use Rattle.go_rules.specs.GoTypes.Literals.{is_struct, key_type, inner_type, literal_type}
+use Rattle.go_rules.specs.GoTypes.Statements.{no_values, bind_each}
+use Rattle.go_rules.specs.GoTypes.Typing.{parts, all_parts, places, declares, declares_first, range_declares, binds_of, literal_env, right_values, labelled, nothing_to_repeat, Repeated}
+use Rattle.go_rules.specs.GoTypes.Typing as typing
 use Rattle.run_rules.specs.Surroundings.{Use, whole, stored, updated, called, deferred_call, alone, other, Slot, a_slot, Place, Seen, seen, seen_stmt, alike, into_type, head_use, later_uses, arg_uses, unary_use, operand_use, first_operand_use, right_uses, every_use, value_use, return_uses, elem_use, key_use, inner_slot, last_slot, in_slot, callee_place, comma_slot, elem_closed, after_stmt, after_first, block, looping, switching, in_heading, at_stmt, plain_slot, ranged, in_literal, after_variables, in_constant, before_repeats, after_constants, repeated_by}
 use Rattle.run_rules.specs.Places.{type_seen, written_seen, params_seen, sig_seen, old_seen, after_arms, expr_seen, all_seen, option_seen, elems_seen, key_seen, value_seen, stmt_seen, stmts_seen, first_seen, block_seen, left_seen, arms_seen, cases_seen, constants_seen, variables_seen}
 use Rattle.run_rules.specs.Rewriting.{Changes, new_all, new_written}

@@ -4,11 +4,11 @@ use mathlib.Core.Path.{ap, sym, ◌∙◌}
 use Rattle.std.proofs.lemmas.Slice.Eq.{bytes_eq-Decides}
 use Rattle.std.proofs.Common.{arith}
 use Rattle.go_tree.specs.Tree.{NameAt, Expr, ident, selector}
-use Rattle.go_tree.specs.ScopeNames.Means.{means}
-use Rattle.go_tree.specs.ScopeNames.FreeNames.{names_of}
+use Rattle.go_rules.specs.ScopeNames.Means.{means}
+use Rattle.go_rules.specs.ScopeNames.FreeNames.{names_of}
 use Rattle.pkg_graph.specs.Package.{Package}
 use Rattle.param_choice.specs.Chosen.{has}
-use Rattle.go_tree.specs.GoTypes.Answers.{given, is_among}
+use Rattle.go_rules.specs.GoTypes.Answers.{given, is_among}
 use Rattle.run_rules.specs.Surroundings.{Use, Place, local_at, declared_at, is_local}
 use Rattle.run_rules.specs.BodyItems.{number_of}
 use Rattle.run_rules.specs.Sites.{outer, mark_of}

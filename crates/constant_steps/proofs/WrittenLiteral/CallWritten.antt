@@ -4,11 +4,11 @@ use mathlib.Core.Path.{subst}
 use Rattle.go_tree.specs.declared.spans.Span.{Span}
 use Rattle.go_tree.specs.declared.exprs.Rest.{Rest}
 use Rattle.go_tree.specs.Tree.{Sig, Expr, call, func_lit, Exprs, Stmts}
-use Rattle.go_tree.specs.ScopeNames.Means.{Environment}
-use Rattle.go_tree.specs.ScopeNames.FreeNames.{names_of}
+use Rattle.go_rules.specs.ScopeNames.Means.{Environment}
+use Rattle.go_rules.specs.ScopeNames.FreeNames.{names_of}
 use Rattle.pkg_graph.specs.Package.{Package}
-use Rattle.go_tree.specs.GoTypes.Types.{GoType}
-use Rattle.go_tree.specs.GoTypes.Entities.{Entity, World, in_block}
+use Rattle.go_rules.specs.GoTypes.Types.{GoType}
+use Rattle.go_rules.specs.GoTypes.Entities.{Entity, World, in_block}
 use Rattle.go_kernel.specs.Kernel.{FuncName, Program, code}
 use Rattle.go_kernel.specs.Scope.{Scoped}
 use Rattle.go_kernel.specs.Alike.{MeanSame}

@@ -5,14 +5,14 @@ use Rattle.std.proofs.Common.{arith}
 use Rattle.std.proofs.lemmas.Slice.Eq.{bytes_eq-Decides}
 use Rattle.go_tree.specs.Tree.{NameAt}
 use Rattle.go_tree.specs.File.{Decl, ImportSpec}
-use Rattle.go_tree.specs.ScopeNames.Means as names
-use Rattle.go_tree.specs.ScopeNames.Means.{Environment, means, is_blank, binding, numbered, or_else}
+use Rattle.go_rules.specs.ScopeNames.Means as names
+use Rattle.go_rules.specs.ScopeNames.Means.{Environment, means, is_blank, binding, numbered, or_else}
 use Rattle.pkg_graph.specs.Package.{SourceTree, Package, import_specs}
 use Rattle.pkg_graph.specs.Members.{Target, local, imported, member, predeclared, block_names, items_from, decls_from, files_from, package_block, import_name}
-use Rattle.go_tree.specs.GoTypes.Entities.{Entity, World, block_of, package_of, universe}
-use Rattle.go_tree.specs.GoTypes.Programs as source
-use Rattle.go_tree.specs.GoTypes.Programs.{SourceFile, Program, Headed, headed, headed_package, headed_files, is_main}
-use Rattle.go_tree.specs.GoTypes.Collect.{DeclaredTypes, block_by, types_declared, valued_world}
+use Rattle.go_rules.specs.GoTypes.Entities.{Entity, World, block_of, package_of, universe}
+use Rattle.go_rules.specs.GoTypes.Programs as source
+use Rattle.go_rules.specs.GoTypes.Programs.{SourceFile, Program, Headed, headed, headed_package, headed_files, is_main}
+use Rattle.go_rules.specs.GoTypes.Collect.{DeclaredTypes, block_by, types_declared, valued_world}
 use Rattle.typed_in_place.proofs.Collected.{valued_settled}
 use Rattle.form_meaning.specs.FormInPlace.Places.{is_member}
 use Rattle.run_rules.specs.Programs.{linked, linked_file, imports_mean, world, top_env}

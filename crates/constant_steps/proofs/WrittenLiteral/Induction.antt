@@ -4,25 +4,25 @@ use mathlib.Core.Path.{ap, sym, ◌∙◌, subst}
 use Rattle.std.proofs.Common.{arith}
 use Rattle.go_tree.specs.Tree.{Param, Sig, TypeExpr, Expr, ident, int_lit, rune_lit, str_lit, composite, selector, index, slice, call, func_lit, type_operand, unary, binary, star, Exprs, no_exprs, expr_and, ExprOption, no_expr, some_expr, Elems, no_elems, elem, Value, plain, braced, ValueOption, no_value, some_value, Stmt, const_decl, var_decl, empty, eval, step, assign, define, return_, break_, continue_, inner, if_, for_, range_, switch, defer, label, Stmts, no_stmts, stmt_and, StmtOption, no_stmt, some_stmt, BlockOption, no_block, some_block, RangeLeft, nothing, assigns, defines, Arms, no_arms, arm, Cases, no_cases, case, ValueSpecs, no_specs, spec}
 use Rattle.go_tree.specs.GoWords.Terminals.{level_of}
-use Rattle.go_tree.specs.GoTypes.Answers.{given, meets}
-use Rattle.go_tree.specs.GoTypes.Types.{GoType}
-use Rattle.go_tree.specs.GoTypes.Defined.{under}
-use Rattle.go_tree.specs.GoTypes.Entities.{defined_in}
-use Rattle.go_tree.specs.GoTypes.TypeNames.{type_meant}
-use Rattle.go_tree.specs.GoTypes.Literals.{is_struct}
-use Rattle.go_tree.specs.GoTypes.Typing.{parts, all_parts, labelled, nothing_to_repeat}
+use Rattle.go_rules.specs.GoTypes.Answers.{given, meets}
+use Rattle.go_rules.specs.GoTypes.Types.{GoType}
+use Rattle.go_rules.specs.GoTypes.Defined.{under}
+use Rattle.go_rules.specs.GoTypes.Entities.{defined_in}
+use Rattle.go_rules.specs.GoTypes.TypeNames.{type_meant}
+use Rattle.go_rules.specs.GoTypes.Literals.{is_struct}
+use Rattle.go_rules.specs.GoTypes.Typing.{parts, all_parts, labelled, nothing_to_repeat}
 use Rattle.run_rules.specs.Surroundings.{Use, whole, stored, updated, called, deferred_call, alone, other, a_slot, Place, Seen, seen, seen_stmt, alike, into_type, head_use, later_uses, arg_uses, unary_use, operand_use, first_operand_use, right_uses, every_use, value_use, return_uses, elem_use, key_use, inner_slot, last_slot, in_slot, callee_place, comma_slot, elem_closed, after_stmt, after_first, block, looping, switching, in_heading, at_stmt, plain_slot, ranged, in_literal, in_constant, after_constants, before_repeats, after_variables}
-use Rattle.go_tree.specs.GoTypes.Answers.{otherwise}
+use Rattle.go_rules.specs.GoTypes.Answers.{otherwise}
 use Rattle.run_rules.specs.Places.{type_seen, written_seen, params_seen, sig_seen, old_seen, after_arms, expr_seen, all_seen, option_seen, elems_seen, key_seen, value_seen, stmt_seen, stmts_seen, first_seen, block_seen, left_seen, arms_seen, cases_seen, constants_seen, variables_seen}
 use Rattle.go_tree.specs.Tree.{NameAt}
-use Rattle.go_tree.specs.GoTypes.TypeNames.{func_type}
-use Rattle.go_tree.specs.GoTypes.Types.{basic, named_type, pointer_to, slice_of, map_of, struct_of, tuple_of, untyped, untyped_nil, FuncType}
-use Rattle.go_tree.specs.GoTypes.Answers.{otherwise}
-use Rattle.go_tree.specs.GoTypes.Entities.{Entity, World, Env, extend, in_block}
-use Rattle.go_tree.specs.GoTypes.Literals.{key_type, inner_type}
-use Rattle.go_tree.specs.GoTypes.Statements.{bound_names}
-use Rattle.go_tree.specs.GoTypes.Typing.{literal_env}
-use Rattle.go_tree.specs.ScopeNames.Means.{Environment}
+use Rattle.go_rules.specs.GoTypes.TypeNames.{func_type}
+use Rattle.go_rules.specs.GoTypes.Types.{basic, named_type, pointer_to, slice_of, map_of, struct_of, tuple_of, untyped, untyped_nil, FuncType}
+use Rattle.go_rules.specs.GoTypes.Answers.{otherwise}
+use Rattle.go_rules.specs.GoTypes.Entities.{Entity, World, Env, extend, in_block}
+use Rattle.go_rules.specs.GoTypes.Literals.{key_type, inner_type}
+use Rattle.go_rules.specs.GoTypes.Statements.{bound_names}
+use Rattle.go_rules.specs.GoTypes.Typing.{literal_env}
+use Rattle.go_rules.specs.ScopeNames.Means.{Environment}
 use Rattle.run_rules.specs.Surroundings.{Slot, elem_use, into_or}
 use Rattle.run_rules.specs.Rewriting.{Changes, new_name, new_names, new_label, new_type, new_written, new_params, new_sig, new_expr, new_all, new_option, new_elems, new_key, new_value, new_stmt, new_stmts, new_first, new_block, new_left, new_arms, new_cases, new_constants, new_variables}
 use Rattle.run_rules.specs.Respanned.{value_with}
@@ -30,7 +30,7 @@ use Rattle.form_meaning.specs.FormInPlace.Places.{Landing, results_in}
 use Rattle.form_meaning.specs.FormInPlace.Written.{Written, w_leaf, w_int, w_rune, w_str, w_composite, w_selector, w_index, w_slice, w_call, w_into, w_func_lit, w_type, w_unary, w_binary, w_star, WrittenAll, all_none, all_and, WrittenOption, option_none, option_some, WrittenElems, elems_none, elems_and, WrittenKey, key_none, key_field, key_some, WrittenValue, value_plain, value_braced, WrittenBody, body_none, body_and, WrittenStmt, s_const, s_var, s_empty, s_eval, s_eval_into, s_step, s_assign, s_define, s_return, s_break, s_continue, s_inner, s_if, s_for, s_range, s_switch, s_defer, s_label, WrittenFirst, first_none, first_some, WrittenBlock, block_none, block_some, WrittenLeft, left_none, left_assigns, left_defines, WrittenArms, arms_none, arms_and, WrittenCases, cases_none, cases_and, WrittenConstants, constants_none, constants_own, constants_again, WrittenVariables, variables_none, variables_and}
 use Rattle.form_meaning.specs.FormInPlace.Bound.{Before, repeats, inner_under, stmt_binds, first_binds, range_left_binds, literal_binds, variable_binds, constant_binds, repeated_binds}
 use Rattle.form_meaning.specs.FormInPlace.Leaves.{no_params, no_type, a_type, param_and, WrittenType, WrittenParams}
-use Rattle.go_tree.specs.ScopeNames.Scopes.{not_blank, sig_declares}
+use Rattle.go_rules.specs.ScopeNames.Scopes.{not_blank, sig_declares}
 use Rattle.run_rules.specs.Surroundings.{first_declares, left_declares}
 use Rattle.constant_steps.specs.WrittenLiteral.Listing.{Listing}
 use Rattle.constant_steps.specs.WrittenLiteral.Within.{Within}
@@ -68,11 +68,11 @@ module _ {S : Type 0} where
             | None ↦ p
             | Some f ↦ record p {
               env = literal_env p.env g;
-              bound = Rattle.go_tree.specs.ScopeNames.Scopes.sig_declares g ++ p.bound;
-              ctx = Rattle.go_tree.specs.GoTypes.Statements.body_ctx g f;
+              bound = Rattle.go_rules.specs.ScopeNames.Scopes.sig_declares g ++ p.bound;
+              ctx = Rattle.go_rules.specs.GoTypes.Statements.body_ctx g f;
               deferred = Rattle.std.specs.Prelude.◌||◌ p.deferred p.deferring;
               deferring = false;
-              since = Rattle.go_tree.specs.ScopeNames.Scopes.sig_declares g ++ (if p.deferring then [] else p.since);
+              since = Rattle.go_rules.specs.ScopeNames.Scopes.sig_declares g ++ (if p.deferring then [] else p.since);
               literals = suc p.literals;
             }
           ]).env ≡ literal_env p.env g
@@ -113,7 +113,7 @@ module _ {S : Type 0} where
     callee_site s f p r m w = w
 
     stmt_site : (p : Place S) {r : List (List ℕ)} {m : Environment Entity} (s : Stmt S) → Site r p m → Site (bound_names (stmt_binds p.env s) ++ r) (after_stmt p s) (stmt_binds p.env s ++ m)
-    stmt_site p s w = entered (Rattle.go_tree.specs.ScopeNames.Scopes.declares p.env.here s) (stmt_binds p.env s) (lists.after_stmts p.env s) w
+    stmt_site p s w = entered (Rattle.go_rules.specs.ScopeNames.Scopes.declares p.env.here s) (stmt_binds p.env s) (lists.after_stmts p.env s) w
 
     first_site : (p : Place S) {r : List (List ℕ)} {m : Environment Entity} (i : StmtOption S) → Site r p m → Site (bound_names (first_binds p.env i) ++ r) (after_first p i) (first_binds p.env i ++ m)
     first_site p i w = entered (first_declares i) (first_binds p.env i) (lists.after_firsts p.env i) w
@@ -139,7 +139,7 @@ module _ {S : Type 0} where
               | Some f ↦ record p {
                 env = literal_env p.env g;
                 bound = sig_declares g ++ p.bound;
-                ctx = Rattle.go_tree.specs.GoTypes.Statements.body_ctx g f;
+                ctx = Rattle.go_rules.specs.GoTypes.Statements.body_ctx g f;
                 deferred = Rattle.std.specs.Prelude.◌||◌ p.deferred p.deferring;
                 deferring = false;
                 since = sig_declares g ++ (if p.deferring then [] else p.since);

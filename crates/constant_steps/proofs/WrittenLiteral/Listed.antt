@@ -4,16 +4,16 @@ use mathlib.Core.Path.{ap, ap₂, sym, ◌∙◌}
 use Rattle.std.proofs.lemmas.Slice.Eq.{bytes_eq-Decides}
 use Rattle.std.proofs.Common.{arith}
 use Rattle.go_tree.specs.Tree.{NameAt, TypeExpr, Exprs, ValueSpecs, no_specs, spec, Stmt, const_decl, var_decl, define, label, StmtOption, no_stmt, some_stmt}
-use Rattle.go_tree.specs.ScopeNames.Means.{is_blank, binding}
-use Rattle.go_tree.specs.ScopeNames.FreeNames.{names_of, specs_names}
-use Rattle.go_tree.specs.ScopeNames.Scopes.{not_blank, new_names, specs_declare}
-use Rattle.go_tree.specs.GoTypes.Answers.{given, both, only_if, is_among}
-use Rattle.go_tree.specs.GoTypes.Types.{GoType}
-use Rattle.go_tree.specs.GoTypes.Entities.{Entity, variable, refused, Env, Binds, meaning, extend, defined_in}
-use Rattle.go_tree.specs.GoTypes.TypeNames.{written_type}
-use Rattle.go_tree.specs.GoTypes.Operands.{Operand, Typed, all_typed}
-use Rattle.go_tree.specs.GoTypes.Statements.{may_declare, names_once, some_declared, assigns_to, defined_by, bound_names, Declared, constants_declared, variables_declared, constant_entity, variable_entity, bind_all, bind_each, no_values}
-use Rattle.go_tree.specs.GoTypes.Typing.{new_by_define, binds_of, and_then, unused_after, new_constants, new_variables, right_values, Repeated, nothing_to_repeat, declares_constants, declares_variables, all_parts, places, used_variables}
+use Rattle.go_rules.specs.ScopeNames.Means.{is_blank, binding}
+use Rattle.go_rules.specs.ScopeNames.FreeNames.{names_of, specs_names}
+use Rattle.go_rules.specs.ScopeNames.Scopes.{not_blank, new_names, specs_declare}
+use Rattle.go_rules.specs.GoTypes.Answers.{given, both, only_if, is_among}
+use Rattle.go_rules.specs.GoTypes.Types.{GoType}
+use Rattle.go_rules.specs.GoTypes.Entities.{Entity, variable, refused, Env, Binds, meaning, extend, defined_in}
+use Rattle.go_rules.specs.GoTypes.TypeNames.{written_type}
+use Rattle.go_rules.specs.GoTypes.Operands.{Operand, Typed, all_typed}
+use Rattle.go_rules.specs.GoTypes.Statements.{may_declare, names_once, some_declared, assigns_to, defined_by, bound_names, Declared, constants_declared, variables_declared, constant_entity, variable_entity, bind_all, bind_each, no_values}
+use Rattle.go_rules.specs.GoTypes.Typing.{new_by_define, binds_of, and_then, unused_after, new_constants, new_variables, right_values, Repeated, nothing_to_repeat, declares_constants, declares_variables, all_parts, places, used_variables}
 use Rattle.form_meaning.specs.FormInPlace.Bound.{Before, repeats, at_iota, constant_binds, repeated_binds, variable_binds, stmt_binds, first_binds}
 use Rattle.form_meaning.proofs.FormInPlace.Uses.{among_append}
 use Rattle.run_rules.specs.Surroundings.{first_declares}
@@ -258,14 +258,14 @@ module _ {S : Type 0} where
   pub nothing_grows : (here : List (List ℕ)) → Grows {S = S} here [] []
   nothing_grows here = record { same = λ bound r h b n. b n }
 
-  known_grows : (s : Stmt S) (a : Env) (known : List (List ℕ)) → ((n : List ℕ) → is_among n known ≡ true → is_among n a.here ≡ true) → Grows a.here (Rattle.go_tree.specs.ScopeNames.Scopes.declares known s) (stmt_binds a s)
+  known_grows : (s : Stmt S) (a : Env) (known : List (List ℕ)) → ((n : List ℕ) → is_among n known ≡ true → is_among n a.here ≡ true) → Grows a.here (Rattle.go_rules.specs.ScopeNames.Scopes.declares known s) (stmt_binds a s)
   known_grows (const_decl _ _ ss) a known k = grows a.here (specs_declare ss) (binds_of (specs_names ss) (declares_constants a nothing_to_repeat 0 ss)) (or_refused_group ss (declares_constants a nothing_to_repeat 0 ss) (constants_group ss a nothing_to_repeat 0))
   known_grows (var_decl _ _ ss) a known k = grows a.here (specs_declare ss) (binds_of (specs_names ss) (declares_variables a ss)) (or_refused_group ss (declares_variables a ss) (variables_group ss a))
   known_grows (define _ ns ys) a known k = define_grows a known k ns (right_values a (length ns) (places a ys) (all_parts a ys))
   known_grows (label _ _ s) a known k = known_grows s a known k
   known_grows s a known k = nothing_grows a.here
 
-  pub stmts_grow : (a : Env) (s : Stmt S) → Grows a.here (Rattle.go_tree.specs.ScopeNames.Scopes.declares a.here s) (stmt_binds a s)
+  pub stmts_grow : (a : Env) (s : Stmt S) → Grows a.here (Rattle.go_rules.specs.ScopeNames.Scopes.declares a.here s) (stmt_binds a s)
   stmts_grow a s = known_grows s a a.here (λ n i. i)
 
   pub firsts_grow : (a : Env) (i : StmtOption S) → Grows a.here (first_declares i) (first_binds a i)

@@ -2,16 +2,16 @@
 use Rattle.std.specs.Prelude.{◌≡◌, refl, Bool, true, false, not, List, [], ◌∷◌, ◌++◌, Option, Some, None, if◌then◌else◌, bytes_eq}
 use mathlib.Core.Path.{ap, ap₂, ◌∙◌}
 use Rattle.go_tree.specs.Tree.{NameAt, Param, Sig, Expr, RangeLeft, nothing, assigns, defines}
-use Rattle.go_tree.specs.ScopeNames.Means.{is_blank, binding}
-use Rattle.go_tree.specs.ScopeNames.FreeNames.{names_of, params_names, sig_names}
-use Rattle.go_tree.specs.ScopeNames.Scopes.{not_blank, param_names, sig_declares}
-use Rattle.go_tree.specs.GoTypes.Answers.{given, both, only_if, is_among, distinct_by}
-use Rattle.go_tree.specs.GoTypes.Types.{GoType}
-use Rattle.go_tree.specs.GoTypes.Entities.{variable, refused, Env, Binds, defined_in}
-use Rattle.go_tree.specs.GoTypes.TypeNames.{type_meant, params_meant}
-use Rattle.go_tree.specs.GoTypes.Operands.{Operand, value}
-use Rattle.go_tree.specs.GoTypes.Statements.{names_once, bound_names, some_declared, bind_each, range_types, range_binds, param_binds, body_binds}
-use Rattle.go_tree.specs.GoTypes.Typing.{binds_or, binds_of, new_by_range, parts}
+use Rattle.go_rules.specs.ScopeNames.Means.{is_blank, binding}
+use Rattle.go_rules.specs.ScopeNames.FreeNames.{names_of, params_names, sig_names}
+use Rattle.go_rules.specs.ScopeNames.Scopes.{not_blank, param_names, sig_declares}
+use Rattle.go_rules.specs.GoTypes.Answers.{given, both, only_if, is_among, distinct_by}
+use Rattle.go_rules.specs.GoTypes.Types.{GoType}
+use Rattle.go_rules.specs.GoTypes.Entities.{variable, refused, Env, Binds, defined_in}
+use Rattle.go_rules.specs.GoTypes.TypeNames.{type_meant, params_meant}
+use Rattle.go_rules.specs.GoTypes.Operands.{Operand, value}
+use Rattle.go_rules.specs.GoTypes.Statements.{names_once, bound_names, some_declared, bind_each, range_types, range_binds, param_binds, body_binds}
+use Rattle.go_rules.specs.GoTypes.Typing.{binds_or, binds_of, new_by_range, parts}
 use Rattle.form_meaning.specs.FormInPlace.Bound.{range_left_binds, literal_binds}
 use Rattle.run_rules.specs.Surroundings.{left_declares}
 use Rattle.constant_steps.specs.WrittenLiteral.Within.{Grows}
@@ -62,7 +62,7 @@ module _ {S : Type 0} where
   named_params [] = refl
   named_params (p ∷ ps) = go p.name (named_params ps)
     where
-      go : (o : Option (NameAt S)) → names_of (param_names ps) ≡ params_names ps → names_of (Rattle.go_tree.specs.ScopeNames.Scopes.with_name o (param_names ps)) ≡ Rattle.go_tree.specs.ScopeNames.FreeNames.name_then o (params_names ps)
+      go : (o : Option (NameAt S)) → names_of (param_names ps) ≡ params_names ps → names_of (Rattle.go_rules.specs.ScopeNames.Scopes.with_name o (param_names ps)) ≡ Rattle.go_rules.specs.ScopeNames.FreeNames.name_then o (params_names ps)
       go None e = e
       go (Some n) e = ap (λ z. n.name ∷ z) e
 
@@ -78,7 +78,7 @@ module _ {S : Type 0} where
   params_list a [] = λ n. refl
   params_list a (p ∷ ps) = go (type_meant a p.of) (params_meant a ps) (params_list a ps)
     where
-      last : (o : Option (NameAt S)) (t : GoType) (ts : List GoType) → Lists (not_blank (param_names ps)) (param_binds ps ts) → Lists (not_blank (Rattle.go_tree.specs.ScopeNames.Scopes.with_name o (param_names ps))) (Rattle.go_tree.specs.GoTypes.Statements.param_binding o t ++ param_binds ps ts)
+      last : (o : Option (NameAt S)) (t : GoType) (ts : List GoType) → Lists (not_blank (param_names ps)) (param_binds ps ts) → Lists (not_blank (Rattle.go_rules.specs.ScopeNames.Scopes.with_name o (param_names ps))) (Rattle.go_rules.specs.GoTypes.Statements.param_binding o t ++ param_binds ps ts)
       last None t ts h = h
       last (Some n) t ts h = one_more n (variable t) (param_names ps) (param_binds ps ts) h
 

@@ -2,9 +2,9 @@
 use Rattle.std.specs.Prelude.{◌≡◌, refl, Bool, true, false, List, [], None, nat_eq}
 use Rattle.std.proofs.Common.{arith}
 use Rattle.go_tree.specs.Tree.{Sig, func_lit, Stmts}
-use Rattle.go_tree.specs.ScopeNames.Means.{Environment}
+use Rattle.go_rules.specs.ScopeNames.Means.{Environment}
 use Rattle.pkg_graph.specs.Package.{Package}
-use Rattle.go_tree.specs.GoTypes.Entities.{Entity, World, in_block}
+use Rattle.go_rules.specs.GoTypes.Entities.{Entity, World, in_block}
 use Rattle.form_meaning.specs.FormInPlace.CalledLiteral.{declared_at}
 use Rattle.form_meaning.specs.FormInPlace.Written.{Written}
 use Rattle.run_rules.specs.Surroundings.{other, Place}

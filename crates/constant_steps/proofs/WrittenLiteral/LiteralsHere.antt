@@ -2,9 +2,9 @@
 use Rattle.std.specs.Prelude.{◌≡◌, refl, ℕ, List, Option, Some, None}
 use mathlib.Core.Path.{ap, subst}
 use Rattle.go_tree.specs.Tree.{Elems, no_elems, elem, no_value, some_value}
-use Rattle.go_tree.specs.GoTypes.Types.{GoType, GoFields, no_go_fields, go_field, fields_of}
-use Rattle.go_tree.specs.GoTypes.Entities.{Env, defined_in}
-use Rattle.go_tree.specs.GoTypes.Literals.{field_key, literal_takes}
+use Rattle.go_rules.specs.GoTypes.Types.{GoType, GoFields, no_go_fields, go_field, fields_of}
+use Rattle.go_rules.specs.GoTypes.Entities.{Env, defined_in}
+use Rattle.go_rules.specs.GoTypes.Literals.{field_key, literal_takes}
 use Rattle.form_meaning.specs.FormInPlace.Places.{Landing, SeenFields, key_name, KeysSeen, KeysIn}
 use Rattle.form_meaning.specs.FormInPlace.Leaves.{LiteralAlike}
 

@@ -4,24 +4,24 @@ use mathlib.Core.Path.{ap, sym, ◌∙◌, subst}
 use Rattle.std.proofs.Common.{arith}
 use Rattle.go_tree.specs.Tree.{NameAt, TypeExpr, Exprs, no_exprs, const_decl, var_decl, empty, eval, step, assign, define, return_, break_, continue_, inner, if_, for_, range_, switch, defer, label, ValueSpecs, no_specs, spec}
 use Rattle.go_tree.specs.File.{ImportSpec, TypeSpec, Receiver, Func, Decl, values, types, func}
-use Rattle.go_tree.specs.ScopeNames.FreeNames.{names_of}
-use Rattle.go_tree.specs.ScopeNames.Means.{Environment, means, is_blank, binding, numbered, or_else}
+use Rattle.go_rules.specs.ScopeNames.FreeNames.{names_of}
+use Rattle.go_rules.specs.ScopeNames.Means.{Environment, means, is_blank, binding, numbered, or_else}
 use Rattle.pkg_graph.specs.Package.{SourceTree, Package}
 use Rattle.pkg_graph.specs.Members.{Target, imported, member, specs_names, unless_method, block_names, items_from, decls_from, files_from, import_name}
-use Rattle.go_tree.specs.GoTypes.Answers.{given, only_if}
-use Rattle.go_tree.specs.GoTypes.Types.{GoType, FuncType}
-use Rattle.go_tree.specs.GoTypes.Entities.{run, exact, shift, Entity, variable, constant, type_name, function, World, Env, Binds, block_of, package_of}
-use Rattle.go_tree.specs.GoTypes.Operands.{Operand, Typed, all_typed, settled}
-use Rattle.go_tree.specs.GoTypes.Declarations.{bind_all, bind_each, constant_entity, variable_entity}
-use Rattle.go_tree.specs.GoTypes.Programs as source
-use Rattle.go_tree.specs.GoTypes.Programs.{SourcePackage, Program, headed, headed_package, is_main, env_of, spec_of, header_sound, Import, Header, constants, variables, a_type_spec, a_func, Headed, SourceFile, headed_file, headed_files, headers, all_headers, constant_headers, variable_headers, header_names, names_in, import_entity, import_sound, file_block, at_member}
-use Rattle.go_tree.specs.GoTypes.Collect.{package_constants, package_variables, type_entity, spec_type, good_entity, is_good_type, function_declared, func_declared, may_be_main, DeclaredTypes, declared_by, binds_or_refused, block_by}
-use Rattle.go_tree.specs.GoTypes.TypeNames.{written_type, func_type}
-use Rattle.go_tree.specs.GoTypes.Typing.{all_parts}
-use Rattle.go_tree.specs.GoTypes.Bodies.{no_values, body_binds}
-use Rattle.go_tree.specs.GoTypes.Bodiless.{all_bodiless}
-use Rattle.go_tree.specs.GoTypes.Initial.{all_initial}
-use Rattle.go_tree.proofs.GoTypes.Agreeing.{from_given, from_both, from_only, some_same}
+use Rattle.go_rules.specs.GoTypes.Answers.{given, only_if}
+use Rattle.go_rules.specs.GoTypes.Types.{GoType, FuncType}
+use Rattle.go_rules.specs.GoTypes.Entities.{run, exact, shift, Entity, variable, constant, type_name, function, World, Env, Binds, block_of, package_of}
+use Rattle.go_rules.specs.GoTypes.Operands.{Operand, Typed, all_typed, settled}
+use Rattle.go_rules.specs.GoTypes.Declarations.{bind_all, bind_each, constant_entity, variable_entity}
+use Rattle.go_rules.specs.GoTypes.Programs as source
+use Rattle.go_rules.specs.GoTypes.Programs.{SourcePackage, Program, headed, headed_package, is_main, env_of, spec_of, header_sound, Import, Header, constants, variables, a_type_spec, a_func, Headed, SourceFile, headed_file, headed_files, headers, all_headers, constant_headers, variable_headers, header_names, names_in, import_entity, import_sound, file_block, at_member}
+use Rattle.go_rules.specs.GoTypes.Collect.{package_constants, package_variables, type_entity, spec_type, good_entity, is_good_type, function_declared, func_declared, may_be_main, DeclaredTypes, declared_by, binds_or_refused, block_by}
+use Rattle.go_rules.specs.GoTypes.TypeNames.{written_type, func_type}
+use Rattle.go_rules.specs.GoTypes.Typing.{all_parts}
+use Rattle.go_rules.specs.GoTypes.Bodies.{no_values, body_binds}
+use Rattle.go_rules.specs.GoTypes.Bodiless.{all_bodiless}
+use Rattle.go_rules.specs.GoTypes.Initial.{all_initial}
+use Rattle.go_rules.proofs.GoTypes.Agreeing.{from_given, from_both, from_only, some_same}
 use Rattle.typed_in_place.specs.ImportRule.{imports_sound}
 use Rattle.constant_steps.specs.WrittenLiteral.LinkedNames.{AllDeclared, NoneNumbered}
 use Rattle.form_meaning.specs.FormInPlace.Places.{is_member}

@@ -2,9 +2,9 @@
 use Rattle.std.specs.Prelude.{◌≡◌, refl, ℕ, false, List, [], ◌∷◌, None, codes}
 use Rattle.go_tree.specs.Tree.{NameAt, Expr, ident, int_lit, selector, expr_and, no_exprs, const_decl, no_specs, spec}
 use Rattle.go_tree.specs.File.{Decl, File, values}
-use Rattle.go_tree.specs.ScopeNames.Means.{means}
+use Rattle.go_rules.specs.ScopeNames.Means.{means}
 use Rattle.pkg_graph.specs.Package.{Package}
-use Rattle.go_tree.specs.GoTypes.Entities.{universe}
+use Rattle.go_rules.specs.GoTypes.Entities.{universe}
 use Rattle.run_rules.specs.Programs.{linked_file, world, top_env}
 use Rattle.run_rules.specs.Sites.{Where}
 use Rattle.constant_steps.specs.WrittenLiteral.LinkedNames.{Standing}

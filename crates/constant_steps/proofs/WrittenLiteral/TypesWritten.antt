@@ -3,14 +3,14 @@ use Rattle.std.specs.Prelude.{◌≡◌, refl, ℕ, Bool, true, false, not, ◌&
 use mathlib.Core.Path.{ap, sym, ◌∙◌, subst}
 use Rattle.std.proofs.Common.{arith}
 use Rattle.go_tree.specs.Tree.{NameAt, TypeExpr, named, pointer, slice_type, map_type, struct_type, Fields, no_fields, field}
-use Rattle.go_tree.specs.ScopeNames.Means.{Environment, means, is_blank}
-use Rattle.go_tree.specs.ScopeNames.FreeNames.{names_of}
+use Rattle.go_rules.specs.ScopeNames.Means.{Environment, means, is_blank}
+use Rattle.go_rules.specs.ScopeNames.FreeNames.{names_of}
 use Rattle.pkg_graph.specs.Package.{Package}
 use Rattle.pkg_graph.specs.Members.{Target, local, imported, member, predeclared}
-use Rattle.go_tree.specs.GoTypes.Answers.{given, both, one_of, only_if, is_among}
-use Rattle.go_tree.specs.GoTypes.Types.{pointer_to, slice_of, map_of, struct_of, go_field, field_names}
-use Rattle.go_tree.specs.GoTypes.Entities.{Entity, World, Env, meaning, package_of, is_exported, exported, type_of_name}
-use Rattle.go_tree.specs.GoTypes.TypeNames.{field_package}
+use Rattle.go_rules.specs.GoTypes.Answers.{given, both, one_of, only_if, is_among}
+use Rattle.go_rules.specs.GoTypes.Types.{pointer_to, slice_of, map_of, struct_of, go_field, field_names}
+use Rattle.go_rules.specs.GoTypes.Entities.{Entity, World, Env, meaning, package_of, is_exported, exported, type_of_name}
+use Rattle.go_rules.specs.GoTypes.TypeNames.{field_package}
 use Rattle.form_meaning.specs.FormInPlace.Places.{TypeAlike}
 use Rattle.form_meaning.proofs.FormInPlace.Uses.{both_used, same_used, apart_used, single_apart, both_apart, nothing_apart}
 use Rattle.form_meaning.proofs.FormInPlace.TypesInPlace.{FieldsAlike}

@@ -4,10 +4,10 @@ use mathlib.Core.Path.{ap, sym, ◌∙◌}
 use Rattle.std.proofs.lemmas.Slice.Eq.{bytes_eq-Decides}
 use Rattle.std.proofs.Common.{arith}
 use Rattle.go_tree.specs.Tree.{NameAt}
-use Rattle.go_tree.specs.ScopeNames.Means.{Environment, means}
-use Rattle.go_tree.specs.GoTypes.Answers.{is_among}
-use Rattle.go_tree.specs.GoTypes.Entities.{Entity, World, Env, Binds, extend, in_block}
-use Rattle.go_tree.specs.GoTypes.Statements.{bound_names}
+use Rattle.go_rules.specs.ScopeNames.Means.{Environment, means}
+use Rattle.go_rules.specs.GoTypes.Answers.{is_among}
+use Rattle.go_rules.specs.GoTypes.Entities.{Entity, World, Env, Binds, extend, in_block}
+use Rattle.go_rules.specs.GoTypes.Statements.{bound_names}
 use Rattle.form_meaning.specs.FormInPlace.Places.{SameName, AllSame}
 use Rattle.form_meaning.specs.FormInPlace.Bound.{at_iota}
 use Rattle.form_meaning.proofs.FormInPlace.Uses.{among_append, among_left}

@@ -4,7 +4,7 @@ use Rattle.std.specs.Prelude.{◌≡◌, true, false, Bool, ◌&&◌, if◌then�
 use Rattle.go_tree.specs.Tree.{Expr, ident}
 use Rattle.pkg_graph.specs.Package.{Package}
 use Rattle.param_choice.specs.Chosen.{has}
-use Rattle.go_tree.specs.GoTypes.Answers.{meets}
+use Rattle.go_rules.specs.GoTypes.Answers.{meets}
 use Rattle.run_rules.specs.Surroundings.{Use, returned, other, Seen, seen}
 use Rattle.run_rules.specs.Places.{expr_seen, stmts_seen}
 use Rattle.run_rules.specs.Calls.{Call, is_stored, func_type_is, start_with}

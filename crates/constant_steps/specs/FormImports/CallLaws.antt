@@ -3,7 +3,7 @@
 use Rattle.std.specs.Prelude.{◌≡◌, Bool, if◌then◌else◌, List, Some}
 use Rattle.go_tree.specs.Tree.{Expr}
 use Rattle.go_tree.specs.File.{Func, func}
-use Rattle.go_tree.specs.ScopeNames.Identifiers.{expr_identifiers, decl_identifiers}
+use Rattle.go_rules.specs.ScopeNames.Identifiers.{expr_identifiers, decl_identifiers}
 use Rattle.run_rules.specs.Sites.{MarkRef, Where, an_expr, a_function, where_is, inlinable}
 use Rattle.run_rules.specs.Calls.{Call, chosen}
 use Rattle.run_rules.specs.FormTrees.{ExprForm, BlockForm, TailForm, LiteralForm, one_expr}

@@ -3,11 +3,11 @@
 use Rattle.std.specs.Prelude.{◌≡◌, Bool, false, List, ◌++◌, map, Some, None, slice_get}
 use Rattle.go_tree.specs.Tree.{NameAt, TypeExpr, Expr}
 use Rattle.go_tree.specs.File.{Decl, func}
-use Rattle.go_tree.specs.ScopeNames.Identifiers.{expr_identifiers, type_identifiers}
+use Rattle.go_rules.specs.ScopeNames.Identifiers.{expr_identifiers, type_identifiers}
 use Rattle.run_rules.specs.declared.import_rules.new_import.NewImport.{NewImport}
 use Rattle.go_tree.specs.declared.spans.Span.{Span}
 use Rattle.run_rules.specs.ImportRules.SettledNames.{EachMeansIn, settled_names}
-use Rattle.go_tree.specs.ScopeNames.Means.{outermost}
+use Rattle.go_rules.specs.ScopeNames.Means.{outermost}
 use Rattle.run_rules.specs.Sites.{MarkRef, an_expr, Site, part_span, a_constant, an_alias, inlinable}
 use Rattle.run_rules.specs.Naming.{imports_added}
 use Rattle.run_rules.specs.Programs.{decl_seen}

@@ -3,7 +3,7 @@
 use Rattle.std.specs.Prelude.{◌≡◌, ℕ, List, Some, map, slice_get}
 use Rattle.go_tree.specs.declared.spans.Span.{Span}
 use Rattle.go_tree.specs.File.{Decl, File}
-use Rattle.go_tree.specs.declared.scope_names.names.FileNames.{FileNames}
+use Rattle.go_rules.specs.declared.scope_names.names.FileNames.{FileNames}
 use Rattle.scope_tables.specs.Table.{Table, IsTableOf}
 use Rattle.pkg_graph.specs.Package.{Package, import_specs}
 use Rattle.pkg_graph.specs.Members.{import_name, package_block, names_of_file}

@@ -2,8 +2,8 @@
 use Rattle.std.specs.Prelude.{◌≡◌, ℕ, true, List, [], ◌∷◌, is_some}
 use Rattle.go_tree.specs.declared.spans.Span.{Span}
 use Rattle.go_tree.specs.Tree.{TypeExpr, func_lit, for_}
-use Rattle.go_tree.specs.ScopeNames.Scopes.{expr_span}
-use Rattle.go_tree.specs.GoTypes.TypeNames.{func_type}
+use Rattle.go_rules.specs.ScopeNames.Scopes.{expr_span}
+use Rattle.go_rules.specs.GoTypes.TypeNames.{func_type}
 use Rattle.run_rules.specs.Surroundings.{Place, Seen, seen, seen_type, seen_stmt, first_declares}
 use Rattle.run_rules.specs.Sites.{type_span, named_in}
 

@@ -7,10 +7,10 @@ use Rattle.std.specs.List.{list_any}
 use Rattle.go_tree.specs.Tree.{Expr, ident}
 use Rattle.go_tree.specs.File.{Decl}
 use Rattle.pkg_graph.specs.Package.{Package}
-use Rattle.go_tree.specs.GoTypes.Answers.{is_among}
-use Rattle.go_tree.specs.GoTypes.Programs.{Program, headed, headers}
-use Rattle.go_tree.specs.GoTypes.Collect.{collected}
-use Rattle.go_tree.specs.GoTypes.WellTyped.{header_uses, is_used_in}
+use Rattle.go_rules.specs.GoTypes.Answers.{is_among}
+use Rattle.go_rules.specs.GoTypes.Programs.{Program, headed, headers}
+use Rattle.go_rules.specs.GoTypes.Collect.{collected}
+use Rattle.go_rules.specs.GoTypes.WellTyped.{header_uses, is_used_in}
 use Rattle.typed_in_place.specs.ImportRule.{import_names}
 use Rattle.run_rules.specs.Surroundings.{Use, stored, Seen, seen, seen_type, seen_stmt}
 use Rattle.run_rules.specs.Programs.{linked_imports, imports_mean, decl_seen}

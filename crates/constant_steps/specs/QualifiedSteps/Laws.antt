@@ -4,16 +4,16 @@
 use Rattle.std.specs.Prelude.{◌≡◌, ℕ, Bool, true, false, List, [], ◌++◌, Option, Some}
 use Rattle.go_tree.specs.declared.spans.Span.{Span}
 use Rattle.go_tree.specs.Tree.{TypeExpr, Expr, ident, Exprs}
-use Rattle.go_tree.specs.declared.scope_names.names.Entity.{Entity}
-use Rattle.go_tree.specs.ScopeNames.Means.{Environment, means, is_blank}
+use Rattle.go_rules.specs.declared.scope_names.names.Entity.{Entity}
+use Rattle.go_rules.specs.ScopeNames.Means.{Environment, means, is_blank}
 use Rattle.run_rules.specs.MarkKind.TheVariants.{Constant}
 use Rattle.run_rules.specs.Verdict.TheVariants.{Good}
 use Rattle.run_rules.specs.Items.{constant_verdict}
 use Rattle.pkg_graph.specs.Package.{Package}
-use Rattle.go_tree.specs.GoTypes.Entities.{World, block_of}
-use Rattle.go_tree.specs.GoTypes.Programs.{Program, file_block}
-use Rattle.go_tree.specs.GoTypes.Collect.{file_env}
-use Rattle.go_tree.specs.GoTypes.WellTyped.{well_typed}
+use Rattle.go_rules.specs.GoTypes.Entities.{World, block_of}
+use Rattle.go_rules.specs.GoTypes.Programs.{Program, file_block}
+use Rattle.go_rules.specs.GoTypes.Collect.{file_env}
+use Rattle.go_rules.specs.GoTypes.WellTyped.{well_typed}
 use Rattle.go_translation.specs.Packages as translated
 use Rattle.go_translation.specs.Packages.{sources, are_distinct, are_well_typed}
 use Rattle.go_translation.specs.SameMeaning.{Packages, WellTyped, with_further, SameMeaning}

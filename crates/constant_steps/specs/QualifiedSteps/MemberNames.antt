@@ -4,8 +4,8 @@
 use Rattle.std.specs.Prelude.{◌≡◌, true, false, List, [], Option, Some, ℕ}
 use Rattle.go_tree.specs.Tree.{NameAt, Expr, ident, selector}
 use Rattle.pkg_graph.specs.Package.{Package}
-use Rattle.go_tree.specs.ScopeNames.Means.{means, is_blank}
-use Rattle.go_tree.specs.GoTypes.Entities.{Entity, Env, block_of, is_exported}
+use Rattle.go_rules.specs.ScopeNames.Means.{means, is_blank}
+use Rattle.go_rules.specs.GoTypes.Entities.{Entity, Env, block_of, is_exported}
 use Rattle.typed_in_place.specs.Leaves.{Names}
 use Rattle.run_rules.specs.Surroundings.{Place, is_local}
 use Rattle.run_rules.specs.Sites.{MarkRef, Where, name_mark, qualified_mark}

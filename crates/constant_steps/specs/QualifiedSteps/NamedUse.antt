@@ -5,7 +5,7 @@ use Rattle.std.specs.Prelude.{◌≡◌, ℕ, Bool, List, [], Some, None, map, s
 use Rattle.go_tree.specs.Tree.{NameAt, Expr, ident, selector}
 use Rattle.go_tree.specs.File.{Decl}
 use Rattle.pkg_graph.specs.Package.{Package}
-use Rattle.go_tree.specs.GoTypes.Programs.{Program}
+use Rattle.go_rules.specs.GoTypes.Programs.{Program}
 use Rattle.run_rules.specs.Programs.{linked_file, decl_seen}
 use Rattle.run_rules.specs.Sites.{MarkRef, Where, Site, a_constant, an_expr, where_is, inlinable}
 use Rattle.run_rules.specs.Naming.{Named, imports_added}

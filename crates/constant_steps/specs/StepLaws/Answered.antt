@@ -6,17 +6,17 @@ use Rattle.std.specs.Prelude.{◌≡◌, ℕ, suc, List, [], ◌∷◌, ◌++◌
 use Rattle.go_tree.specs.Tree.{NameAt, Sig, TypeExpr, Expr, composite, func_lit, Exprs, Elems, no_elems, elem, Value}
 use Rattle.go_tree.specs.Tree.{plain, braced, ValueOption, no_value, some_value, Stmt, const_decl, StmtOption}
 use Rattle.go_tree.specs.Tree.{RangeLeft, ValueSpecs, no_specs, spec}
-use Rattle.go_tree.specs.ScopeNames.FreeNames.{names_of, sig_names, declared, declared_option, defined}
-use Rattle.go_tree.specs.GoTypes.Answers.{given, meets}
-use Rattle.go_tree.specs.GoTypes.Types.{GoType, FuncType}
-use Rattle.go_tree.specs.GoTypes.Defined.{under}
-use Rattle.go_tree.specs.GoTypes.Entities.{Env, defined_in, extend, in_block, refused}
-use Rattle.go_tree.specs.GoTypes.TypeNames.{type_meant, func_type, written_type}
-use Rattle.go_tree.specs.GoTypes.Literals.{is_struct, key_type, inner_type, literal_type}
-use Rattle.go_tree.specs.GoTypes.Statements.{no_values, bind_each}
-use Rattle.go_tree.specs.GoTypes.Typing.{parts, all_parts, places, declares, declares_first, range_declares, binds_of}
-use Rattle.go_tree.specs.GoTypes.Typing.{literal_env, right_values, new_variables, nothing_to_repeat, new_constants}
-use Rattle.go_tree.specs.GoTypes.Typing.{Repeated}
+use Rattle.go_rules.specs.ScopeNames.FreeNames.{names_of, sig_names, declared, declared_option, defined}
+use Rattle.go_rules.specs.GoTypes.Answers.{given, meets}
+use Rattle.go_rules.specs.GoTypes.Types.{GoType, FuncType}
+use Rattle.go_rules.specs.GoTypes.Defined.{under}
+use Rattle.go_rules.specs.GoTypes.Entities.{Env, defined_in, extend, in_block, refused}
+use Rattle.go_rules.specs.GoTypes.TypeNames.{type_meant, func_type, written_type}
+use Rattle.go_rules.specs.GoTypes.Literals.{is_struct, key_type, inner_type, literal_type}
+use Rattle.go_rules.specs.GoTypes.Statements.{no_values, bind_each}
+use Rattle.go_rules.specs.GoTypes.Typing.{parts, all_parts, places, declares, declares_first, range_declares, binds_of}
+use Rattle.go_rules.specs.GoTypes.Typing.{literal_env, right_values, new_variables, nothing_to_repeat, new_constants}
+use Rattle.go_rules.specs.GoTypes.Typing.{Repeated}
 use Rattle.run_rules.specs.Surroundings.{Use, Place, Seen, seen, seen_type, seen_stmt, into_type, elem_use, key_use}
 use Rattle.run_rules.specs.Surroundings.{after_stmt, after_first, plain_slot, ranged, in_literal, after_variables}
 use Rattle.run_rules.specs.Surroundings.{alike, value_use, in_constant, before_repeats, after_constants, repeated_by}

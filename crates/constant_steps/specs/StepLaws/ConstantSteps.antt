@@ -5,11 +5,11 @@ use Rattle.std.specs.Prelude.{◌≡◌, true, ℕ, zero, suc, Bool, List, [], �
 use Rattle.std.specs.List.{list_all}
 use Rattle.go_tree.specs.Tree.{Expr}
 use Rattle.go_tree.specs.File.{Decl, File}
-use Rattle.go_tree.specs.ScopeNames.Means.{Environment}
+use Rattle.go_rules.specs.ScopeNames.Means.{Environment}
 use Rattle.pkg_graph.specs.Package.{Package}
-use Rattle.go_tree.specs.GoTypes.Entities.{Entity, World}
-use Rattle.go_tree.specs.GoTypes.Programs.{SourceFile, SourcePackage, Program, headed, block_names, file_block, is_main}
-use Rattle.go_tree.specs.GoTypes.Collect.{file_env, collected}
+use Rattle.go_rules.specs.GoTypes.Entities.{Entity, World}
+use Rattle.go_rules.specs.GoTypes.Programs.{SourceFile, SourcePackage, Program, headed, block_names, file_block, is_main}
+use Rattle.go_rules.specs.GoTypes.Collect.{file_env, collected}
 use Rattle.run_rules.specs.Programs.{top_place, body_place}
 use Rattle.run_rules.specs.FormTrees.{as_expr}
 use Rattle.run_rules.specs.Steps.{changes_for, new_decl}

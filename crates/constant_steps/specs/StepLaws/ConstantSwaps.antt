@@ -5,9 +5,9 @@ use Rattle.std.specs.Prelude.{ℕ, zero, suc, Bool, List, [], ◌∷◌, ◌++�
 use Rattle.go_tree.specs.Tree.{Expr}
 use Rattle.go_tree.specs.File.{File}
 use Rattle.pkg_graph.specs.Package.{Package}
-use Rattle.go_tree.specs.GoTypes.Entities.{World}
-use Rattle.go_tree.specs.GoTypes.Programs.{SourceFile, SourcePackage, Program, block_names, file_block}
-use Rattle.go_tree.specs.GoTypes.Collect.{file_env, collected}
+use Rattle.go_rules.specs.GoTypes.Entities.{World}
+use Rattle.go_rules.specs.GoTypes.Programs.{SourceFile, SourcePackage, Program, block_names, file_block}
+use Rattle.go_rules.specs.GoTypes.Collect.{file_env, collected}
 use Rattle.run_rules.specs.Programs.{decl_seen}
 use Rattle.constant_steps.specs.StepLaws.DeclStands.{AtNth}
 use Rattle.constant_steps.specs.StepLaws.SwapUses.{AllSwapsThere}

@@ -3,11 +3,11 @@
 use Rattle.std.specs.Prelude.{◌≡◌, ℕ, zero, suc, Bool, false, List, [], ◌∷◌, ◌++◌, None, Option}
 use Rattle.go_tree.specs.Tree.{NameAt, Expr}
 use Rattle.go_tree.specs.File.{File}
-use Rattle.go_tree.specs.ScopeNames.Means.{means, is_blank}
+use Rattle.go_rules.specs.ScopeNames.Means.{means, is_blank}
 use Rattle.pkg_graph.specs.Package.{Package}
-use Rattle.go_tree.specs.GoTypes.Entities.{Entity, World, Env, block_of}
-use Rattle.go_tree.specs.GoTypes.Programs.{SourceFile, SourcePackage, Program, Headed, headed, block_names, file_block}
-use Rattle.go_tree.specs.GoTypes.Collect.{file_env}
+use Rattle.go_rules.specs.GoTypes.Entities.{Entity, World, Env, block_of}
+use Rattle.go_rules.specs.GoTypes.Programs.{SourceFile, SourcePackage, Program, Headed, headed, block_names, file_block}
+use Rattle.go_rules.specs.GoTypes.Collect.{file_env}
 use Rattle.run_rules.specs.Programs.{decl_seen}
 use Rattle.run_rules.specs.Surroundings.{Place, is_local}
 use Rattle.typed_in_place.specs.Declared.{NamesConstant}

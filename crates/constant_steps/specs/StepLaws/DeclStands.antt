@@ -3,15 +3,15 @@
 use Rattle.std.specs.Prelude.{◌≡◌, ℕ, zero, suc, Bool, true, List, [], ◌∷◌, ◌++◌, Option, Some, None}
 use Rattle.go_tree.specs.Tree.{NameAt, TypeExpr, Exprs, no_exprs, const_decl, var_decl, ValueSpecs, no_specs, spec}
 use Rattle.go_tree.specs.File.{TypeSpec, Func, Decl, values, types, func}
-use Rattle.go_tree.specs.ScopeNames.Means.{Environment}
-use Rattle.go_tree.specs.ScopeNames.FreeNames.{sig_names}
-use Rattle.go_tree.specs.GoTypes.Entities.{Entity, World, Env}
-use Rattle.go_tree.specs.GoTypes.Programs.{Header, constants, variables, a_type_spec, a_func, Headed, SourceFile}
-use Rattle.go_tree.specs.GoTypes.Programs.{SourcePackage, Program, headed, all_headers, block_names, file_block}
-use Rattle.go_tree.specs.GoTypes.Programs.{is_main}
-use Rattle.go_tree.specs.GoTypes.TypeNames.{resolved}
-use Rattle.go_tree.specs.GoTypes.Collect.{file_env, aliased_world, typed_world, collected}
-use Rattle.go_tree.specs.GoTypes.WellTyped.{body_env, receiver_names}
+use Rattle.go_rules.specs.ScopeNames.Means.{Environment}
+use Rattle.go_rules.specs.ScopeNames.FreeNames.{sig_names}
+use Rattle.go_rules.specs.GoTypes.Entities.{Entity, World, Env}
+use Rattle.go_rules.specs.GoTypes.Programs.{Header, constants, variables, a_type_spec, a_func, Headed, SourceFile}
+use Rattle.go_rules.specs.GoTypes.Programs.{SourcePackage, Program, headed, all_headers, block_names, file_block}
+use Rattle.go_rules.specs.GoTypes.Programs.{is_main}
+use Rattle.go_rules.specs.GoTypes.TypeNames.{resolved}
+use Rattle.go_rules.specs.GoTypes.Collect.{file_env, aliased_world, typed_world, collected}
+use Rattle.go_rules.specs.GoTypes.WellTyped.{body_env, receiver_names}
 use Rattle.typed_in_place.specs.Replaced.{TypeReplaced, StmtsReplaced}
 use Rattle.typed_in_place.specs.ProgramsAlike.{OneByOne}
 use Rattle.typed_in_place.specs.HeaderReplaced.{SpecsIn, SameReceiver, HeaderIn}

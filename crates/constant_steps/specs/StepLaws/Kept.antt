@@ -2,7 +2,7 @@
 -- nothing there (Go specification, Constant declarations; Iota).
 use Rattle.std.specs.Prelude.{◌≡◌, ℕ, suc, Bool, false, List, [], ◌∷◌}
 use Rattle.go_tree.specs.Tree.{Stmt, const_decl, ValueSpecs, no_specs, spec}
-use Rattle.go_tree.specs.GoTypes.Typing.{Repeated, nothing_to_repeat}
+use Rattle.go_rules.specs.GoTypes.Typing.{Repeated, nothing_to_repeat}
 use Rattle.go_translation.specs.Swapped.{begins_anew}
 use Rattle.run_rules.specs.Forms.{is_at}
 use Rattle.run_rules.specs.Places.{all_seen}

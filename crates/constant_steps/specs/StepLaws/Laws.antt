@@ -4,13 +4,13 @@ use Rattle.std.specs.Prelude.{◌≡◌, ℕ, Bool, true, false, List, ◌++◌,
 use Rattle.go_tree.specs.declared.spans.Span.{Span}
 use Rattle.go_tree.specs.Tree.{NameAt, Expr, Stmts}
 use Rattle.go_tree.specs.File.{Decl, File}
-use Rattle.go_tree.specs.ScopeNames.Means.{Environment, means, is_blank}
+use Rattle.go_rules.specs.ScopeNames.Means.{Environment, means, is_blank}
 use Rattle.pkg_graph.specs.Package as run
-use Rattle.go_tree.specs.GoTypes.Answers.{is_among}
-use Rattle.go_tree.specs.GoTypes.Entities.{Entity, World, Env, block_of}
-use Rattle.go_tree.specs.GoTypes.Programs.{Program, Headed, headed}
-use Rattle.go_tree.specs.GoTypes.Collect.{file_env, types_declared, collected, named_world, valued_world}
-use Rattle.go_tree.specs.GoTypes.WellTyped.{well_typed}
+use Rattle.go_rules.specs.GoTypes.Answers.{is_among}
+use Rattle.go_rules.specs.GoTypes.Entities.{Entity, World, Env, block_of}
+use Rattle.go_rules.specs.GoTypes.Programs.{Program, Headed, headed}
+use Rattle.go_rules.specs.GoTypes.Collect.{file_env, types_declared, collected, named_world, valued_world}
+use Rattle.go_rules.specs.GoTypes.WellTyped.{well_typed}
 use Rattle.typed_in_place.specs.Declared.{RoundsEnd, NamesConstant}
 use Rattle.typed_in_place.specs.Leaves.{Names}
 use Rattle.typed_in_place.specs.ProgramReplaced.{InPlaceBeside, All, Apart}

@@ -2,10 +2,10 @@
 -- and scope): they mean there what they mean at the top of the file. A use of a constant at such a place.
 use Rattle.std.specs.Prelude.{◌≡◌, ℕ, Bool, true, false, List, [], ◌∷◌, Option}
 use Rattle.go_tree.specs.Tree.{NameAt, Expr}
-use Rattle.go_tree.specs.ScopeNames.Means.{is_blank}
-use Rattle.go_tree.specs.ScopeNames.FreeNames.{names_of}
-use Rattle.go_tree.specs.GoTypes.Answers.{is_among}
-use Rattle.go_tree.specs.GoTypes.Entities.{Entity, Env, meaning}
+use Rattle.go_rules.specs.ScopeNames.Means.{is_blank}
+use Rattle.go_rules.specs.ScopeNames.FreeNames.{names_of}
+use Rattle.go_rules.specs.GoTypes.Answers.{is_among}
+use Rattle.go_rules.specs.GoTypes.Entities.{Entity, Env, meaning}
 use Rattle.typed_in_place.specs.Declared.{ConstantOrRefused}
 use Rattle.typed_in_place.specs.Leaves.{Names}
 use Rattle.run_rules.specs.FormTrees.{as_expr}

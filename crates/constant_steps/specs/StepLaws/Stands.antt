@@ -13,18 +13,18 @@ use Rattle.go_tree.specs.Tree.{Stmts, no_stmts, stmt_and, StmtOption, no_stmt, s
 use Rattle.go_tree.specs.Tree.{some_block, RangeLeft, nothing, assigns, defines, Arms, no_arms, arm, Cases, no_cases}
 use Rattle.go_tree.specs.Tree.{case, ValueSpecs, no_specs, spec}
 use Rattle.go_tree.specs.GoWords.Terminals.{level_of}
-use Rattle.go_tree.specs.ScopeNames.FreeNames.{names_of, sig_names, declared, declared_option, defined}
-use Rattle.go_tree.specs.ScopeNames.FreeNames.{free_type_option}
-use Rattle.go_tree.specs.GoTypes.Answers.{given, meets}
-use Rattle.go_tree.specs.GoTypes.Types.{GoType}
-use Rattle.go_tree.specs.GoTypes.Defined.{under}
-use Rattle.go_tree.specs.GoTypes.Entities.{Env, defined_in, extend, in_block, refused}
-use Rattle.go_tree.specs.GoTypes.TypeNames.{type_meant, written_type}
-use Rattle.go_tree.specs.GoTypes.Literals.{is_struct, key_type, inner_type, literal_type}
-use Rattle.go_tree.specs.GoTypes.Statements.{bind_each, no_values}
-use Rattle.go_tree.specs.GoTypes.Typing.{parts, all_parts, places, used_all, declares, declares_first, range_declares}
-use Rattle.go_tree.specs.GoTypes.Typing.{binds_of, literal_env, right_values, labelled, Repeated, nothing_to_repeat}
-use Rattle.go_tree.specs.GoTypes.Typing as typing
+use Rattle.go_rules.specs.ScopeNames.FreeNames.{names_of, sig_names, declared, declared_option, defined}
+use Rattle.go_rules.specs.ScopeNames.FreeNames.{free_type_option}
+use Rattle.go_rules.specs.GoTypes.Answers.{given, meets}
+use Rattle.go_rules.specs.GoTypes.Types.{GoType}
+use Rattle.go_rules.specs.GoTypes.Defined.{under}
+use Rattle.go_rules.specs.GoTypes.Entities.{Env, defined_in, extend, in_block, refused}
+use Rattle.go_rules.specs.GoTypes.TypeNames.{type_meant, written_type}
+use Rattle.go_rules.specs.GoTypes.Literals.{is_struct, key_type, inner_type, literal_type}
+use Rattle.go_rules.specs.GoTypes.Statements.{bind_each, no_values}
+use Rattle.go_rules.specs.GoTypes.Typing.{parts, all_parts, places, used_all, declares, declares_first, range_declares}
+use Rattle.go_rules.specs.GoTypes.Typing.{binds_of, literal_env, right_values, labelled, Repeated, nothing_to_repeat}
+use Rattle.go_rules.specs.GoTypes.Typing as typing
 use Rattle.run_rules.specs.Surroundings.{Use, whole, stored, updated, called, deferred_call, alone, other, a_slot}
 use Rattle.run_rules.specs.Surroundings.{Place, alike, into_type, head_use, later_uses, arg_uses, unary_use}
 use Rattle.run_rules.specs.Surroundings.{operand_use, first_operand_use, right_uses, every_use, value_use, return_uses}
@@ -33,7 +33,7 @@ use Rattle.run_rules.specs.Surroundings.{elem_closed, after_stmt, after_first, b
 use Rattle.run_rules.specs.Surroundings.{at_stmt, plain_slot, ranged, in_literal, repeated_by, in_constant}
 use Rattle.run_rules.specs.Surroundings.{after_constants, before_repeats, after_variables}
 use Rattle.run_rules.specs.Rewriting.{Changes, new_written, new_all}
-use Rattle.go_tree.specs.GoTypes.Bodiless.{bodiless}
+use Rattle.go_rules.specs.GoTypes.Bodiless.{bodiless}
 use Rattle.typed_in_place.specs.SameFacts.{UsedAlike, SameOperand, SameStatement}
 use Rattle.typed_in_place.specs.Replaced.{TypeReplaced}
 

@@ -3,14 +3,14 @@
 use Rattle.std.specs.Prelude.{◌≡◌, ℕ, zero, suc, Bool, true, List, [], ◌∷◌, None, Some}
 use Rattle.go_tree.specs.Tree.{Expr, var_decl, ValueSpecs, no_specs, spec}
 use Rattle.go_tree.specs.File.{Func as Function, Decl, values, types, func, File}
-use Rattle.go_tree.specs.ScopeNames.Means.{Environment}
+use Rattle.go_rules.specs.ScopeNames.Means.{Environment}
 use Rattle.pkg_graph.specs.Package as run
-use Rattle.go_tree.specs.GoTypes.Types.{FuncType}
-use Rattle.go_tree.specs.GoTypes.Entities.{Entity, World}
-use Rattle.go_tree.specs.GoTypes.TypeNames.{func_type}
-use Rattle.go_tree.specs.GoTypes.Programs.{Header, variables, a_func, Headed, SourceFile, block_names, file_block}
-use Rattle.go_tree.specs.GoTypes.Programs.{is_main}
-use Rattle.go_tree.specs.GoTypes.Collect.{env_of}
+use Rattle.go_rules.specs.GoTypes.Types.{FuncType}
+use Rattle.go_rules.specs.GoTypes.Entities.{Entity, World}
+use Rattle.go_rules.specs.GoTypes.TypeNames.{func_type}
+use Rattle.go_rules.specs.GoTypes.Programs.{Header, variables, a_func, Headed, SourceFile, block_names, file_block}
+use Rattle.go_rules.specs.GoTypes.Programs.{is_main}
+use Rattle.go_rules.specs.GoTypes.Collect.{env_of}
 use Rattle.go_kernel.specs.Kernel.{ImportPath}
 use Rattle.run_rules.specs.Surroundings.{alike, value_use}
 use Rattle.run_rules.specs.Programs.{top_place, body_place}

@@ -4,13 +4,13 @@ use Rattle.std.specs.Prelude.{◌≡◌, ℕ, Bool, true, false, List, [], ◌�
 use Rattle.go_tree.specs.Tree.{Sig, Expr, composite, func_lit, Elems, no_elems, elem, Value, plain, braced, ValueOption}
 use Rattle.go_tree.specs.Tree.{no_value, some_value}
 use Rattle.go_tree.specs.File.{Func, Decl, func}
-use Rattle.go_tree.specs.declared.const_eval.consts.Const.{Const}
-use Rattle.go_tree.specs.GoTypes.Types.{GoType, FuncType}
-use Rattle.go_tree.specs.GoTypes.Defined.{Defined, under}
-use Rattle.go_tree.specs.GoTypes.Entities.{constant, Env, Binds}
-use Rattle.go_tree.specs.GoTypes.TypeNames.{type_meant, func_type}
-use Rattle.go_tree.specs.GoTypes.Literals.{is_struct, key_type, inner_type, literal_type}
-use Rattle.go_tree.specs.GoTypes.Statements.{body_binds}
+use Rattle.go_rules.specs.declared.const_eval.consts.Const.{Const}
+use Rattle.go_rules.specs.GoTypes.Types.{GoType, FuncType}
+use Rattle.go_rules.specs.GoTypes.Defined.{Defined, under}
+use Rattle.go_rules.specs.GoTypes.Entities.{constant, Env, Binds}
+use Rattle.go_rules.specs.GoTypes.TypeNames.{type_meant, func_type}
+use Rattle.go_rules.specs.GoTypes.Literals.{is_struct, key_type, inner_type, literal_type}
+use Rattle.go_rules.specs.GoTypes.Statements.{body_binds}
 use Rattle.run_rules.specs.Forms.{is_at}
 use Rattle.run_rules.specs.Surroundings.{Place, Seen, seen, seen_type, seen_stmt}
 use Rattle.go_translation.specs.Here.{Here, defined_here}

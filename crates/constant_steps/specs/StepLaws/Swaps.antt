@@ -12,13 +12,13 @@ use Rattle.go_tree.specs.Tree.{stmt_and, StmtOption, no_stmt, some_stmt, BlockOp
 use Rattle.go_tree.specs.Tree.{nothing, assigns, defines, Arms, no_arms, arm, Cases, no_cases, case, ValueSpecs}
 use Rattle.go_tree.specs.Tree.{no_specs, spec}
 use Rattle.go_tree.specs.GoWords.Terminals.{level_of}
-use Rattle.go_tree.specs.GoTypes.Answers.{given, meets}
-use Rattle.go_tree.specs.GoTypes.Types.{GoType}
-use Rattle.go_tree.specs.GoTypes.Defined.{under}
-use Rattle.go_tree.specs.GoTypes.Entities.{defined_in, extend, in_block}
-use Rattle.go_tree.specs.GoTypes.TypeNames.{type_meant}
-use Rattle.go_tree.specs.GoTypes.Literals.{is_struct, key_type, inner_type, literal_type}
-use Rattle.go_tree.specs.GoTypes.Typing.{parts, all_parts, labelled, nothing_to_repeat}
+use Rattle.go_rules.specs.GoTypes.Answers.{given, meets}
+use Rattle.go_rules.specs.GoTypes.Types.{GoType}
+use Rattle.go_rules.specs.GoTypes.Defined.{under}
+use Rattle.go_rules.specs.GoTypes.Entities.{defined_in, extend, in_block}
+use Rattle.go_rules.specs.GoTypes.TypeNames.{type_meant}
+use Rattle.go_rules.specs.GoTypes.Literals.{is_struct, key_type, inner_type, literal_type}
+use Rattle.go_rules.specs.GoTypes.Typing.{parts, all_parts, labelled, nothing_to_repeat}
 use Rattle.run_rules.specs.Surroundings.{Use, whole, stored, updated, called, deferred_call, alone, other, a_slot}
 use Rattle.run_rules.specs.Surroundings.{Place, alike, into_type, head_use, later_uses, arg_uses, unary_use}
 use Rattle.run_rules.specs.Surroundings.{operand_use, first_operand_use, right_uses, every_use, value_use, return_uses}
@@ -27,10 +27,10 @@ use Rattle.run_rules.specs.Surroundings.{elem_closed, after_stmt, after_first, b
 use Rattle.run_rules.specs.Surroundings.{at_stmt, plain_slot, ranged, in_literal, after_variables}
 use Rattle.run_rules.specs.Respanned.{value_with}
 use Rattle.run_rules.specs.Rewriting.{Changes, new_stmts, new_constants}
-use Rattle.go_tree.specs.GoTypes.Types.{FuncType}
-use Rattle.go_tree.specs.GoTypes.Entities.{Binds}
-use Rattle.go_tree.specs.GoTypes.TypeNames.{func_type}
-use Rattle.go_tree.specs.GoTypes.Statements.{body_binds}
+use Rattle.go_rules.specs.GoTypes.Types.{FuncType}
+use Rattle.go_rules.specs.GoTypes.Entities.{Binds}
+use Rattle.go_rules.specs.GoTypes.TypeNames.{func_type}
+use Rattle.go_rules.specs.GoTypes.Statements.{body_binds}
 use Rattle.run_rules.specs.FormTrees.{as_expr, keep_span}
 use Rattle.run_rules.specs.Steps.{changes_for}
 use Rattle.go_translation.specs.Mentions.{Mention, mentions_stmts}

@@ -5,14 +5,14 @@ use Rattle.std.specs.Prelude.{is_some}
 use Rattle.go_tree.specs.Tree.{NameAt, Expr, ident, composite, selector, call, func_lit, no_exprs, expr_and, Elems}
 use Rattle.go_tree.specs.Tree.{no_elems, elem, Value, plain, braced, ValueOption, no_value, some_value, const_decl}
 use Rattle.go_tree.specs.Tree.{eval, defer, ValueSpecs, no_specs, spec}
-use Rattle.go_tree.specs.ScopeNames.Means.{Environment}
-use Rattle.go_tree.specs.GoTypes.Answers.{given, meets, otherwise}
-use Rattle.go_tree.specs.GoTypes.Types.{GoType}
-use Rattle.go_tree.specs.GoTypes.Entities.{Content, Entity, World, Env, meaning, package_of, defined_in}
-use Rattle.go_tree.specs.GoTypes.TypeNames.{func_type}
-use Rattle.go_tree.specs.GoTypes.Operands.{value}
-use Rattle.go_tree.specs.GoTypes.Literals.{is_struct, key_type, inner_type}
-use Rattle.go_tree.specs.GoTypes.Typing.{parts, used_constants, nothing_to_repeat}
+use Rattle.go_rules.specs.ScopeNames.Means.{Environment}
+use Rattle.go_rules.specs.GoTypes.Answers.{given, meets, otherwise}
+use Rattle.go_rules.specs.GoTypes.Types.{GoType}
+use Rattle.go_rules.specs.GoTypes.Entities.{Content, Entity, World, Env, meaning, package_of, defined_in}
+use Rattle.go_rules.specs.GoTypes.TypeNames.{func_type}
+use Rattle.go_rules.specs.GoTypes.Operands.{value}
+use Rattle.go_rules.specs.GoTypes.Literals.{is_struct, key_type, inner_type}
+use Rattle.go_rules.specs.GoTypes.Typing.{parts, used_constants, nothing_to_repeat}
 use Rattle.form_meaning.specs.FormInPlace.Places.{at_place, Landing, Outside, TypeAlike, SelectorAlike}
 use Rattle.typed_in_place.specs.SameFacts.{UsedAlike}
 use Rattle.form_meaning.specs.FormInPlace.Written.{Written, WrittenAgain}

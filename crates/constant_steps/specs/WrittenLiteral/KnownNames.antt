@@ -1,10 +1,10 @@
 -- What is known of the names around a use and of those around a marked declaration (Go specification, Declarations and
 -- scope; Qualified identifiers).
 use Rattle.std.specs.Prelude.{◌≡◌, ℕ, true, false, List}
-use Rattle.go_tree.specs.ScopeNames.Means.{Environment, means, is_blank}
-use Rattle.go_tree.specs.ScopeNames.FreeNames.{names_of}
+use Rattle.go_rules.specs.ScopeNames.Means.{Environment, means, is_blank}
+use Rattle.go_rules.specs.ScopeNames.FreeNames.{names_of}
 use Rattle.pkg_graph.specs.Package.{Package}
-use Rattle.go_tree.specs.GoTypes.Entities.{Entity, World}
+use Rattle.go_rules.specs.GoTypes.Entities.{Entity, World}
 use Rattle.form_meaning.specs.FormInPlace.Places.{Landing}
 use Rattle.run_rules.specs.Surroundings.{Place, is_local}
 use Rattle.run_rules.specs.Sites.{Where}

@@ -2,9 +2,9 @@
 -- a run and to the rules of typing (Go specification, Declarations and scope; Import declarations; Packages).
 use Rattle.std.specs.Prelude.{◌≡◌, ℕ, true, false, List, [], ◌∷◌, ◌++◌, map, nat_eq, is_some}
 use Rattle.pkg_graph.specs.Package.{Package}
-use Rattle.go_tree.specs.GoTypes.Entities.{World}
-use Rattle.go_tree.specs.GoTypes.Programs.{SourcePackage, Program, Headed, headed, headed_package, block_names}
-use Rattle.go_tree.specs.GoTypes.Collect.{DeclaredTypes, declared_by, types_declared, valued_world}
+use Rattle.go_rules.specs.GoTypes.Entities.{World}
+use Rattle.go_rules.specs.GoTypes.Programs.{SourcePackage, Program, Headed, headed, headed_package, block_names}
+use Rattle.go_rules.specs.GoTypes.Collect.{DeclaredTypes, declared_by, types_declared, valued_world}
 use Rattle.typed_in_place.specs.ImportRule.{imports_sound}
 use Rattle.run_rules.specs.Programs.{linked, linked_file, linked_imports}
 use Rattle.run_rules.specs.Sites.{Where}

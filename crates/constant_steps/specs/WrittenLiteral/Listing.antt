@@ -2,8 +2,8 @@
 -- lists for them (Go specification, Blocks; Declarations and scope; Short variable declarations).
 use Rattle.std.specs.Prelude.{ℕ, List, [], Option}
 use Rattle.go_tree.specs.Tree.{NameAt, Sig, TypeExpr, Expr, Exprs, Stmt, StmtOption, RangeLeft}
-use Rattle.go_tree.specs.ScopeNames.Scopes.{declares, not_blank, sig_declares}
-use Rattle.go_tree.specs.GoTypes.Entities.{Env}
+use Rattle.go_rules.specs.ScopeNames.Scopes.{declares, not_blank, sig_declares}
+use Rattle.go_rules.specs.GoTypes.Entities.{Env}
 use Rattle.form_meaning.specs.FormInPlace.Bound.{Before, stmt_binds, first_binds, range_left_binds, literal_binds}
 use Rattle.form_meaning.specs.FormInPlace.Bound.{variable_binds, constant_binds, repeated_binds}
 use Rattle.run_rules.specs.Surroundings.{first_declares, left_declares}

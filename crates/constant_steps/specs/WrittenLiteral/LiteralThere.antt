@@ -1,9 +1,9 @@
 -- The literal that is written for a function at a use (Go specification, Function literals).
 use Rattle.std.specs.Prelude.{List, []}
 use Rattle.go_tree.specs.Tree.{Sig, Stmts}
-use Rattle.go_tree.specs.ScopeNames.Means.{Environment}
+use Rattle.go_rules.specs.ScopeNames.Means.{Environment}
 use Rattle.pkg_graph.specs.Package.{Package}
-use Rattle.go_tree.specs.GoTypes.Entities.{Entity, World, in_block}
+use Rattle.go_rules.specs.GoTypes.Entities.{Entity, World, in_block}
 use Rattle.form_meaning.specs.FormInPlace.CalledLiteral.{declared_at}
 use Rattle.run_rules.specs.Surroundings.{Place, in_literal}
 use Rattle.run_rules.specs.Sites.{Where}

@@ -2,11 +2,11 @@
 -- means what it does outside (Go specification, Blocks; Declarations and scope).
 use Rattle.std.specs.Prelude.{◌≡◌, ℕ, true, false, List, ◌++◌}
 use Rattle.go_tree.specs.Tree.{NameAt}
-use Rattle.go_tree.specs.ScopeNames.FreeNames.{names_of}
-use Rattle.go_tree.specs.ScopeNames.Means.{Environment, means}
-use Rattle.go_tree.specs.GoTypes.Answers.{is_among}
-use Rattle.go_tree.specs.GoTypes.Entities.{Entity, World, Env, Binds, meaning}
-use Rattle.go_tree.specs.GoTypes.Statements.{bound_names}
+use Rattle.go_rules.specs.ScopeNames.FreeNames.{names_of}
+use Rattle.go_rules.specs.ScopeNames.Means.{Environment, means}
+use Rattle.go_rules.specs.GoTypes.Answers.{is_among}
+use Rattle.go_rules.specs.GoTypes.Entities.{Entity, World, Env, Binds, meaning}
+use Rattle.go_rules.specs.GoTypes.Statements.{bound_names}
 use Rattle.form_meaning.specs.FormInPlace.Places.{SameName}
 
 -- Packages are `w` and the body's is `h`; `outside` are the names around the body, `there` those where the text will

@@ -2,10 +2,10 @@
 use Rattle.std.proofs.Common.{◌≡◌, ◌∙◌, ◌&&◌, ◌||◌, Bool, true, false, List, Option, Some, None, Result, Ok, Err, IfOk, sym, ap, subst, bytes_eq}
 use Rattle.go_tree.specs.declared.spans.Span.{Span}
 use Rattle.go_tree.specs.Tree.{Stmts}
-use Rattle.go_tree.specs.GoTypes.Answers.{distinct_by, is_empty, meets}
-use Rattle.go_tree.specs.GoTypes.Bodies.{is_body}
-use Rattle.go_tree.specs.GoTypes.Jumps.{labels_in}
-use Rattle.go_tree.specs.GoTypes.Types.{FuncType, GoType}
+use Rattle.go_rules.specs.GoTypes.Answers.{distinct_by, is_empty, meets}
+use Rattle.go_rules.specs.GoTypes.Bodies.{is_body}
+use Rattle.go_rules.specs.GoTypes.Jumps.{labels_in}
+use Rattle.go_rules.specs.GoTypes.Types.{FuncType, GoType}
 use Rattle.type_table.specs.declared.operand_rules.values.Refusal.{Refusal}
 use Rattle.type_table.specs.declared.operand_rules.values.Refusal.TheVariants.{NotTyped}
 use Rattle.control_steps.specs.Ends.{EndsAs}

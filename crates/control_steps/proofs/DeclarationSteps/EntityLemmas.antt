@@ -1,17 +1,17 @@
 -- What a name with a value declares.
 use Rattle.std.proofs.Common.{◌≡◌, ◌∙◌, ◌&&◌, ◌||◌, not, Bool, true, false, List, Option, Some, None, IfSome, is_some, refl, sym, ap, subst}
-use Rattle.go_tree.specs.declared.const_eval.consts.Const.{Const}
-use Rattle.go_tree.specs.ConstEval.Exact.{represents}
-use Rattle.go_tree.specs.GoTypes.Answers.{given, meets, only_if}
-use Rattle.go_tree.specs.GoTypes.Types.{GoType, basic, named_type, pointer_to, slice_of, map_of, struct_of, tuple_of, untyped, untyped_nil, basic_kind, has_name}
-use Rattle.go_tree.specs.GoTypes.Defined.{Defined, under}
-use Rattle.go_tree.specs.GoTypes.Identical.{identical}
-use Rattle.go_tree.specs.GoTypes.Relations.{same_underlying}
-use Rattle.go_tree.specs.GoTypes.Entities as go
-use Rattle.go_tree.specs.GoTypes.Entities.{run, exact, shift}
-use Rattle.go_tree.specs.GoTypes.Operands.{Typed, fits, kind_passes, settled}
-use Rattle.go_tree.specs.GoTypes.Declarations.{constant_entity, variable_entity}
-use Rattle.go_tree.proofs.GoTypes.IdenticalLaws.{and_left, identical_same}
+use Rattle.go_rules.specs.declared.const_eval.consts.Const.{Const}
+use Rattle.go_rules.specs.ConstEval.Exact.{represents}
+use Rattle.go_rules.specs.GoTypes.Answers.{given, meets, only_if}
+use Rattle.go_rules.specs.GoTypes.Types.{GoType, basic, named_type, pointer_to, slice_of, map_of, struct_of, tuple_of, untyped, untyped_nil, basic_kind, has_name}
+use Rattle.go_rules.specs.GoTypes.Defined.{Defined, under}
+use Rattle.go_rules.specs.GoTypes.Identical.{identical}
+use Rattle.go_rules.specs.GoTypes.Relations.{same_underlying}
+use Rattle.go_rules.specs.GoTypes.Entities as go
+use Rattle.go_rules.specs.GoTypes.Entities.{run, exact, shift}
+use Rattle.go_rules.specs.GoTypes.Operands.{Typed, fits, kind_passes, settled}
+use Rattle.go_rules.specs.GoTypes.Declarations.{constant_entity, variable_entity}
+use Rattle.go_rules.proofs.GoTypes.IdenticalLaws.{and_left, identical_same}
 use Rattle.type_table.specs.declared.nodes.TypeId.{TypeId}
 use Rattle.type_table.specs.TypeRelations.Environment.{Environment, defined_types, env_type}
 use Rattle.type_table.proofs.OperandRules.TypeLemmas.{kind_of_typed}

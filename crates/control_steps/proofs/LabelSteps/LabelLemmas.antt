@@ -1,6 +1,6 @@
 -- Labelled statements.
 use Rattle.std.proofs.Common.{◌≡◌, ◌∙◌, ◌&&◌, Bool, true, not, Option, Some, Result, Ok, Err, sym, ap, subst}
-use Rattle.go_tree.specs.GoTypes.Answers.{given, only_if}
+use Rattle.go_rules.specs.GoTypes.Answers.{given, only_if}
 use Rattle.type_table.specs.declared.operand_rules.values.Refusal.{Refusal}
 use Rattle.type_table.specs.declared.operand_rules.values.Refusal.TheVariants.{NotTyped, NoMemory}
 use Rattle.control_steps.specs.Ends.{EndsAs}

@@ -1,11 +1,11 @@
 -- Places in blocks, and names that are declared there.
 use Rattle.std.proofs.Common.{◌≡◌, ◌∙◌, ◌+◌, ◌-◌, ◌++◌, ◌||◌, ℕ, true, false, cond, List, [], ◌∷◌, length, drop, Option, Result, Ok, Err, OnOk, OnErr, refl, sym, ap, subst, bytes_eq, arith, length-append}
-use Rattle.go_tree.specs.declared.const_eval.consts.Const.{Const}
-use Rattle.go_tree.specs.ScopeNames.Means as scope
-use Rattle.go_tree.specs.ScopeNames.Means.{binding, is_blank}
-use Rattle.go_tree.specs.GoTypes.Answers.{is_among}
-use Rattle.go_tree.specs.GoTypes.Entities as go
-use Rattle.go_tree.specs.GoTypes.Entities.{extend}
+use Rattle.go_rules.specs.declared.const_eval.consts.Const.{Const}
+use Rattle.go_rules.specs.ScopeNames.Means as scope
+use Rattle.go_rules.specs.ScopeNames.Means.{binding, is_blank}
+use Rattle.go_rules.specs.GoTypes.Answers.{is_among}
+use Rattle.go_rules.specs.GoTypes.Entities as go
+use Rattle.go_rules.specs.GoTypes.Entities.{extend}
 use Rattle.name_walks.specs.EachOnce.{with_name}
 use Rattle.name_walks.proofs.SetLaws.{among_with}
 use Rattle.type_table.specs.TypeRelations.Environment.{Environment}

@@ -3,18 +3,18 @@ use Rattle.std.proofs.Common.{◌≡◌, ◌∙◌, ℕ, false, List, [], ◌∷
 use Rattle.std.specs.Prelude.{if◌then◌else◌}
 use Rattle.go_tree.specs.declared.spans.Span.{Span}
 use Rattle.go_tree.specs.Tree.{TypeExpr, named, pointer, slice_type, map_type, struct_type, Fields, no_fields, field, Param, Sig, Expr, ident, int_lit, rune_lit, str_lit, composite, selector, index, slice, call, func_lit, type_operand, unary, binary, star, Exprs, no_exprs, expr_and, ExprOption, no_expr, some_expr, Elems, no_elems, elem, Value, plain, braced, ValueOption, no_value, some_value}
-use Rattle.go_tree.specs.GoTypes.Answers.{both, given, only_if}
-use Rattle.go_tree.specs.GoTypes.Types.{GoType, pointer_to, slice_of, map_of, struct_of}
-use Rattle.go_tree.specs.GoTypes.Defined.{has_keys, under}
-use Rattle.go_tree.specs.GoTypes.Entities.{Env, Entity, variable, constant, stand_in, type_name, function, package_name, builtin, nil_name, iota_name, refused, Place, addressable, defined_in, extend, exported, in_block, meaning}
-use Rattle.go_tree.specs.GoTypes.TypeNames.{field_before, func_type, params_meant, resolved, resolved_fields, type_meant}
-use Rattle.go_tree.specs.GoTypes.Operands.{Operand, a_function, a_type, named_operand, named_place, place_by, typed, with_value}
-use Rattle.go_tree.specs.GoTypes.Operators.{binary_of, star_of, unary_of}
-use Rattle.go_tree.specs.GoTypes.Primary.{call_of, index_of, index_place, selected, selected_place, sliced}
-use Rattle.go_tree.specs.GoTypes.Literals.{built, built_inside, field_key, inner_type, is_struct, key_type, keyed, literal_type, of_field}
-use Rattle.go_tree.specs.GoTypes.Bodies.{body_binds, body_ctx, is_body}
-use Rattle.go_tree.specs.GoTypes.Statements.{package_before}
-use Rattle.go_tree.specs.GoTypes.Typing.{all_parts, bound, element, elements, parts, place, places, stmts, with_key}
+use Rattle.go_rules.specs.GoTypes.Answers.{both, given, only_if}
+use Rattle.go_rules.specs.GoTypes.Types.{GoType, pointer_to, slice_of, map_of, struct_of}
+use Rattle.go_rules.specs.GoTypes.Defined.{has_keys, under}
+use Rattle.go_rules.specs.GoTypes.Entities.{Env, Entity, variable, constant, stand_in, type_name, function, package_name, builtin, nil_name, iota_name, refused, Place, addressable, defined_in, extend, exported, in_block, meaning}
+use Rattle.go_rules.specs.GoTypes.TypeNames.{field_before, func_type, params_meant, resolved, resolved_fields, type_meant}
+use Rattle.go_rules.specs.GoTypes.Operands.{Operand, a_function, a_type, named_operand, named_place, place_by, typed, with_value}
+use Rattle.go_rules.specs.GoTypes.Operators.{binary_of, star_of, unary_of}
+use Rattle.go_rules.specs.GoTypes.Primary.{call_of, index_of, index_place, selected, selected_place, sliced}
+use Rattle.go_rules.specs.GoTypes.Literals.{built, built_inside, field_key, inner_type, is_struct, key_type, keyed, literal_type, of_field}
+use Rattle.go_rules.specs.GoTypes.Bodies.{body_binds, body_ctx, is_body}
+use Rattle.go_rules.specs.GoTypes.Statements.{package_before}
+use Rattle.go_rules.specs.GoTypes.Typing.{all_parts, bound, element, elements, parts, place, places, stmts, with_key}
 use Rattle.control_steps.specs.LocalBlocks.Places.{in_block_of}
 
 pub given_on : {A B : Type 0} (o : Option A) (f g : A → Option B) → ((a : A) → f a ≡ g a) → given o f ≡ given o g

@@ -1,7 +1,7 @@
 -- Values in order, as the answer for them tells (Go specification, Assignment statements; Constants).
 use Rattle.std.specs.Prelude.{◌≡◌, List, [], ◌∷◌, map, Option, Some, None, Result, Ok, Err}
-use Rattle.go_tree.specs.declared.const_eval.consts.Const.{Const}
-use Rattle.go_tree.specs.GoTypes.Operands.{Typed}
+use Rattle.go_rules.specs.declared.const_eval.consts.Const.{Const}
+use Rattle.go_rules.specs.GoTypes.Operands.{Typed}
 use Rattle.type_table.specs.TypeRelations.Environment.{Environment}
 use Rattle.type_table.specs.declared.operand_rules.values.Value.{Value}
 use Rattle.type_table.specs.declared.operand_rules.values.Refusal.{Refusal}

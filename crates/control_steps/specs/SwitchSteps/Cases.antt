@@ -1,7 +1,7 @@
 -- The values of a case as they are compared one by one (Go specification, Expression switches).
 use Rattle.std.specs.Prelude.{◌≡◌, List, map}
 use Rattle.std.specs.List.{list_all}
-use Rattle.go_tree.specs.GoTypes.Statements.{case_value}
+use Rattle.go_rules.specs.GoTypes.Statements.{case_value}
 use Rattle.type_table.specs.TypeRelations.Environment.{defined_types}
 use Rattle.type_table.specs.declared.operand_rules.values.Value.{Value}
 use Rattle.type_table.specs.OperandRules.Values.{typed_of}

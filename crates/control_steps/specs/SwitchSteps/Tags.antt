@@ -1,6 +1,6 @@
 -- The value that the cases of a switch are compared with (Go specification, Expression switches).
 use Rattle.std.specs.Prelude.{Option, Some, None}
-use Rattle.go_tree.specs.GoTypes.Operands.{Operand, value, Typed}
+use Rattle.go_rules.specs.GoTypes.Operands.{Operand, value, Typed}
 
 -- a value as an operand
 abbrev pub as_operand : Option Typed → Option Operand

@@ -3,10 +3,10 @@
 
 ghost use Rattle.std.specs.Prelude.{◌≡◌, ◌&&◌, ◌||◌, Bool, Option, IfOk, bytes_eq};
 ghost use Rattle.go_tree.specs.View.{stmts_of};
-ghost use Rattle.go_tree.specs.GoTypes.Answers.{distinct_by, is_empty};
-ghost use Rattle.go_tree.specs.GoTypes.Bodies as go;
-ghost use Rattle.go_tree.specs.GoTypes.Jumps.{labels_in};
-ghost use Rattle.go_tree.specs.GoTypes.Types.{FuncType};
+ghost use Rattle.go_rules.specs.GoTypes.Answers.{distinct_by, is_empty};
+ghost use Rattle.go_rules.specs.GoTypes.Bodies as go;
+ghost use Rattle.go_rules.specs.GoTypes.Jumps.{labels_in};
+ghost use Rattle.go_rules.specs.GoTypes.Types.{FuncType};
 ghost use Rattle.type_table.specs.TypeRelations.Environment.{Environment};
 ghost use Rattle.operator_rules.specs.AccessRules.Functions.{types_at};
 ghost use Rattle.control_steps.specs.Ends.{EndsAs};

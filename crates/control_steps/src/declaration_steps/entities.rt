@@ -1,12 +1,12 @@
 //! What a name with a value declares (Go specification, Constant declarations; Variable declarations).
 
 ghost use Rattle.std.specs.Prelude.{◌≡◌, List, Some, is_some, IfSome};
-ghost use Rattle.go_tree.specs.declared.const_eval.consts.Const.{Const};
-ghost use Rattle.go_tree.specs.GoTypes.Answers.{only_if};
-ghost use Rattle.go_tree.specs.GoTypes.Declarations as go;
-ghost use Rattle.go_tree.specs.GoTypes.Defined.{under};
-ghost use Rattle.go_tree.specs.GoTypes.Entities.{constant};
-ghost use Rattle.go_tree.specs.GoTypes.Types.{basic_kind};
+ghost use Rattle.go_rules.specs.declared.const_eval.consts.Const.{Const};
+ghost use Rattle.go_rules.specs.GoTypes.Answers.{only_if};
+ghost use Rattle.go_rules.specs.GoTypes.Declarations as go;
+ghost use Rattle.go_rules.specs.GoTypes.Defined.{under};
+ghost use Rattle.go_rules.specs.GoTypes.Entities.{constant};
+ghost use Rattle.go_rules.specs.GoTypes.Types.{basic_kind};
 ghost use Rattle.type_table.specs.TypeRelations.Environment.{defined_types, env_type};
 ghost use Rattle.type_table.specs.declared.operand_rules.values.Content.TheVariants.{Exact};
 ghost use Rattle.type_table.specs.declared.operand_rules.values.ValueType.TheVariants.{Typed};

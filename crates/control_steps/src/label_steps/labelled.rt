@@ -2,8 +2,8 @@
 
 ghost use Rattle.std.specs.Prelude.{◌&&◌, false, not, true, Bool, Option, Some};
 ghost use Rattle.go_tree.specs.View.{stmt_of};
-ghost use Rattle.go_tree.specs.GoTypes.Answers.{given, only_if};
-ghost use Rattle.go_tree.specs.GoTypes.Jumps as go;
+ghost use Rattle.go_rules.specs.GoTypes.Answers.{given, only_if};
+ghost use Rattle.go_rules.specs.GoTypes.Jumps as go;
 ghost use Rattle.control_steps.specs.Ends.{EndsAs};
 
 use go_tree::{NameAt, Stmt};

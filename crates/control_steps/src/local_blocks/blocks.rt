@@ -1,10 +1,10 @@
 //! The innermost block around a place (Go specification, Blocks; Declarations and scope).
 
 ghost use Rattle.std.specs.Prelude.{◌≡◌, ◌||◌, ℕ, [], List, length, bytes_eq, IfOk, OnOk};
-ghost use Rattle.go_tree.specs.declared.const_eval.consts.Const.{Const};
-ghost use Rattle.go_tree.specs.GoTypes.Answers.{is_among};
-ghost use Rattle.go_tree.specs.GoTypes.Entities as go;
-ghost use Rattle.go_tree.specs.ScopeNames.Means.{binding};
+ghost use Rattle.go_rules.specs.declared.const_eval.consts.Const.{Const};
+ghost use Rattle.go_rules.specs.GoTypes.Answers.{is_among};
+ghost use Rattle.go_rules.specs.GoTypes.Entities as go;
+ghost use Rattle.go_rules.specs.ScopeNames.Means.{binding};
 ghost use Rattle.type_table.specs.TypeRelations.Environment.{Environment};
 ghost use Rattle.typed_names.specs.declared.scopes.Scope.{Scope as Place};
 ghost use Rattle.typed_names.specs.Meanings.{Names, entity_at};

@@ -1,13 +1,13 @@
 //! The tags of switches (Go specification, Expression switches).
 
 ghost use Rattle.std.specs.Prelude.{◌≡◌, ◌||◌, List, None, Option, Some};
-ghost use Rattle.go_tree.specs.GoTypes.Answers.{given, only_if};
+ghost use Rattle.go_rules.specs.GoTypes.Answers.{given, only_if};
 ghost use Rattle.type_flags.specs.Grown.{AreFlags};
-ghost use Rattle.go_tree.specs.GoTypes.Defined.{Defined, comparable, under};
-ghost use Rattle.go_tree.specs.GoTypes.Entities.{run};
-ghost use Rattle.go_tree.specs.GoTypes.Operands as go_operand;
-ghost use Rattle.go_tree.specs.GoTypes.Relations.{has_nil};
-ghost use Rattle.go_tree.specs.GoTypes.Statements as go;
+ghost use Rattle.go_rules.specs.GoTypes.Defined.{Defined, comparable, under};
+ghost use Rattle.go_rules.specs.GoTypes.Entities.{run};
+ghost use Rattle.go_rules.specs.GoTypes.Operands as go_operand;
+ghost use Rattle.go_rules.specs.GoTypes.Relations.{has_nil};
+ghost use Rattle.go_rules.specs.GoTypes.Statements as go;
 ghost use Rattle.type_table.specs.TypeRelations.Environment.{defined_types, env_type};
 ghost use Rattle.type_table.specs.declared.operand_rules.values.ValueType.TheVariants.{Typed};
 ghost use Rattle.type_table.specs.OperandRules.Values.{Gives, IsType, IsValue, typed_of};
@@ -15,7 +15,7 @@ ghost use Rattle.operand_modes.specs.OperandAnswers.AccessSteps.Bounds.{GivesBou
 ghost use Rattle.operand_modes.specs.CheckerTables.Ready.{AreReady, Keeps};
 ghost use Rattle.control_steps.specs.SwitchSteps.Tags.{as_operand};
 
-use go_tree::const_eval::{Const, Kind};
+use go_rules::const_eval::{Const, Kind};
 use operand_modes::checker_tables::Tables;
 use operator_rules::settled;
 use type_flags::TypeFlags;

@@ -6,17 +6,17 @@ use Rattle.go_tree.specs.declared.operators.BinOp.{BinOp}
 use Rattle.go_tree.specs.declared.operators.UnOp.{UnOp}
 use Rattle.go_tree.specs.declared.exprs.Rest.{Rest}
 use Rattle.go_tree.specs.Tree.{NameAt, Expr, selector, index, slice, call, unary, binary, star, Exprs, ExprOption, some_expr}
-use Rattle.go_tree.specs.declared.const_eval.kinds.Kind.{Kind}
-use Rattle.go_tree.specs.ConstEval.Exact.{Exact}
-use Rattle.go_tree.specs.ConstEval.Literals.{literal_value}
-use Rattle.go_tree.specs.GoTypes.Answers.{both, given}
-use Rattle.go_tree.specs.GoTypes.Entities as go_entity
-use Rattle.go_tree.specs.GoTypes.Entities.{Env, defined_in, exported}
-use Rattle.go_tree.specs.GoTypes.Operands as go
-use Rattle.go_tree.specs.GoTypes.Operands.{Typed, literal_operand, named_operand, named_place, place_by, typed, with_value}
-use Rattle.go_tree.specs.GoTypes.Operators.{binary_of, star_of, unary_of}
-use Rattle.go_tree.specs.GoTypes.Primary.{call_of, index_of, index_place, selected, selected_place, sliced}
-use Rattle.go_tree.specs.GoTypes.Typing.{all_parts, bound, package_before, parts, place, places}
+use Rattle.go_rules.specs.declared.const_eval.kinds.Kind.{Kind}
+use Rattle.go_rules.specs.ConstEval.Exact.{Exact}
+use Rattle.go_rules.specs.ConstEval.Literals.{literal_value}
+use Rattle.go_rules.specs.GoTypes.Answers.{both, given}
+use Rattle.go_rules.specs.GoTypes.Entities as go_entity
+use Rattle.go_rules.specs.GoTypes.Entities.{Env, defined_in, exported}
+use Rattle.go_rules.specs.GoTypes.Operands as go
+use Rattle.go_rules.specs.GoTypes.Operands.{Typed, literal_operand, named_operand, named_place, place_by, typed, with_value}
+use Rattle.go_rules.specs.GoTypes.Operators.{binary_of, star_of, unary_of}
+use Rattle.go_rules.specs.GoTypes.Primary.{call_of, index_of, index_place, selected, selected_place, sliced}
+use Rattle.go_rules.specs.GoTypes.Typing.{all_parts, bound, package_before, parts, place, places}
 use Rattle.type_table.specs.TypeRelations.Environment.{defined_types}
 use Rattle.type_table.specs.declared.operand_rules.values.Value.{Value}
 use Rattle.type_table.specs.declared.operand_rules.values.Refusal.{Refusal}

@@ -1,14 +1,14 @@
 -- Function literals by their signatures.
 use Rattle.std.proofs.Common.{◌≡◌, Bool, true, false, List, [], ◌∷◌, length, Option, Some, None, Ok, Err, refl, sym, ap, is_some}
-use Rattle.go_tree.specs.declared.const_eval.consts.Const.{Const}
-use Rattle.go_tree.specs.GoTypes.Answers.{given, only_if}
-use Rattle.go_tree.specs.GoTypes.Entities as go_entity
-use Rattle.go_tree.specs.GoTypes.Entities.{Binds}
+use Rattle.go_rules.specs.declared.const_eval.consts.Const.{Const}
+use Rattle.go_rules.specs.GoTypes.Answers.{given, only_if}
+use Rattle.go_rules.specs.GoTypes.Entities as go_entity
+use Rattle.go_rules.specs.GoTypes.Entities.{Binds}
 use Rattle.type_table.specs.declared.operand_rules.values.Refusal.{Refusal}
 use Rattle.type_table.specs.declared.operand_rules.values.Refusal.TheVariants.{NotTyped, NoMemory}
 use Rattle.operand_modes.specs.OperandAnswers.Located.{GivesAt}
-use Rattle.go_tree.specs.GoTypes.Operands.{a_function}
-use Rattle.go_tree.specs.GoTypes.Types.{FuncType}
+use Rattle.go_rules.specs.GoTypes.Operands.{a_function}
+use Rattle.go_rules.specs.GoTypes.Types.{FuncType}
 use Rattle.type_table.specs.declared.nodes.TypeId.{TypeId}
 use Rattle.type_table.specs.TypeRelations.Environment.{Environment, env_type}
 use Rattle.type_flags.specs.declared.grown.TypeFlags.{TypeFlags}

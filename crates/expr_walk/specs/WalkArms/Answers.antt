@@ -2,8 +2,8 @@
 use Rattle.std.specs.Prelude.{Result}
 use Rattle.go_tree.specs.declared.spans.Span.{Span}
 use Rattle.go_tree.specs.Tree.{Expr}
-use Rattle.go_tree.specs.GoTypes.Entities.{Env}
-use Rattle.go_tree.specs.GoTypes.Typing.{parts, place}
+use Rattle.go_rules.specs.GoTypes.Entities.{Env}
+use Rattle.go_rules.specs.GoTypes.Typing.{parts, place}
 use Rattle.type_table.specs.declared.operand_rules.values.Refusal.{Refusal}
 use Rattle.operand_modes.specs.declared.checker_tables.tables.Tables.{Tables}
 use Rattle.operand_modes.specs.declared.operand_answers.located.Located.{Located}

@@ -1,9 +1,9 @@
 //! Names of packages before a dot (Go specification, Qualified identifiers).
 
 ghost use Rattle.std.specs.Prelude.{◌≡◌, List};
-ghost use Rattle.go_tree.specs.declared.const_eval.consts.Const.{Const};
+ghost use Rattle.go_rules.specs.declared.const_eval.consts.Const.{Const};
 ghost use Rattle.go_tree.specs.View.{expr_of};
-ghost use Rattle.go_tree.specs.GoTypes.Statements as go;
+ghost use Rattle.go_rules.specs.GoTypes.Statements as go;
 ghost use Rattle.type_table.specs.TypeRelations.Environment.{Environment};
 ghost use Rattle.typed_names.specs.Scopes.{env_at};
 

@@ -2,12 +2,12 @@
 use Rattle.std.specs.Prelude.{◌≡◌, refl, ℕ, Bool, true, false, List, [], ◌∷◌, ◌++◌, Option, Some, None, if◌then◌else◌, nat_eq, ◌⊎◌}
 use mathlib.Core.Path.{ap, ap₂, sym, ◌∙◌, subst}
 use Rattle.std.proofs.Common.{inl, inr, arith}
-use Rattle.go_tree.specs.ScopeNames.Means.{Environment, means, or_else}
-use Rattle.go_tree.specs.GoTypes.Answers.{given, only_if, otherwise, is_among}
-use Rattle.go_tree.specs.GoTypes.Entities.{Entity, refused, block_of}
-use Rattle.go_tree.specs.GoTypes.Declarations.{bind_each}
-use Rattle.go_tree.specs.GoTypes.Programs.{Headed, header_names, Program}
-use Rattle.go_tree.specs.GoTypes.Collect.{entity_binds, binds_or_refused, block_by, blocks_by}
+use Rattle.go_rules.specs.ScopeNames.Means.{Environment, means, or_else}
+use Rattle.go_rules.specs.GoTypes.Answers.{given, only_if, otherwise, is_among}
+use Rattle.go_rules.specs.GoTypes.Entities.{Entity, refused, block_of}
+use Rattle.go_rules.specs.GoTypes.Declarations.{bind_each}
+use Rattle.go_rules.specs.GoTypes.Programs.{Headed, header_names, Program}
+use Rattle.go_rules.specs.GoTypes.Collect.{entity_binds, binds_or_refused, block_by, blocks_by}
 use Rattle.declared_types.proofs.NamesClearer.{each_means, means_append}
 
 each_same :

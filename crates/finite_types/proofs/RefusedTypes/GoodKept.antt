@@ -2,12 +2,12 @@
 use Rattle.std.specs.Prelude.{◌≡◌, refl, Bool, true, false, ◌&&◌, ◌||◌, Option, None}
 use mathlib.Core.Path.{ap, sym, ◌∙◌}
 use Rattle.go_tree.specs.File.{TypeSpec}
-use Rattle.go_tree.specs.GoTypes.Answers.{meets, only_if, otherwise}
-use Rattle.go_tree.specs.GoTypes.Defined.{has_keys}
-use Rattle.go_tree.specs.GoTypes.Entities.{Entity, refused, World}
-use Rattle.go_tree.specs.GoTypes.TypeNames.{resolved}
-use Rattle.go_tree.specs.GoTypes.Programs.{spec_of, Headed, env_of}
-use Rattle.go_tree.specs.GoTypes.Collect.{DeclaredTypes, is_finite, type_entity, spec_type, alias_entity, is_good_type, good_entity}
+use Rattle.go_rules.specs.GoTypes.Answers.{meets, only_if, otherwise}
+use Rattle.go_rules.specs.GoTypes.Defined.{has_keys}
+use Rattle.go_rules.specs.GoTypes.Entities.{Entity, refused, World}
+use Rattle.go_rules.specs.GoTypes.TypeNames.{resolved}
+use Rattle.go_rules.specs.GoTypes.Programs.{spec_of, Headed, env_of}
+use Rattle.go_rules.specs.GoTypes.Collect.{DeclaredTypes, is_finite, type_entity, spec_type, alias_entity, is_good_type, good_entity}
 use Rattle.typed_in_place.specs.Known.{Keeps, no_answer, kept}
 use Rattle.typed_in_place.proofs.Rising.{keeps_given, keeps_only, keeps_either, keeps_meets, resolved-keeps}
 use Rattle.declared_types.specs.Members.{Below}

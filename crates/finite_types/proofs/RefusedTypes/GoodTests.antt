@@ -4,12 +4,12 @@ use mathlib.Core.Path.{ap, ap₂, sym, ◌∙◌, subst}
 use Rattle.std.proofs.Common.{arith}
 use Rattle.go_tree.specs.declared.spans.Span.{Span}
 use Rattle.go_tree.specs.File.{TypeSpec}
-use Rattle.go_tree.specs.GoTypes.Answers.{given, meets, only_if}
-use Rattle.go_tree.specs.GoTypes.Types.{GoType}
-use Rattle.go_tree.specs.GoTypes.Defined.{has_keys}
-use Rattle.go_tree.specs.GoTypes.Entities.{Env, defined_in}
-use Rattle.go_tree.specs.GoTypes.TypeNames.{resolved, type_meant}
-use Rattle.go_tree.specs.GoTypes.TypeDeclarations.{is_finite}
+use Rattle.go_rules.specs.GoTypes.Answers.{given, meets, only_if}
+use Rattle.go_rules.specs.GoTypes.Types.{GoType}
+use Rattle.go_rules.specs.GoTypes.Defined.{has_keys}
+use Rattle.go_rules.specs.GoTypes.Entities.{Env, defined_in}
+use Rattle.go_rules.specs.GoTypes.TypeNames.{resolved, type_meant}
+use Rattle.go_rules.specs.GoTypes.TypeDeclarations.{is_finite}
 use Rattle.type_table.specs.TypeRelations.Environment.{Environment, Definition, IsEnvironment, AreDefinitions, env_type}
 use Rattle.type_table.specs.declared.nodes.TypeId.{TypeId}
 use Rattle.type_table.proofs.TypesAtLaws.{got_within}

@@ -4,12 +4,12 @@ use Rattle.std.specs.Prelude.{◌≡◌, refl, ℕ, zero, suc, true, false, List
 use mathlib.Core.Path.{ap, sym, ◌∙◌, subst}
 use Rattle.std.proofs.Common.{inl, inr, arith}
 use Rattle.go_tree.specs.File.{TypeSpec}
-use Rattle.go_tree.specs.ScopeNames.Means.{Environment, means, is_blank}
-use Rattle.go_tree.specs.GoTypes.Answers.{is_among}
-use Rattle.go_tree.specs.GoTypes.Entities.{Entity, refused, World, block_of, Binds}
-use Rattle.go_tree.specs.GoTypes.Declarations.{bind_each}
-use Rattle.go_tree.specs.GoTypes.Programs.{a_type_spec, Headed, header_names, Program}
-use Rattle.go_tree.specs.GoTypes.Collect.{DeclaredTypes, times, alias_entity, good_entity, entity_binds, binds_or_refused, blocks_by, refused_world, rounds, aliased_world, types_declared, typed_world}
+use Rattle.go_rules.specs.ScopeNames.Means.{Environment, means, is_blank}
+use Rattle.go_rules.specs.GoTypes.Answers.{is_among}
+use Rattle.go_rules.specs.GoTypes.Entities.{Entity, refused, World, block_of, Binds}
+use Rattle.go_rules.specs.GoTypes.Declarations.{bind_each}
+use Rattle.go_rules.specs.GoTypes.Programs.{a_type_spec, Headed, header_names, Program}
+use Rattle.go_rules.specs.GoTypes.Collect.{DeclaredTypes, times, alias_entity, good_entity, entity_binds, binds_or_refused, blocks_by, refused_world, rounds, aliased_world, types_declared, typed_world}
 use Rattle.typed_in_place.specs.Declared.{FirstWith, HasNumber}
 use Rattle.typed_in_place.specs.Known.{Clearer, refused_before, BlocksClearer}
 use Rattle.typed_in_place.proofs.Blocks.{Blocks, name_clearer, block_of_clearer, blocks_then, blocks_themselves}

@@ -4,9 +4,9 @@ use mathlib.Core.Path.{ap, ap₂, sym, ◌∙◌, subst}
 use Rattle.std.proofs.Common.{arith}
 use Rattle.go_tree.specs.declared.spans.Span.{Span}
 use Rattle.go_tree.specs.FileView.{type_spec_of}
-use Rattle.go_tree.specs.GoTypes.Programs.{Headed, Program}
-use Rattle.go_tree.specs.GoTypes.Collect.{aliased_world, types_declared, typed_world}
-use Rattle.go_tree.specs.declared.const_eval.consts.Const.{Const}
+use Rattle.go_rules.specs.GoTypes.Programs.{Headed, Program}
+use Rattle.go_rules.specs.GoTypes.Collect.{aliased_world, types_declared, typed_world}
+use Rattle.go_rules.specs.declared.const_eval.consts.Const.{Const}
 use Rattle.type_table.specs.TypeRelations.Environment.{Environment, defined_types}
 use Rattle.typed_names.specs.declared.scopes.Scope.{Scope}
 use Rattle.typed_names.specs.Known.{AllHaveTypes}

@@ -4,10 +4,10 @@ use Rattle.std.specs.Prelude.{nat_eq, bytes_eq, length, slice_get, if◌then◌e
 use Rattle.go_tree.specs.declared.spans.Span.{Span}
 use Rattle.go_tree.specs.declared.files.TypeSpec.{TypeSpec}
 use Rattle.go_tree.specs.FileView.{type_spec_of}
-use Rattle.go_tree.specs.declared.const_eval.consts.Const.{Const}
-use Rattle.go_tree.specs.ScopeNames.Means.{means}
-use Rattle.go_tree.specs.GoTypes.Programs.{Headed, Program}
-use Rattle.go_tree.specs.GoTypes.Collect as go
+use Rattle.go_rules.specs.declared.const_eval.consts.Const.{Const}
+use Rattle.go_rules.specs.ScopeNames.Means.{means}
+use Rattle.go_rules.specs.GoTypes.Programs.{Headed, Program}
+use Rattle.go_rules.specs.GoTypes.Collect as go
 use Rattle.type_table.specs.TypeRelations.Environment.{Environment}
 use Rattle.typed_names.specs.declared.entities.Entity.{Entity}
 use Rattle.typed_names.specs.declared.entities.Entity.TheVariants.{Refused}

@@ -1,11 +1,11 @@
 //! The names of types that are refused (Go specification, Type declarations; Declarations and scope).
 
 ghost use Rattle.std.specs.Prelude.{◌≡◌, List, false, true, map, length, IfOk, OnErr, OnOk};
-ghost use Rattle.go_tree.specs.declared.const_eval.consts.Const.{Const};
+ghost use Rattle.go_rules.specs.declared.const_eval.consts.Const.{Const};
 ghost use Rattle.go_tree.specs.declared.spans.Span.{Span};
-ghost use Rattle.go_tree.specs.GoTypes.Programs.{Headed, Program};
-ghost use Rattle.go_tree.specs.GoTypes.Collect.{aliased_world, typed_world};
-ghost use Rattle.go_tree.specs.GoTypes.Collect as go;
+ghost use Rattle.go_rules.specs.GoTypes.Programs.{Headed, Program};
+ghost use Rattle.go_rules.specs.GoTypes.Collect.{aliased_world, typed_world};
+ghost use Rattle.go_rules.specs.GoTypes.Collect as go;
 ghost use Rattle.type_table.specs.TypeRelations.Environment.{defined_types};
 ghost use Rattle.type_table.specs.ValueTypes.ValueTypes.{HasValueTypes};
 ghost use Rattle.typed_names.specs.Known.{KnowsTypes};

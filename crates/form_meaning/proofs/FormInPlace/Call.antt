@@ -4,17 +4,17 @@ use mathlib.Core.Path.{ap, sym, ◌∙◌}
 use Rattle.std.proofs.Common.{arith}
 use Rattle.go_tree.specs.declared.exprs.Rest.{Rest}
 use Rattle.go_tree.specs.Tree.{Param, TypeExpr, named, pointer, slice_type, map_type, struct_type, Fields, no_fields, field, Sig, Expr, ident, call, func_lit, Exprs, no_exprs, expr_and, Stmts}
-use Rattle.go_tree.specs.ScopeNames.Means.{Environment}
-use Rattle.go_tree.specs.GoTypes.Answers.{given, both, meets, only_if}
-use Rattle.go_tree.specs.GoTypes.Types.{pointer_to, slice_of, map_of, struct_of, FuncType}
-use Rattle.go_tree.specs.GoTypes.Defined.{has_keys}
-use Rattle.go_tree.specs.GoTypes.Entities.{Entity, builtin, Env, meaning, defined_in, Binds, extend, in_block}
-use Rattle.go_tree.specs.GoTypes.TypeNames.{resolved, resolved_fields, field_before, params_meant, func_type}
-use Rattle.go_tree.specs.GoTypes.Operands.{a_function, named_operand}
-use Rattle.go_tree.specs.GoTypes.Primary.{call_of, stands_alone, may_be_deferred}
-use Rattle.go_tree.specs.GoTypes.Statements.{means_panic, body_binds, body_ctx, is_panic}
-use Rattle.go_tree.specs.GoTypes.Typing.{is_body, parts, all_parts, used, used_left, stmts, is_call}
-use Rattle.go_tree.specs.GoTypes.Initial.{means_maker, is_maker, is_initial, is_constant, sizes_constant}
+use Rattle.go_rules.specs.ScopeNames.Means.{Environment}
+use Rattle.go_rules.specs.GoTypes.Answers.{given, both, meets, only_if}
+use Rattle.go_rules.specs.GoTypes.Types.{pointer_to, slice_of, map_of, struct_of, FuncType}
+use Rattle.go_rules.specs.GoTypes.Defined.{has_keys}
+use Rattle.go_rules.specs.GoTypes.Entities.{Entity, builtin, Env, meaning, defined_in, Binds, extend, in_block}
+use Rattle.go_rules.specs.GoTypes.TypeNames.{resolved, resolved_fields, field_before, params_meant, func_type}
+use Rattle.go_rules.specs.GoTypes.Operands.{a_function, named_operand}
+use Rattle.go_rules.specs.GoTypes.Primary.{call_of, stands_alone, may_be_deferred}
+use Rattle.go_rules.specs.GoTypes.Statements.{means_panic, body_binds, body_ctx, is_panic}
+use Rattle.go_rules.specs.GoTypes.Typing.{is_body, parts, all_parts, used, used_left, stmts, is_call}
+use Rattle.go_rules.specs.GoTypes.Initial.{means_maker, is_maker, is_initial, is_constant, sizes_constant}
 use Rattle.form_meaning.specs.FormInPlace.Places.{Apart}
 use Rattle.go_translation.specs.SameFacts.{UsedAlike}
 use Rattle.form_meaning.specs.FormInPlace.Written.{Written}
@@ -87,7 +87,7 @@ module _ {S : Type 0} where
     initial s2 xs z = λ w. is_constant_alike s2 xs z w || (no_maker c e f callee w && sizes_constant c xs)
       where
         is_constant_alike : (s2 : S) (xs : Exprs S) (z : Rest) → is_constant c (call s2 e xs z) ≡ is_constant c (call s2 (func_lit s g' s1 b') xs z)
-        is_constant_alike s2 xs z = ap (λ r. meets (given r Rattle.go_tree.specs.GoTypes.Operands.typed) (λ v. Rattle.std.specs.Prelude.is_some (Rattle.go_tree.specs.GoTypes.Operands.constant_of v.1))) (operand s2 xs z)
+        is_constant_alike s2 xs z = ap (λ r. meets (given r Rattle.go_rules.specs.GoTypes.Operands.typed) (λ v. Rattle.std.specs.Prelude.is_some (Rattle.go_rules.specs.GoTypes.Operands.constant_of v.1))) (operand s2 xs z)
 
     -- where the function's name isn't one that the function around declares
     module _ (outer : Apart around (used c e)) where

@@ -6,22 +6,22 @@ use Rattle.std.proofs.Common.{arith}
 use Rattle.go_tree.specs.declared.operators.BinOp.{BinOp}
 use Rattle.go_tree.specs.declared.operators.BinOp.TheVariants.{Shl, Shr, Eq, Ne, Lt, Le, Gt, Ge, LogAnd, LogOr}
 use Rattle.go_tree.specs.Tree.{Expr}
-use Rattle.go_tree.specs.declared.const_eval.kinds.Kind.{Kind}
-use Rattle.go_tree.specs.declared.const_eval.kinds.Kind.TheVariants as kind
-use Rattle.go_tree.specs.declared.const_eval.consts.Const.{Const}
-use Rattle.go_tree.specs.ConstEval.Conditions.{binary_applies}
-use Rattle.go_tree.specs.ScopeNames.Means.{Environment}
-use Rattle.go_tree.specs.GoTypes.Answers.{given, both, meets, only_if}
-use Rattle.go_tree.specs.GoTypes.Types.{GoType, basic, untyped, untyped_nil, FuncType, is_untyped, is_nil, default_kind, basic_kind}
-use Rattle.go_tree.proofs.GoTypes.IdenticalLaws.{identical_self}
-use Rattle.go_tree.specs.GoTypes.Defined.{Defined, under}
-use Rattle.go_tree.specs.GoTypes.Relations.{assignable, has_nil}
-use Rattle.go_tree.specs.GoTypes.Entities.{Builtin, Panic, Print, Println, Content, run, exact, Env, defined_in}
-use Rattle.go_tree.specs.GoTypes.Operands.{all_typed, settled, Operand, value, several, a_function, a_builtin, Typed, typed, represented, fits, takes, takes_all, spread, results_operand, kind_of}
-use Rattle.go_tree.specs.GoTypes.Operators.{common_type, joins, arithmetic, calculated_operand, divides_by_zero, truth_operand, logic, compared_at, joins_comparison, comparison_applies, comparison, binary_of}
-use Rattle.go_tree.specs.GoTypes.Operands.{kind_passes}
-use Rattle.go_tree.specs.GoTypes.Primary.{call_of, is_printed, print_call, panic_call}
-use Rattle.go_tree.specs.GoTypes.Typing.{parts, used}
+use Rattle.go_rules.specs.declared.const_eval.kinds.Kind.{Kind}
+use Rattle.go_rules.specs.declared.const_eval.kinds.Kind.TheVariants as kind
+use Rattle.go_rules.specs.declared.const_eval.consts.Const.{Const}
+use Rattle.go_rules.specs.ConstEval.Conditions.{binary_applies}
+use Rattle.go_rules.specs.ScopeNames.Means.{Environment}
+use Rattle.go_rules.specs.GoTypes.Answers.{given, both, meets, only_if}
+use Rattle.go_rules.specs.GoTypes.Types.{GoType, basic, untyped, untyped_nil, FuncType, is_untyped, is_nil, default_kind, basic_kind}
+use Rattle.go_rules.proofs.GoTypes.IdenticalLaws.{identical_self}
+use Rattle.go_rules.specs.GoTypes.Defined.{Defined, under}
+use Rattle.go_rules.specs.GoTypes.Relations.{assignable, has_nil}
+use Rattle.go_rules.specs.GoTypes.Entities.{Builtin, Panic, Print, Println, Content, run, exact, Env, defined_in}
+use Rattle.go_rules.specs.GoTypes.Operands.{all_typed, settled, Operand, value, several, a_function, a_builtin, Typed, typed, represented, fits, takes, takes_all, spread, results_operand, kind_of}
+use Rattle.go_rules.specs.GoTypes.Operators.{common_type, joins, arithmetic, calculated_operand, divides_by_zero, truth_operand, logic, compared_at, joins_comparison, comparison_applies, comparison, binary_of}
+use Rattle.go_rules.specs.GoTypes.Operands.{kind_passes}
+use Rattle.go_rules.specs.GoTypes.Primary.{call_of, is_printed, print_call, panic_call}
+use Rattle.go_rules.specs.GoTypes.Typing.{parts, used}
 use Rattle.form_meaning.specs.FormInPlace.Places.{at_place, Landing}
 use Rattle.go_translation.specs.SameFacts.{UsedAlike}
 use Rattle.form_meaning.specs.FormInPlace.Leaves.{Bare, bare_constant, bare_nil, bare_truth, BareConstant, untyped_constant, BareWhole, whole_constant}
@@ -37,7 +37,7 @@ module _ (ds : List Defined) where
   self_assignable : (t : GoType) → is_untyped t ≡ false → assignable ds t t ≡ true
   self_assignable (untyped k) e = absurd (grind (arith, e))
   self_assignable untyped_nil e = absurd (grind (arith, e))
-  self_assignable t e = ap (λ b. b || (Rattle.go_tree.specs.GoTypes.Relations.same_underlying ds t t && not (Rattle.go_tree.specs.GoTypes.Types.has_name t && Rattle.go_tree.specs.GoTypes.Types.has_name t))) (identical_self t)
+  self_assignable t e = ap (λ b. b || (Rattle.go_rules.specs.GoTypes.Relations.same_underlying ds t t && not (Rattle.go_rules.specs.GoTypes.Types.has_name t && Rattle.go_rules.specs.GoTypes.Types.has_name t))) (identical_self t)
 
   typed_fits : (t : GoType) (c : Const) → is_untyped t ≡ false → fits ds t (t, exact c) ≡ true
   typed_fits t c e = ap (λ b. if b then represented ds t c else assignable ds t t) e ∙ self_assignable t e
@@ -184,7 +184,7 @@ module _ (ds : List Defined) where
 
   same_compared : (t : GoType) (c d : Content) → is_untyped t ≡ false → compared_at ds (t, c) (t, d) ≡ Some t
   same_compared t c d e =
-      ap (λ b. if b || b then given (common_type ds t t) (λ t. if Rattle.go_tree.specs.GoTypes.Operands.is_shift c || Rattle.go_tree.specs.GoTypes.Operands.is_shift d then Rattle.go_tree.specs.GoTypes.Operands.default_type ds t else Some t) else (if assignable ds t t then Some t else only_if (assignable ds t t) (Some t))) e
+      ap (λ b. if b || b then given (common_type ds t t) (λ t. if Rattle.go_rules.specs.GoTypes.Operands.is_shift c || Rattle.go_rules.specs.GoTypes.Operands.is_shift d then Rattle.go_rules.specs.GoTypes.Operands.default_type ds t else Some t) else (if assignable ds t t then Some t else only_if (assignable ds t t) (Some t))) e
       ∙ ap (λ b. if b then Some t else only_if b (Some t)) (self_assignable t e)
 
   left_compared : (t : GoType) (k : Kind) (c : Const) → is_untyped t ≡ false → compared_at ds (untyped k, exact c) (t, run) ≡ Some t
@@ -332,7 +332,7 @@ pub record Operands (ds : List Defined) (t : GoType) (q q' : Option Operand) : T
   pub bare_is : q' ≡ Some bare
   pub bared : Bared ds t typed bare
 
-pub record Constants {S : Type 0} (site : Landing) (a : Env) (m : Environment Rattle.go_tree.specs.GoTypes.Entities.Entity) (t : GoType) (x e : Expr S) : Type 0 where
+pub record Constants {S : Type 0} (site : Landing) (a : Env) (m : Environment Rattle.go_rules.specs.GoTypes.Entities.Entity) (t : GoType) (x e : Expr S) : Type 0 where
   pub kind_of_it : Kind
   pub constant : Const
   pub typed_is : parts a x ≡ Some (value t (exact constant))
@@ -340,11 +340,11 @@ pub record Constants {S : Type 0} (site : Landing) (a : Env) (m : Environment Ra
   pub is_typed : is_untyped t ≡ false
   pub fitting : represented (defined_in a) t constant ≡ true
 
-module _ {S : Type 0} {site : Landing} {r : List (List ℕ)} {a : Env} {m : Environment Rattle.go_tree.specs.GoTypes.Entities.Entity} where
+module _ {S : Type 0} {site : Landing} {r : List (List ℕ)} {a : Env} {m : Environment Rattle.go_rules.specs.GoTypes.Entities.Entity} where
   pub bare_operands : {t : GoType} {x e : Expr S} → Bare site r a m t x e → Operands (defined_in a) t (parts a x) (parts (at_place a m site.home) e)
-  bare_operands (bare_constant {t = t} {k = k} {c = c} pt e1 u e2 rp n d) = record { typed = value t (exact c); bare = value (untyped k) (exact c); typed_is = ap (Rattle.go_tree.specs.GoTypes.Operands.named_operand a) e1; bare_is = e2; bared = a_constant u rp }
-  bare_operands (bare_nil {t = t} pt e1 u e2 hn n d) = record { typed = value t run; bare = value untyped_nil run; typed_is = ap (Rattle.go_tree.specs.GoTypes.Operands.named_operand a) e1; bare_is = e2; bared = a_nil u hn }
-  bare_operands (bare_truth pt e1 e2 n d) = record { typed = value (basic kind.Bool) run; bare = value (untyped kind.UntypedBool) run; typed_is = ap (Rattle.go_tree.specs.GoTypes.Operands.named_operand a) e1; bare_is = e2; bared = a_truth }
+  bare_operands (bare_constant {t = t} {k = k} {c = c} pt e1 u e2 rp n d) = record { typed = value t (exact c); bare = value (untyped k) (exact c); typed_is = ap (Rattle.go_rules.specs.GoTypes.Operands.named_operand a) e1; bare_is = e2; bared = a_constant u rp }
+  bare_operands (bare_nil {t = t} pt e1 u e2 hn n d) = record { typed = value t run; bare = value untyped_nil run; typed_is = ap (Rattle.go_rules.specs.GoTypes.Operands.named_operand a) e1; bare_is = e2; bared = a_nil u hn }
+  bare_operands (bare_truth pt e1 e2 n d) = record { typed = value (basic kind.Bool) run; bare = value (untyped kind.UntypedBool) run; typed_is = ap (Rattle.go_rules.specs.GoTypes.Operands.named_operand a) e1; bare_is = e2; bared = a_truth }
 
   pub bare_used : {t : GoType} {x e : Expr S} → Bare site r a m t x e → UsedAlike r (used a x) (used (at_place a m site.home) e)
   bare_used (bare_constant {n = n} pt e1 u e2 rp i d) = apart_used (single_apart r n i) d
@@ -357,7 +357,7 @@ module _ {S : Type 0} {site : Landing} {r : List (List ℕ)} {a : Env} {m : Envi
   bare_puts (bare_truth pt e1 e2 i d) = pt
 
   pub bare_constants : {t : GoType} {x e : Expr S} → Bare site r a m t x e → BareConstant site a m e → Constants site a m t x e
-  bare_constants (bare_constant {k = k} {c = c} pt e1 u e2 rp n d) q = record { kind_of_it = k; constant = c; typed_is = ap (Rattle.go_tree.specs.GoTypes.Operands.named_operand a) e1; bare_is = e2; is_typed = u; fitting = rp }
+  bare_constants (bare_constant {k = k} {c = c} pt e1 u e2 rp n d) q = record { kind_of_it = k; constant = c; typed_is = ap (Rattle.go_rules.specs.GoTypes.Operands.named_operand a) e1; bare_is = e2; is_typed = u; fitting = rp }
   bare_constants (bare_nil pt e1 u e2 hn n d) (untyped_constant q) = absurd (grind (arith, sym e2 ∙ q))
   bare_constants (bare_truth pt e1 e2 n d) (untyped_constant q) = absurd (grind (arith, sym e2 ∙ q))
 
@@ -365,4 +365,4 @@ module _ {S : Type 0} {site : Landing} {r : List (List ℕ)} {a : Env} {m : Envi
   whole_used (whole_constant {n = n} pt e1 e2 rp i d) = apart_used (single_apart r n i) d
 
   pub whole_next : {x e : Expr S} {q s : Option (List Operand)} → BareWhole site r a m x e → SettleOption (defined_in a) q s → SettleOption (defined_in a) (both (parts a x) q (λ o os. Some (o ∷ os))) (both (parts (at_place a m site.home) e) s (λ o os. Some (o ∷ os)))
-  whole_next (whole_constant {k = k} {c = c} pt e1 e2 rp i d) f = bare_next (defined_in a) k c rp (ap (Rattle.go_tree.specs.GoTypes.Operands.named_operand a) e1) e2 f
+  whole_next (whole_constant {k = k} {c = c} pt e1 e2 rp i d) f = bare_next (defined_in a) k c rp (ap (Rattle.go_rules.specs.GoTypes.Operands.named_operand a) e1) e2 f

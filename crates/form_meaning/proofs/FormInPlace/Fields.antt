@@ -1,11 +1,11 @@
 -- Fields that two packages see alike.
 use Rattle.std.specs.Prelude.{◌≡◌, refl, ℕ, not, List, Option, Some, None, if◌then◌else◌}
 use mathlib.Core.Path.{ap, ap₂}
-use Rattle.go_tree.specs.ScopeNames.Means.{is_blank}
-use Rattle.go_tree.specs.GoTypes.Answers.{given, only_if}
-use Rattle.go_tree.specs.GoTypes.Types.{GoType, GoFields, no_go_fields, go_field}
-use Rattle.go_tree.specs.GoTypes.Defined.{Defined}
-use Rattle.go_tree.specs.GoTypes.Primary.{find_field, fields_in, field_type}
+use Rattle.go_rules.specs.ScopeNames.Means.{is_blank}
+use Rattle.go_rules.specs.GoTypes.Answers.{given, only_if}
+use Rattle.go_rules.specs.GoTypes.Types.{GoType, GoFields, no_go_fields, go_field}
+use Rattle.go_rules.specs.GoTypes.Defined.{Defined}
+use Rattle.go_rules.specs.GoTypes.Primary.{find_field, fields_in, field_type}
 use Rattle.form_meaning.specs.FormInPlace.Places.{SeenFields, SeenIn, SelectorAlike}
 
 pub found_alike : (home p : ℕ) (n : List ℕ) (fs : GoFields) → SeenFields home p n fs → find_field home n fs ≡ find_field p n fs

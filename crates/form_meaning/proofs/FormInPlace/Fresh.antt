@@ -3,15 +3,15 @@ use Rattle.std.specs.Prelude.{◌≡◌, ℕ, ◌+◌, Bool, true, false, not, �
 use mathlib.Core.Path.{ap, sym, ◌∙◌, subst}
 use Rattle.std.proofs.Common.{inl, inr, arith}
 use Rattle.go_tree.specs.Tree.{Stmt, const_decl, var_decl, empty, eval, step, assign, define, return_, break_, continue_, inner, if_, for_, range_, switch, defer, label, StmtOption, no_stmt, some_stmt, RangeLeft, nothing, assigns, defines, ValueSpecs, no_specs, spec}
-use Rattle.go_tree.specs.ScopeNames.FreeNames.{names_of}
-use Rattle.go_tree.specs.GoTypes.Answers.{given, both, only_if, is_among, without, is_empty}
-use Rattle.go_tree.specs.GoTypes.Types.{GoType}
-use Rattle.go_tree.specs.GoTypes.Entities.{variable, Env, Binds, extend, defined_in}
-use Rattle.go_tree.specs.GoTypes.TypeNames.{written_type}
-use Rattle.go_tree.specs.GoTypes.Operands.{Operand, Typed, typed, all_typed}
-use Rattle.go_tree.specs.GoTypes.Statements.{Ctx, bound_names, bind_all, bind_each, constant_entity, variable_entity, may_declare, names_once, Declared, no_names, constants_declared, variables_declared, some_declared, defined_by, range_types, range_binds, no_values}
-use Rattle.go_tree.specs.GoTypes.Typing.{and_then, unused_after, new_constants, new_variables, Repeated, nothing_to_repeat, right_values, places, all_parts, used_variables, declares, declares_first, declares_constants, declares_variables, range_declares, stmt, first}
-use Rattle.go_tree.proofs.GoTypes.Agreeing.{among_right}
+use Rattle.go_rules.specs.ScopeNames.FreeNames.{names_of}
+use Rattle.go_rules.specs.GoTypes.Answers.{given, both, only_if, is_among, without, is_empty}
+use Rattle.go_rules.specs.GoTypes.Types.{GoType}
+use Rattle.go_rules.specs.GoTypes.Entities.{variable, Env, Binds, extend, defined_in}
+use Rattle.go_rules.specs.GoTypes.TypeNames.{written_type}
+use Rattle.go_rules.specs.GoTypes.Operands.{Operand, Typed, typed, all_typed}
+use Rattle.go_rules.specs.GoTypes.Statements.{Ctx, bound_names, bind_all, bind_each, constant_entity, variable_entity, may_declare, names_once, Declared, no_names, constants_declared, variables_declared, some_declared, defined_by, range_types, range_binds, no_values}
+use Rattle.go_rules.specs.GoTypes.Typing.{and_then, unused_after, new_constants, new_variables, Repeated, nothing_to_repeat, right_values, places, all_parts, used_variables, declares, declares_first, declares_constants, declares_variables, range_declares, stmt, first}
+use Rattle.go_rules.proofs.GoTypes.Agreeing.{among_right}
 use Rattle.form_meaning.proofs.FormInPlace.Uses.{among_append, among_left, among_without}
 
 pub record Fresh (d : Declared) : Type 0 where

@@ -6,20 +6,20 @@ use Rattle.std.proofs.lemmas.Slice.Eq.{bytes_eq-Decides}
 use Rattle.std.proofs.Common.{arith}
 use Rattle.go_tree.specs.declared.operators.BinOp.{BinOp}
 use Rattle.go_tree.specs.Tree.{NameAt, Param, Sig, TypeExpr, Expr, composite, selector, func_lit, binary, Exprs, expr_and, ExprOption, Elems, elem, Value, braced, ValueOption, some_value, Stmt, for_, range_, switch, Stmts, stmt_and, StmtOption, BlockOption, RangeLeft, Arms, arm, Cases, ValueSpecs, spec}
-use Rattle.go_tree.specs.ScopeNames.Means.{Environment, means}
-use Rattle.go_tree.specs.ScopeNames.FreeNames.{names_of, declared, declared_option, defined, sig_names, free_type_option}
-use Rattle.go_tree.specs.GoTypes.Answers.{given, both, meets, only_if, is_among, without, is_empty, distinct_by}
-use Rattle.go_tree.specs.GoTypes.Types.{GoType, FuncType}
-use Rattle.go_tree.specs.GoTypes.Defined.{Defined, under, has_keys}
-use Rattle.go_tree.specs.GoTypes.Entities.{Builtin, run, Content, Place, addressable, elsewhere, Entity, Env, meaning, exported, defined_in, Binds, extend, in_block, is_declared_here}
-use Rattle.go_tree.specs.GoTypes.TypeNames.{type_meant, func_type, written_type, params_meant}
-use Rattle.go_tree.specs.GoTypes.Operands.{Operand, value, a_type, a_function, a_builtin, Typed, typed, all_typed, with_value, plain_value, named_operand, named_place, takes_all, spread}
-use Rattle.go_tree.specs.GoTypes.Operators.{unary_of, binary_of, star_of}
-use Rattle.go_tree.specs.GoTypes.Primary.{selected, selected_place, index_of, index_place, sliced, call_of, stands_alone, may_be_deferred}
-use Rattle.go_tree.specs.GoTypes.Literals.{built, built_inside, of_field, keyed, is_struct, field_key, key_type, inner_type, literal_type}
-use Rattle.go_tree.specs.GoTypes.Jumps.{breaks_in, labels_in}
-use Rattle.go_tree.specs.GoTypes.Statements.{bound_names, names_once, Declared, some_declared, blank, target_at, stores_all, updates, is_condition, variable_entity, assigns_to, defined_by, range_assigns, case_value, case_constants, Ctx, in_loop, in_switch, body_binds, body_ctx, no_values, is_absent, is_define, is_empty_stmt}
-use Rattle.go_tree.specs.GoTypes.Typing.{and_then, unused_after, one_more, step_op, binds_or, binds_of, new_constants, right_values, new_variables, new_by_define, all_used, is_test, tag_of, choice, place_by, package_before, is_body, labelled, parts, all_parts, bound, elements, element, with_key, place, places, used, used_all, used_option, used_elems, used_key, used_value, used_left, used_stmt, used_stmts, used_first, used_block, used_range, used_arms, used_cases, used_variables, declares, declares_first, declares_constants, declares_variables, range_declares, targets, stmt, stmts, first, block, ranges, arms, clauses}
+use Rattle.go_rules.specs.ScopeNames.Means.{Environment, means}
+use Rattle.go_rules.specs.ScopeNames.FreeNames.{names_of, declared, declared_option, defined, sig_names, free_type_option}
+use Rattle.go_rules.specs.GoTypes.Answers.{given, both, meets, only_if, is_among, without, is_empty, distinct_by}
+use Rattle.go_rules.specs.GoTypes.Types.{GoType, FuncType}
+use Rattle.go_rules.specs.GoTypes.Defined.{Defined, under, has_keys}
+use Rattle.go_rules.specs.GoTypes.Entities.{Builtin, run, Content, Place, addressable, elsewhere, Entity, Env, meaning, exported, defined_in, Binds, extend, in_block, is_declared_here}
+use Rattle.go_rules.specs.GoTypes.TypeNames.{type_meant, func_type, written_type, params_meant}
+use Rattle.go_rules.specs.GoTypes.Operands.{Operand, value, a_type, a_function, a_builtin, Typed, typed, all_typed, with_value, plain_value, named_operand, named_place, takes_all, spread}
+use Rattle.go_rules.specs.GoTypes.Operators.{unary_of, binary_of, star_of}
+use Rattle.go_rules.specs.GoTypes.Primary.{selected, selected_place, index_of, index_place, sliced, call_of, stands_alone, may_be_deferred}
+use Rattle.go_rules.specs.GoTypes.Literals.{built, built_inside, of_field, keyed, is_struct, field_key, key_type, inner_type, literal_type}
+use Rattle.go_rules.specs.GoTypes.Jumps.{breaks_in, labels_in}
+use Rattle.go_rules.specs.GoTypes.Statements.{bound_names, names_once, Declared, some_declared, blank, target_at, stores_all, updates, is_condition, variable_entity, assigns_to, defined_by, range_assigns, case_value, case_constants, Ctx, in_loop, in_switch, body_binds, body_ctx, no_values, is_absent, is_define, is_empty_stmt}
+use Rattle.go_rules.specs.GoTypes.Typing.{and_then, unused_after, one_more, step_op, binds_or, binds_of, new_constants, right_values, new_variables, new_by_define, all_used, is_test, tag_of, choice, place_by, package_before, is_body, labelled, parts, all_parts, bound, elements, element, with_key, place, places, used, used_all, used_option, used_elems, used_key, used_value, used_left, used_stmt, used_stmts, used_first, used_block, used_range, used_arms, used_cases, used_variables, declares, declares_first, declares_constants, declares_variables, range_declares, targets, stmt, stmts, first, block, ranges, arms, clauses}
 use Rattle.form_meaning.specs.FormInPlace.Places.{at_place, Landing, SameName, AllSame, TypeAlike, SelectorAlike, results_in}
 use Rattle.go_translation.specs.SameFacts.{UsedAlike}
 use Rattle.form_meaning.specs.FormInPlace.Bound.{Before, inner_under, at_iota, stmt_binds, first_binds, range_left_binds, literal_binds, variable_binds, constant_binds, repeats, repeated_binds, literal_under, is_printer, is_shift_op, types_after}
@@ -71,7 +71,7 @@ seen_value ds home p n q (value t c) f = λ w. elim (field_seen ds home p n t (f
 seen_value ds home p n q o f = refl
 
 seen_place : (ds : List Defined) (home p : ℕ) (n : List ℕ) (q : Place) (o : Option Operand) → ((t : GoType) (c : Content) → o ≡ Some (value t c) → SelectorAlike ds home p n t) → place_by o (selected_place ds home n q) ≡ place_by o (selected_place ds p n q)
-seen_place ds home p n q (Some (value t c)) f = λ w. elim (field_seen ds home p n t (f t c refl) w) [ Some u ↦ Rattle.go_tree.specs.GoTypes.Primary.field_place ds t q | None ↦ elsewhere ]
+seen_place ds home p n q (Some (value t c)) f = λ w. elim (field_seen ds home p n t (f t c refl) w) [ Some u ↦ Rattle.go_rules.specs.GoTypes.Primary.field_place ds t q | None ↦ elsewhere ]
 seen_place ds home p n q (Some o) f = refl
 seen_place ds home p n q None f = refl
 
@@ -92,10 +92,10 @@ defined_there a m p (n ∷ ns) [] h = refl
 defined_there a m p (n ∷ ns) (v ∷ vs) h = go (is_declared_here a n) refl (defined_there a m p ns vs h)
   where
     go : (d : Bool) → is_declared_here a n ≡ d → defined_by (defined_in a) a ns vs ≡ defined_by (defined_in a) (at_place a m p) ns vs
-        → (if d then only_if (assigns_to (defined_in a) (meaning a n) v) (defined_by (defined_in a) a ns vs) else both (variable_entity (defined_in a) None v) (defined_by (defined_in a) a ns vs) (λ e bs. Some (Rattle.go_tree.specs.ScopeNames.Means.binding n e ++ bs)))
-        ≡ (if d then only_if (assigns_to (defined_in a) (means m n) v) (defined_by (defined_in a) (at_place a m p) ns vs) else both (variable_entity (defined_in a) None v) (defined_by (defined_in a) (at_place a m p) ns vs) (λ e bs. Some (Rattle.go_tree.specs.ScopeNames.Means.binding n e ++ bs)))
+        → (if d then only_if (assigns_to (defined_in a) (meaning a n) v) (defined_by (defined_in a) a ns vs) else both (variable_entity (defined_in a) None v) (defined_by (defined_in a) a ns vs) (λ e bs. Some (Rattle.go_rules.specs.ScopeNames.Means.binding n e ++ bs)))
+        ≡ (if d then only_if (assigns_to (defined_in a) (means m n) v) (defined_by (defined_in a) (at_place a m p) ns vs) else both (variable_entity (defined_in a) None v) (defined_by (defined_in a) (at_place a m p) ns vs) (λ e bs. Some (Rattle.go_rules.specs.ScopeNames.Means.binding n e ++ bs)))
     go true d e = λ w. only_if (assigns_to (defined_in a) (here_same a m a.here n h d w) v) (e w)
-    go false d e = λ w. both (variable_entity (defined_in a) None v) (e w) (λ e bs. Some (Rattle.go_tree.specs.ScopeNames.Means.binding n e ++ bs))
+    go false d e = λ w. both (variable_entity (defined_in a) None v) (e w) (λ e bs. Some (Rattle.go_rules.specs.ScopeNames.Means.binding n e ++ bs))
 
 define_there : (a : Env) (m : Environment Entity) (p : ℕ) (ns : List (List ℕ)) (vs : Option (List Typed)) → AllSame a m a.here → new_by_define a ns vs ≡ new_by_define (at_place a m p) ns vs
 define_there a m p ns None h = refl

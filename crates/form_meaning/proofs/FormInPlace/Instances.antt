@@ -6,21 +6,21 @@ use Rattle.std.proofs.Common.{arith}
 use Rattle.go_tree.specs.declared.operators.BinOp.TheVariants.{Add, Sub, Mul, Lt, Gt}
 use Rattle.go_tree.specs.declared.operators.UnOp.TheVariants.{Address, Minus}
 use Rattle.go_tree.specs.Tree.{Sig, Expr, Stmt, Stmts, no_expr, some_expr, no_value, some_value, plain, no_stmt, some_stmt, nothing, assigns, defines}
-use Rattle.go_tree.specs.declared.const_eval.kinds.Kind.TheVariants as kind
-use Rattle.go_tree.specs.declared.const_eval.consts.Const.TheVariants.{Whole}
-use Rattle.go_tree.specs.ScopeNames.Means.{Environment}
-use Rattle.go_tree.specs.GoTypes.Types.{GoType, basic, untyped, named_type, pointer_to, slice_of, map_of, struct_of, no_go_fields, go_field, FuncType}
-use Rattle.go_tree.specs.GoTypes.Entities.{Entity, variable, constant, type_name, function, package_name, stand_in, elsewhere, run, exact, universe, World, Env}
-use Rattle.go_tree.specs.GoTypes.Operands.{value, a_function}
-use Rattle.go_tree.specs.GoTypes.Typing.{parts}
-use Rattle.go_tree.proofs.GoTypes.Trees.{n, ty, qty, ptr, slc, mp, st, par, sig, v, int, rune, str, sel, idx, sl, es, app, top, un, bin, der, els, braces, comp, ss, lit, cst, vr, nop, ev, stp, asg, def, ret, brk, cnt, blk, cond, loop, rng, sw, dfr, lab}
+use Rattle.go_rules.specs.declared.const_eval.kinds.Kind.TheVariants as kind
+use Rattle.go_rules.specs.declared.const_eval.consts.Const.TheVariants.{Whole}
+use Rattle.go_rules.specs.ScopeNames.Means.{Environment}
+use Rattle.go_rules.specs.GoTypes.Types.{GoType, basic, untyped, named_type, pointer_to, slice_of, map_of, struct_of, no_go_fields, go_field, FuncType}
+use Rattle.go_rules.specs.GoTypes.Entities.{Entity, variable, constant, type_name, function, package_name, stand_in, elsewhere, run, exact, universe, World, Env}
+use Rattle.go_rules.specs.GoTypes.Operands.{value, a_function}
+use Rattle.go_rules.specs.GoTypes.Typing.{parts}
+use Rattle.go_rules.proofs.GoTypes.Trees.{n, ty, qty, ptr, slc, mp, st, par, sig, v, int, rune, str, sel, idx, sl, es, app, top, un, bin, der, els, braces, comp, ss, lit, cst, vr, nop, ev, stp, asg, def, ret, brk, cnt, blk, cond, loop, rng, sw, dfr, lab}
 use Rattle.form_meaning.specs.FormInPlace.Places.{Landing, SameName, TypeAlike}
 use Rattle.form_meaning.specs.FormInPlace.Leaves.{member, imported, own, argument, no_type, a_type, no_params, param_and, whole_constant, bare_constant, bare_nil, bare_truth, untyped_constant}
 use Rattle.form_meaning.specs.FormInPlace.Written.{Written, w_leaf, w_local, w_outer, w_int, w_rune, w_str, w_composite, w_selector, w_index, w_slice, w_call, w_func_lit, w_type, w_unary, w_binary, w_star, all_none, all_and, WrittenIntos, into_none, into_and, into_bare, w_into, w_left, w_right, s_eval_into, s_return_into, whole_none, whole_and, whole_bare, s_eval_whole, s_defer_whole, option_none, option_some, elems_none, elems_and, key_none, key_field, key_some, value_plain, value_braced, body_none, body_and, WrittenStmt, s_const, s_var, s_empty, s_eval, s_step, s_assign, s_define, s_return, s_break, s_continue, s_inner, s_if, s_for, s_range, s_switch, s_defer, s_label, first_none, first_some, block_none, block_some, left_none, left_assigns, left_defines, arms_none, arms_and, cases_none, cases_and, constants_none, constants_own, constants_again, WrittenAgain, again_nothing, again, variables_none, variables_and}
 use Rattle.form_meaning.specs.FormInPlace.CalledLiteral.{declared_at, landing_at}
 use Rattle.form_meaning.proofs.FormInPlace.Uses.{same_used, none_apart}
 use Rattle.form_meaning.proofs.FormInPlace.TypesInPlace.{type_kept, type_member, type_own, type_pointer, type_slice, type_map, type_struct, fields_none, fields_and}
-use Rattle.go_tree.specs.GoTypes.Literals.{unkeyed, of_field, keyed}
+use Rattle.go_rules.specs.GoTypes.Literals.{unkeyed, of_field, keyed}
 use Rattle.form_meaning.proofs.FormInPlace.Seen.{selector_seen, literal_seen, exported_selector}
 use Rattle.form_meaning.proofs.FormInPlace.Outside.{single_outside}
 
@@ -219,10 +219,10 @@ not_by_position : parts here (comp (qty (codes "old") (codes "P")) ((no_value, p
 not_by_position = refl
 
 -- an unexported field in a struct type is another field in another package
-other_field : Rattle.go_tree.specs.GoTypes.TypeNames.resolved there (st ((codes "a", ty (codes "int")) ∷ [])) ≡ Some (struct_of (go_field (codes "a") (Some 1) int_type no_go_fields))
+other_field : Rattle.go_rules.specs.GoTypes.TypeNames.resolved there (st ((codes "a", ty (codes "int")) ∷ [])) ≡ Some (struct_of (go_field (codes "a") (Some 1) int_type no_go_fields))
 other_field = refl
 
-other_field_there : Rattle.go_tree.specs.GoTypes.TypeNames.resolved here (st ((codes "a", ty (codes "int")) ∷ [])) ≡ Some (struct_of (go_field (codes "a") (Some 0) int_type no_go_fields))
+other_field_there : Rattle.go_rules.specs.GoTypes.TypeNames.resolved here (st ((codes "a", ty (codes "int")) ∷ [])) ≡ Some (struct_of (go_field (codes "a") (Some 0) int_type no_go_fields))
 other_field_there = refl
 
 -- ---- an argument in a parameter's place: y stands for `v`, z for the constant Wide, of type int8
@@ -231,7 +231,7 @@ abbrev site_puts : Landing
 site_puts = record site { puts = true }
 
 abbrev with_arguments : Env
-with_arguments = record there { names = (codes "y", stand_in Rattle.go_tree.specs.GoTypes.Entities.addressable int_type run) ∷ (codes "z", stand_in elsewhere (basic kind.Int8) (exact (Whole (pos 3)))) ∷ old_names }
+with_arguments = record there { names = (codes "y", stand_in Rattle.go_rules.specs.GoTypes.Entities.addressable int_type run) ∷ (codes "z", stand_in elsewhere (basic kind.Int8) (exact (Whole (pos 3)))) ∷ old_names }
 
 -- y * 2, and z + 1 with int8(old.Wide) in z's place
 argument_put : Written site_puts [] with_arguments place_names (bin Mul (v (codes "y")) (int (codes "2"))) (bin Mul (v (codes "v")) (int (codes "2")))
@@ -266,7 +266,7 @@ into_a_return = s_return_into refl (into_bare (bare_constant refl refl refl refl
 
 -- w8 - y and y < w8, for y a variable of type int8, are written 3 - b8 and b8 < 3
 abbrev beside_env : Env
-beside_env = record with_bare { names = (codes "y", stand_in Rattle.go_tree.specs.GoTypes.Entities.addressable (basic kind.Int8) run) ∷ with_bare.names }
+beside_env = record with_bare { names = (codes "y", stand_in Rattle.go_rules.specs.GoTypes.Entities.addressable (basic kind.Int8) run) ∷ with_bare.names }
 
 beside_on_the_left : Written site_puts [] beside_env bare_names (bin Sub (v (codes "w8")) (v (codes "y"))) (bin Sub (int (codes "3")) (v (codes "b8")))
 beside_on_the_left = w_left refl (bare_constant refl refl refl refl refl refl none_apart) (untyped_constant refl) refl (w_leaf (argument refl refl refl refl refl refl refl none_apart))

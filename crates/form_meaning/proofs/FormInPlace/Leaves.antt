@@ -4,14 +4,14 @@ use mathlib.Core.Path.{ap, sym, ◌∙◌}
 use Rattle.std.proofs.lemmas.Slice.Eq.{bytes_eq-Decides}
 use Rattle.std.proofs.Common.{arith}
 use Rattle.go_tree.specs.Tree.{Expr, ident}
-use Rattle.go_tree.specs.ScopeNames.Means.{Environment, means, is_blank}
-use Rattle.go_tree.specs.GoTypes.Answers.{given}
-use Rattle.go_tree.specs.GoTypes.Types.{GoType}
-use Rattle.go_tree.specs.GoTypes.Entities.{Content, Entity, package_name, builtin, Env, World, meaning, exported, is_exported, package_of, block_of, defined_in}
-use Rattle.go_tree.specs.GoTypes.Operands.{value, with_value, named_operand, named_place}
-use Rattle.go_tree.specs.GoTypes.Primary.{selected, selected_place}
-use Rattle.go_tree.specs.GoTypes.Statements.{means_panic, is_blank_name}
-use Rattle.go_tree.specs.GoTypes.Typing.{place_by, package_before, parts, place, used}
+use Rattle.go_rules.specs.ScopeNames.Means.{Environment, means, is_blank}
+use Rattle.go_rules.specs.GoTypes.Answers.{given}
+use Rattle.go_rules.specs.GoTypes.Types.{GoType}
+use Rattle.go_rules.specs.GoTypes.Entities.{Content, Entity, package_name, builtin, Env, World, meaning, exported, is_exported, package_of, block_of, defined_in}
+use Rattle.go_rules.specs.GoTypes.Operands.{value, with_value, named_operand, named_place}
+use Rattle.go_rules.specs.GoTypes.Primary.{selected, selected_place}
+use Rattle.go_rules.specs.GoTypes.Statements.{means_panic, is_blank_name}
+use Rattle.go_rules.specs.GoTypes.Typing.{place_by, package_before, parts, place, used}
 use Rattle.form_meaning.specs.FormInPlace.Places.{at_place, Landing, Apart, is_member, is_panic_name}
 use Rattle.form_meaning.specs.FormInPlace.Leaves.{Leaf, member, imported, own, argument}
 use Rattle.form_meaning.proofs.FormInPlace.Uses.{single_apart}

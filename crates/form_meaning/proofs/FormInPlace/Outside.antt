@@ -4,16 +4,16 @@ use mathlib.Core.Path.{ap, ap₂, sym, ◌∙◌, subst}
 use Rattle.std.proofs.lemmas.Slice.Eq.{bytes_eq-Decides}
 use Rattle.std.proofs.Common.{arith}
 use Rattle.go_tree.specs.Tree.{NameAt, Param, Sig, TypeExpr, Expr, ident, Exprs, expr_and, ExprOption, Elems, Value, ValueOption, Stmt, Stmts, StmtOption, BlockOption, RangeLeft, Arms, Cases, ValueSpecs}
-use Rattle.go_tree.specs.ScopeNames.Means.{Environment, binding, is_blank}
-use Rattle.go_tree.specs.ScopeNames.FreeNames.{names_of, sig_names, name_then, params_names, free_type_option, free_params}
-use Rattle.go_tree.specs.GoTypes.Answers.{given, meets, distinct_by, is_among, without}
-use Rattle.go_tree.specs.GoTypes.Types.{GoType, FuncType}
-use Rattle.go_tree.specs.GoTypes.Defined.{under}
-use Rattle.go_tree.specs.GoTypes.Entities.{variable, refused, Entity, Env, defined_in, Binds, extend, in_block}
-use Rattle.go_tree.specs.GoTypes.TypeNames.{func_type}
-use Rattle.go_tree.specs.GoTypes.Literals.{is_struct, key_type, inner_type}
-use Rattle.go_tree.specs.GoTypes.Statements.{bound_names, body_binds, bind_each, param_binding, param_binds}
-use Rattle.go_tree.specs.GoTypes.Typing.{beyond, binds_or, binds_of, new_variables, right_values, used, used_all, used_option, used_elems, used_key, used_value, used_left, used_stmt, used_stmts, used_first, used_block, used_range, used_arms, used_cases, used_variables}
+use Rattle.go_rules.specs.ScopeNames.Means.{Environment, binding, is_blank}
+use Rattle.go_rules.specs.ScopeNames.FreeNames.{names_of, sig_names, name_then, params_names, free_type_option, free_params}
+use Rattle.go_rules.specs.GoTypes.Answers.{given, meets, distinct_by, is_among, without}
+use Rattle.go_rules.specs.GoTypes.Types.{GoType, FuncType}
+use Rattle.go_rules.specs.GoTypes.Defined.{under}
+use Rattle.go_rules.specs.GoTypes.Entities.{variable, refused, Entity, Env, defined_in, Binds, extend, in_block}
+use Rattle.go_rules.specs.GoTypes.TypeNames.{func_type}
+use Rattle.go_rules.specs.GoTypes.Literals.{is_struct, key_type, inner_type}
+use Rattle.go_rules.specs.GoTypes.Statements.{bound_names, body_binds, bind_each, param_binding, param_binds}
+use Rattle.go_rules.specs.GoTypes.Typing.{beyond, binds_or, binds_of, new_variables, right_values, used, used_all, used_option, used_elems, used_key, used_value, used_left, used_stmt, used_stmts, used_first, used_block, used_range, used_arms, used_cases, used_variables}
 use Rattle.form_meaning.specs.FormInPlace.Places.{at_place, Landing, Apart, Outside, results_in}
 use Rattle.form_meaning.specs.FormInPlace.Bound.{inner_under, stmt_binds, first_binds, range_left_binds, literal_binds, variable_binds, literal_under}
 use Rattle.form_meaning.specs.FormInPlace.Leaves.{Leaf, member, imported, own, argument, WrittenType, no_type, a_type as some_type, WrittenParams, no_params, param_and}
@@ -116,7 +116,7 @@ module _ {S : Type 0} where
       go (Some x) f e = binding_names n x.name (variable t) (param_binds ps ts) (params_names ps) f e
 
   pub literal_names : (n : List ℕ) (a : Env) (g : Sig S) → is_among n (bound_names (literal_binds a g)) ≡ true → is_among n (sig_names g) ≡ true
-  literal_names n a g = go (Rattle.go_tree.specs.GoTypes.TypeNames.func_type a g)
+  literal_names n a g = go (Rattle.go_rules.specs.GoTypes.TypeNames.func_type a g)
     where
       within : (f : FuncType) (b : Bool) → is_among n (bound_names (binds_or (sig_names g) (if b then Some ([] ++ param_binds g.params f.params ++ param_binds g.results f.results) else None))) ≡ true → is_among n (sig_names g) ≡ true
       within f true e = either_name n (bound_names (param_binds g.params f.params)) (bound_names (param_binds g.results f.results)) (params_names g.params) (params_names g.results) (param_names n g.params f.params) (param_names n g.results f.results) (sym (ap (is_among n) (bound_append (param_binds g.params f.params) (param_binds g.results f.results))) ∙ e)

@@ -4,15 +4,15 @@ use Rattle.std.specs.List.{list_all}
 use mathlib.Core.Path.{ap, ap₂, sym, ◌∙◌, subst}
 use Rattle.std.proofs.Common.{arith}
 use Rattle.go_tree.specs.Tree.{Expr, Elems}
-use Rattle.go_tree.specs.ScopeNames.Means.{is_blank}
-use Rattle.go_tree.specs.GoTypes.Answers.{given, meets, only_if, distinct_by}
-use Rattle.go_tree.specs.GoTypes.Types.{GoType, GoFields, no_go_fields, go_field, base_of, fields_of, element_of, map_parts}
-use Rattle.go_tree.specs.GoTypes.Defined.{Defined, methods}
-use Rattle.go_tree.specs.GoTypes.Entities.{Content, Place, Env, is_exported, defined_in}
-use Rattle.go_tree.specs.GoTypes.Operands.{Operand, value, a_function, takes}
-use Rattle.go_tree.specs.GoTypes.Primary.{sees, find_field, find_method, fields_in, home_of, is_addressable, method_of}
-use Rattle.go_tree.specs.GoTypes.Literals.{Element, unkeyed, of_field, keyed, fills, sets_field, fields_set, struct_takes, slice_takes, map_takes, literal_takes}
-use Rattle.go_tree.specs.GoTypes.Typing.{parts, elements}
+use Rattle.go_rules.specs.ScopeNames.Means.{is_blank}
+use Rattle.go_rules.specs.GoTypes.Answers.{given, meets, only_if, distinct_by}
+use Rattle.go_rules.specs.GoTypes.Types.{GoType, GoFields, no_go_fields, go_field, base_of, fields_of, element_of, map_parts}
+use Rattle.go_rules.specs.GoTypes.Defined.{Defined, methods}
+use Rattle.go_rules.specs.GoTypes.Entities.{Content, Place, Env, is_exported, defined_in}
+use Rattle.go_rules.specs.GoTypes.Operands.{Operand, value, a_function, takes}
+use Rattle.go_rules.specs.GoTypes.Primary.{sees, find_field, find_method, fields_in, home_of, is_addressable, method_of}
+use Rattle.go_rules.specs.GoTypes.Literals.{Element, unkeyed, of_field, keyed, fills, sets_field, fields_set, struct_takes, slice_takes, map_takes, literal_takes}
+use Rattle.go_rules.specs.GoTypes.Typing.{parts, elements}
 use Rattle.form_meaning.specs.FormInPlace.Places.{Landing, SeenFields, SeenIn, SelectorAlike, KeysIn, is_open, open_in}
 use Rattle.form_meaning.proofs.FormInPlace.Fields.{found_alike}
 use Rattle.form_meaning.specs.FormInPlace.Leaves.{LiteralAlike}

@@ -3,13 +3,13 @@ use Rattle.std.specs.Prelude.{◌≡◌, ℕ, Bool, true, false, ◌&&◌, ◌||
 use mathlib.Core.Path.{ap, ap₂, sym, ◌∙◌, subst}
 use Rattle.go_tree.specs.declared.exprs.Rest.{Rest}
 use Rattle.go_tree.specs.Tree.{NameAt, Param, TypeExpr, Expr, ident, call, Exprs, expr_and, ExprOption, Stmt, Stmts, StmtOption, BlockOption, RangeLeft, Arms, Cases, ValueSpecs}
-use Rattle.go_tree.specs.ScopeNames.Means.{Environment}
-use Rattle.go_tree.specs.ScopeNames.FreeNames.{names_of, specs_names, declared, declared_option, defined, name_then, params_names, free_params, free_type_option}
-use Rattle.go_tree.specs.GoTypes.Types.{GoType}
-use Rattle.go_tree.specs.GoTypes.Entities.{Entity, Env, package_of}
-use Rattle.go_tree.specs.GoTypes.Jumps.{breaks, breaks_in, breaks_arms, breaks_block, breaks_cases, labels, labels_in, labels_arms, labels_block, labels_cases, is_loop, is_breakable}
-use Rattle.go_tree.specs.GoTypes.Statements.{means_panic, is_panic, is_blank_name, no_values, is_absent, is_define, is_empty_stmt, has_last, has_names, param_binds, param_binding, Ctx}
-use Rattle.go_tree.specs.GoTypes.Typing.{package_before, is_default, labelled, used, used_left}
+use Rattle.go_rules.specs.ScopeNames.Means.{Environment}
+use Rattle.go_rules.specs.ScopeNames.FreeNames.{names_of, specs_names, declared, declared_option, defined, name_then, params_names, free_params, free_type_option}
+use Rattle.go_rules.specs.GoTypes.Types.{GoType}
+use Rattle.go_rules.specs.GoTypes.Entities.{Entity, Env, package_of}
+use Rattle.go_rules.specs.GoTypes.Jumps.{breaks, breaks_in, breaks_arms, breaks_block, breaks_cases, labels, labels_in, labels_arms, labels_block, labels_cases, is_loop, is_breakable}
+use Rattle.go_rules.specs.GoTypes.Statements.{means_panic, is_panic, is_blank_name, no_values, is_absent, is_define, is_empty_stmt, has_last, has_names, param_binds, param_binding, Ctx}
+use Rattle.go_rules.specs.GoTypes.Typing.{package_before, is_default, labelled, used, used_left}
 use Rattle.form_meaning.specs.FormInPlace.Places.{at_place, Landing, Apart, is_panic_name}
 use Rattle.go_translation.specs.SameFacts.{UsedAlike}
 use Rattle.form_meaning.specs.FormInPlace.Bound.{Before}

@@ -2,12 +2,12 @@
 use Rattle.std.specs.Prelude.{◌≡◌, refl, ℕ, false, not, ◌||◌, List, [], Some, None}
 use mathlib.Core.Path.{ap, sym, ◌∙◌}
 use Rattle.go_tree.specs.Tree.{NameAt, TypeExpr, named, pointer, slice_type, map_type, struct_type, Fields, no_fields, field}
-use Rattle.go_tree.specs.ScopeNames.Means.{Environment, means, is_blank}
-use Rattle.go_tree.specs.ScopeNames.FreeNames.{free_fields}
-use Rattle.go_tree.specs.GoTypes.Answers.{given, both, only_if, is_among}
-use Rattle.go_tree.specs.GoTypes.Types.{pointer_to, slice_of, map_of, struct_of, go_field, field_names}
-use Rattle.go_tree.specs.GoTypes.Entities.{Entity, Env, meaning, exported, package_of, type_of_name}
-use Rattle.go_tree.specs.GoTypes.TypeNames.{resolved_fields, field_package}
+use Rattle.go_rules.specs.ScopeNames.Means.{Environment, means, is_blank}
+use Rattle.go_rules.specs.ScopeNames.FreeNames.{free_fields}
+use Rattle.go_rules.specs.GoTypes.Answers.{given, both, only_if, is_among}
+use Rattle.go_rules.specs.GoTypes.Types.{pointer_to, slice_of, map_of, struct_of, go_field, field_names}
+use Rattle.go_rules.specs.GoTypes.Entities.{Entity, Env, meaning, exported, package_of, type_of_name}
+use Rattle.go_rules.specs.GoTypes.TypeNames.{resolved_fields, field_package}
 use Rattle.form_meaning.specs.FormInPlace.Places.{at_place, Landing, SameName, Apart, TypeAlike}
 use Rattle.go_translation.specs.SameFacts.{UsedAlike}
 use Rattle.form_meaning.proofs.FormInPlace.Uses.{both_used, same_used, apart_used, single_apart, both_apart, nothing_apart}

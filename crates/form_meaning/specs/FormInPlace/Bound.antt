@@ -4,17 +4,17 @@ use Rattle.std.specs.Prelude.{ℕ, Bool, true, false, List, [], ◌∷◌, lengt
 use Rattle.go_tree.specs.declared.operators.BinOp.{BinOp}
 use Rattle.go_tree.specs.declared.operators.BinOp.TheVariants.{Shl, Shr}
 use Rattle.go_tree.specs.Tree.{NameAt, Sig, TypeExpr, Expr, Exprs, Stmt, StmtOption, RangeLeft}
-use Rattle.go_tree.specs.ScopeNames.FreeNames.{names_of, sig_names, declared, declared_option, defined}
-use Rattle.go_tree.specs.GoTypes.Answers.{given}
-use Rattle.go_tree.specs.GoTypes.Types.{GoType}
-use Rattle.go_tree.specs.GoTypes.Defined.{under}
-use Rattle.go_tree.specs.GoTypes.Entities.{Builtin, Panic, Print, Println, Env, defined_in, Binds}
-use Rattle.go_tree.specs.GoTypes.TypeNames.{type_meant, func_type, written_type}
-use Rattle.go_tree.specs.GoTypes.Literals.{literal_type}
-use Rattle.go_tree.specs.GoTypes.Statements.{body_binds, no_values}
-use Rattle.go_tree.specs.GoTypes.Typing.{binds_or, binds_of, new_constants, new_variables, right_values, Repeated}
-use Rattle.go_tree.specs.GoTypes.Typing.{nothing_to_repeat, parts, all_parts, places, declares, declares_first}
-use Rattle.go_tree.specs.GoTypes.Typing.{range_declares}
+use Rattle.go_rules.specs.ScopeNames.FreeNames.{names_of, sig_names, declared, declared_option, defined}
+use Rattle.go_rules.specs.GoTypes.Answers.{given}
+use Rattle.go_rules.specs.GoTypes.Types.{GoType}
+use Rattle.go_rules.specs.GoTypes.Defined.{under}
+use Rattle.go_rules.specs.GoTypes.Entities.{Builtin, Panic, Print, Println, Env, defined_in, Binds}
+use Rattle.go_rules.specs.GoTypes.TypeNames.{type_meant, func_type, written_type}
+use Rattle.go_rules.specs.GoTypes.Literals.{literal_type}
+use Rattle.go_rules.specs.GoTypes.Statements.{body_binds, no_values}
+use Rattle.go_rules.specs.GoTypes.Typing.{binds_or, binds_of, new_constants, new_variables, right_values, Repeated}
+use Rattle.go_rules.specs.GoTypes.Typing.{nothing_to_repeat, parts, all_parts, places, declares, declares_first}
+use Rattle.go_rules.specs.GoTypes.Typing.{range_declares}
 
 -- the type and the values that a constant spec without values repeats
 abbrev pub Before : Type 0 → Type 0

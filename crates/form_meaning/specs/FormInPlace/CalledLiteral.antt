@@ -1,8 +1,8 @@
 -- The called literal that stands for a call (Go specification, Calls; Function literals): the function's signature and
 -- body, written for the place of the call, with all parameters bound to the arguments of the call.
 use Rattle.std.specs.Prelude.{ℕ, false, List}
-use Rattle.go_tree.specs.ScopeNames.Means.{Environment}
-use Rattle.go_tree.specs.GoTypes.Entities.{Entity, Env}
+use Rattle.go_rules.specs.ScopeNames.Means.{Environment}
+use Rattle.go_rules.specs.GoTypes.Entities.{Entity, Env}
 use Rattle.form_meaning.specs.FormInPlace.Places.{Landing}
 
 -- in the world of a place, the place of a declaration: what names mean in its file, and its package

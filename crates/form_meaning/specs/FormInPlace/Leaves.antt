@@ -1,21 +1,21 @@
 -- The leaves of what may be written for a body at another place: names, types, arguments in place of parameters, and
 -- the elements of literals (Go specification, Qualified identifiers; Exported identifiers; Composite literals).
 use Rattle.std.specs.Prelude.{◌≡◌, ℕ, Bool, true, false, List, [], ◌∷◌, Option, Some, None}
-use Rattle.go_tree.specs.declared.const_eval.kinds.Kind.{Kind}
-use Rattle.go_tree.specs.declared.const_eval.kinds.Kind.TheVariants as kind
-use Rattle.go_tree.specs.declared.const_eval.consts.Const.{Const}
+use Rattle.go_rules.specs.declared.const_eval.kinds.Kind.{Kind}
+use Rattle.go_rules.specs.declared.const_eval.kinds.Kind.TheVariants as kind
+use Rattle.go_rules.specs.declared.const_eval.consts.Const.{Const}
 use Rattle.go_tree.specs.Tree.{NameAt, Param, TypeExpr, Expr, ident, selector, Elems}
-use Rattle.go_tree.specs.ScopeNames.Means.{Environment, means, is_blank}
-use Rattle.go_tree.specs.GoTypes.Answers.{is_among}
-use Rattle.go_tree.specs.GoTypes.Types.{GoType, basic, untyped, untyped_nil, fields_of, is_untyped, default_kind}
-use Rattle.go_tree.specs.GoTypes.Defined.{under}
-use Rattle.go_tree.specs.GoTypes.Entities.{Content, run, exact, Place, Entity, stand_in, Env, meaning, exported}
-use Rattle.go_tree.specs.GoTypes.Entities.{package_of, defined_in}
-use Rattle.go_tree.specs.GoTypes.Operands.{value, represented}
-use Rattle.go_tree.specs.GoTypes.Relations.{has_nil}
-use Rattle.go_tree.specs.GoTypes.Literals.{Element, literal_takes}
-use Rattle.go_tree.specs.GoTypes.Statements.{is_blank_name}
-use Rattle.go_tree.specs.GoTypes.Typing.{parts, elements, place, used}
+use Rattle.go_rules.specs.ScopeNames.Means.{Environment, means, is_blank}
+use Rattle.go_rules.specs.GoTypes.Answers.{is_among}
+use Rattle.go_rules.specs.GoTypes.Types.{GoType, basic, untyped, untyped_nil, fields_of, is_untyped, default_kind}
+use Rattle.go_rules.specs.GoTypes.Defined.{under}
+use Rattle.go_rules.specs.GoTypes.Entities.{Content, run, exact, Place, Entity, stand_in, Env, meaning, exported}
+use Rattle.go_rules.specs.GoTypes.Entities.{package_of, defined_in}
+use Rattle.go_rules.specs.GoTypes.Operands.{value, represented}
+use Rattle.go_rules.specs.GoTypes.Relations.{has_nil}
+use Rattle.go_rules.specs.GoTypes.Literals.{Element, literal_takes}
+use Rattle.go_rules.specs.GoTypes.Statements.{is_blank_name}
+use Rattle.go_rules.specs.GoTypes.Typing.{parts, elements, place, used}
 use Rattle.form_meaning.specs.FormInPlace.Places.{at_place, Landing, Apart, is_member, TypeAlike, KeysIn}
 
 module _ {S : Type 0} where

@@ -16,15 +16,15 @@ use Rattle.go_tree.specs.Tree.{define, return_, break_, continue_, inner, if_, f
 use Rattle.go_tree.specs.Tree.{Stmts, no_stmts, stmt_and, StmtOption, no_stmt, some_stmt, BlockOption, no_block}
 use Rattle.go_tree.specs.Tree.{some_block, RangeLeft, nothing, assigns, defines, Arms, no_arms, arm, Cases, no_cases}
 use Rattle.go_tree.specs.Tree.{case, ValueSpecs, no_specs, spec}
-use Rattle.go_tree.specs.ScopeNames.Means.{Environment}
-use Rattle.go_tree.specs.GoTypes.Answers.{given, meets, is_among}
-use Rattle.go_tree.specs.GoTypes.Types.{GoType, FuncType}
-use Rattle.go_tree.specs.GoTypes.Entities.{Builtin, Content, run, Entity, Env, meaning, defined_in, extend, in_block}
-use Rattle.go_tree.specs.GoTypes.TypeNames.{func_type}
-use Rattle.go_tree.specs.GoTypes.Operands.{value, a_function, a_builtin}
-use Rattle.go_tree.specs.GoTypes.Literals.{is_struct, key_type, inner_type}
-use Rattle.go_tree.specs.GoTypes.Statements.{bound_names}
-use Rattle.go_tree.specs.GoTypes.Typing.{parts, used_constants}
+use Rattle.go_rules.specs.ScopeNames.Means.{Environment}
+use Rattle.go_rules.specs.GoTypes.Answers.{given, meets, is_among}
+use Rattle.go_rules.specs.GoTypes.Types.{GoType, FuncType}
+use Rattle.go_rules.specs.GoTypes.Entities.{Builtin, Content, run, Entity, Env, meaning, defined_in, extend, in_block}
+use Rattle.go_rules.specs.GoTypes.TypeNames.{func_type}
+use Rattle.go_rules.specs.GoTypes.Operands.{value, a_function, a_builtin}
+use Rattle.go_rules.specs.GoTypes.Literals.{is_struct, key_type, inner_type}
+use Rattle.go_rules.specs.GoTypes.Statements.{bound_names}
+use Rattle.go_rules.specs.GoTypes.Typing.{parts, used_constants}
 use Rattle.form_meaning.specs.FormInPlace.Places.{at_place, Landing, has_home, means_function, SameName, AllSame}
 use Rattle.form_meaning.specs.FormInPlace.Places.{Outside, TypeAlike, SelectorAlike, results_in}
 use Rattle.go_translation.specs.SameFacts.{UsedAlike}

@@ -4,12 +4,12 @@ use Rattle.std.specs.List.{list_any}
 use Rattle.std.proofs.lemmas.Bool.{true≢false}
 use Rattle.std.proofs.lemmas.Bool.Decides.{nat_tests}
 use Rattle.go_tree.specs.declared.spans.Span.{Span}
-use Rattle.go_tree.specs.declared.const_eval.consts.Const.{Const}
-use Rattle.go_tree.specs.ScopeNames.Means.{Environment, means}
-use Rattle.go_tree.specs.GoTypes.Entities as go
-use Rattle.go_tree.specs.GoTypes.Entities.{World}
-use Rattle.go_tree.specs.GoTypes.Programs.{Header, SourceFile, SourcePackage, Headed, Program, all_headers, block_names, file_block, header_names, headed, headed_file, headed_files, headed_package, is_main, names_in}
-use Rattle.go_tree.specs.GoTypes.Collect.{aliased_world, refused_world, rounds, typed_world, types_declared, valued_world, blocks_by}
+use Rattle.go_rules.specs.declared.const_eval.consts.Const.{Const}
+use Rattle.go_rules.specs.ScopeNames.Means.{Environment, means}
+use Rattle.go_rules.specs.GoTypes.Entities as go
+use Rattle.go_rules.specs.GoTypes.Entities.{World}
+use Rattle.go_rules.specs.GoTypes.Programs.{Header, SourceFile, SourcePackage, Headed, Program, all_headers, block_names, file_block, header_names, headed, headed_file, headed_files, headed_package, is_main, names_in}
+use Rattle.go_rules.specs.GoTypes.Collect.{aliased_world, refused_world, rounds, typed_world, types_declared, valued_world, blocks_by}
 use Rattle.type_table.specs.TypeRelations.Environment.{Environment as Types}
 use Rattle.typed_names.specs.declared.entities.Entity.{Entity}
 use Rattle.typed_names.specs.Meanings.{Names, block_at, entity_option, world_at}

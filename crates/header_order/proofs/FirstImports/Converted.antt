@@ -4,11 +4,11 @@ use Rattle.std.specs.Prelude.{slice_get}
 use Rattle.go_tree.specs.declared.spans.Span.{Span}
 use Rattle.go_tree.specs.declared.files.FileTree.{FileTree}
 use Rattle.go_tree.specs.FileView.{file_of}
-use Rattle.go_tree.specs.GoTypes.Entities.{World}
-use Rattle.go_tree.specs.GoTypes.Programs.{Import, SourcePackage, Program, Headed, block_names, headed}
-use Rattle.go_tree.specs.GoTypes.Collect.{collected}
-use Rattle.go_tree.specs.GoTypes.WellTyped.{NotTyped, first_import}
-use Rattle.go_tree.specs.declared.scope_names.names.ImportName.{ImportName}
+use Rattle.go_rules.specs.GoTypes.Entities.{World}
+use Rattle.go_rules.specs.GoTypes.Programs.{Import, SourcePackage, Program, Headed, block_names, headed}
+use Rattle.go_rules.specs.GoTypes.Collect.{collected}
+use Rattle.go_rules.specs.GoTypes.WellTyped.{NotTyped, first_import}
+use Rattle.go_rules.specs.declared.scope_names.names.ImportName.{ImportName}
 use Rattle.go_tree.specs.File.{ImportSpec}
 use Rattle.pkg_graph.specs.GraphLaws.{OrdersAreUnique}
 use Rattle.pkg_graph.specs.Package as pure

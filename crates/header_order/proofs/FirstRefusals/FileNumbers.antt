@@ -2,7 +2,7 @@
 use Rattle.std.proofs.Common.{◌≡◌, ◌∙◌, ◌+◌, ◌<◌, ◌++◌, ℕ, zero, suc, List, [], ◌∷◌, Option, Some, None, refl, sym, subst, ap, ap₂, length, map, append_assoc, arith}
 use Rattle.std.specs.Prelude.{slice_get}
 use Rattle.go_tree.specs.declared.spans.Span.{Span}
-use Rattle.go_tree.specs.GoTypes.Programs.{Program}
+use Rattle.go_rules.specs.GoTypes.Programs.{Program}
 use Rattle.pkg_graph.specs.GraphLaws.{OrdersAreUnique}
 use Rattle.pkg_graph.specs.Package as pure
 use Rattle.pkg_graph.specs.declared.packages.SourceTree.{SourceTree}

@@ -1,11 +1,11 @@
 -- The first places of all files, imports before headers, and those of packages.
 use Rattle.std.proofs.Common.{◌≡◌, ◌∙◌, ◌++◌, ℕ, suc, List, [], ◌∷◌, Option, Some, None, refl, sym, ap, ap₂, length, map, arith}
 use Rattle.go_tree.specs.declared.spans.Span.{Span}
-use Rattle.go_tree.specs.GoTypes.Answers.{one_of}
-use Rattle.go_tree.specs.GoTypes.Entities.{World}
-use Rattle.go_tree.specs.GoTypes.Programs.{SourceFile, Headed, Program, block_names}
-use Rattle.go_tree.specs.GoTypes.TypeDeclarations.{DeclaredTypes}
-use Rattle.go_tree.specs.GoTypes.WellTyped.{NotTyped}
+use Rattle.go_rules.specs.GoTypes.Answers.{one_of}
+use Rattle.go_rules.specs.GoTypes.Entities.{World}
+use Rattle.go_rules.specs.GoTypes.Programs.{SourceFile, Headed, Program, block_names}
+use Rattle.go_rules.specs.GoTypes.TypeDeclarations.{DeclaredTypes}
+use Rattle.go_rules.specs.GoTypes.WellTyped.{NotTyped}
 use Rattle.package_blocks.specs.declared.headers.PackageHeader.{PackageHeader}
 use Rattle.header_order.specs.Files.{files_refused, first_of_files, headers_refused, imports_refused}
 use Rattle.header_order.proofs.FileLemmas.{headers_by_files}

@@ -4,12 +4,12 @@ use Rattle.std.specs.Prelude.{is_none}
 use Rattle.std.specs.List.{list_all, list_any}
 use Rattle.std.proofs.lemmas.Bool.Decides.{nat_tests}
 use Rattle.go_tree.specs.declared.spans.Span.{Span}
-use Rattle.go_tree.specs.GoTypes.Answers.{meets, one_of}
-use Rattle.go_tree.specs.GoTypes.Entities.{World}
-use Rattle.go_tree.specs.GoTypes.Programs.{SourceFile, SourcePackage, Headed, Program, block_names, headed}
-use Rattle.go_tree.specs.GoTypes.TypeDeclarations.{DeclaredTypes}
-use Rattle.go_tree.specs.GoTypes.Collect.{collected, types_declared}
-use Rattle.go_tree.specs.GoTypes.WellTyped.{NotTyped, first_header, first_import, first_in_files, first_refused, refused_header}
+use Rattle.go_rules.specs.GoTypes.Answers.{meets, one_of}
+use Rattle.go_rules.specs.GoTypes.Entities.{World}
+use Rattle.go_rules.specs.GoTypes.Programs.{SourceFile, SourcePackage, Headed, Program, block_names, headed}
+use Rattle.go_rules.specs.GoTypes.TypeDeclarations.{DeclaredTypes}
+use Rattle.go_rules.specs.GoTypes.Collect.{collected, types_declared}
+use Rattle.go_rules.specs.GoTypes.WellTyped.{NotTyped, first_header, first_import, first_in_files, first_refused, refused_header}
 use Rattle.typed_in_place.specs.ImportRule.{files_declare, files_import, package_imports}
 use Rattle.typed_in_place.proofs.WellTypedAlike.{none_one_of, well_typed-none}
 use Rattle.header_order.specs.Files.{NumbersApart}

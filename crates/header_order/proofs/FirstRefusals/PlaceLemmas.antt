@@ -2,12 +2,12 @@
 use Rattle.std.proofs.Common.{◌≡◌, ◌∙◌, ◌++◌, ◌&&◌, ◌||◌, not, ℕ, zero, suc, nat_eq, Bool, true, false, List, [], ◌∷◌, Option, Some, None, refl, sym, ap, ap₂, length, map}
 use Rattle.std.specs.Prelude.{slice_get}
 use Rattle.go_tree.specs.declared.spans.Span.{Span}
-use Rattle.go_tree.specs.GoTypes.Answers.{and_also, given, one_of}
-use Rattle.go_tree.specs.GoTypes.Entities.{World}
-use Rattle.go_tree.specs.GoTypes.Programs.{SourceFile, Headed, Import, Program}
-use Rattle.go_tree.specs.GoTypes.TypeDeclarations.{DeclaredTypes}
-use Rattle.go_tree.specs.GoTypes.MethodDeclarations.{MethodName, declared_on}
-use Rattle.go_tree.specs.GoTypes.WellTyped.{NotTyped, first_header, first_import, header_ok, import_ok, refused_unless}
+use Rattle.go_rules.specs.GoTypes.Answers.{and_also, given, one_of}
+use Rattle.go_rules.specs.GoTypes.Entities.{World}
+use Rattle.go_rules.specs.GoTypes.Programs.{SourceFile, Headed, Import, Program}
+use Rattle.go_rules.specs.GoTypes.TypeDeclarations.{DeclaredTypes}
+use Rattle.go_rules.specs.GoTypes.MethodDeclarations.{MethodName, declared_on}
+use Rattle.go_rules.specs.GoTypes.WellTyped.{NotTyped, first_header, first_import, header_ok, import_ok, refused_unless}
 use Rattle.typed_names.specs.declared.scopes.Scope.{Scope}
 use Rattle.package_blocks.specs.declared.headers.PackageHeader.{PackageHeader}
 use Rattle.package_blocks.specs.Headers.{AreHeaders, Listed, a_header, listed_of, no_headers}

@@ -2,12 +2,12 @@
 use Rattle.std.specs.Prelude.{◌≡◌, ℕ, ◌+◌, ◌<◌, Bool, true, false, not, ◌&&◌, ◌||◌, List, [], ◌∷◌, ◌++◌, drop, length, Option, Some, None, if◌then◌else◌, is_some, bytes_eq, get_or}
 use Rattle.std.proofs.Common.{refl, sym, ap, ◌∙◌, subst}
 use Rattle.go_tree.specs.declared.spans.Span.{Span}
-use Rattle.go_tree.specs.declared.scope_names.names.ImportName.{ImportName}
-use Rattle.go_tree.specs.ScopeNames.Means.{is_blank, means}
-use Rattle.go_tree.specs.GoTypes.Answers.{is_among, one_of}
-use Rattle.go_tree.specs.GoTypes.Entities.{World}
-use Rattle.go_tree.specs.GoTypes.Programs.{Import, Headed, is_init, import_sound}
-use Rattle.go_tree.specs.GoTypes.WellTyped.{NotTyped, refused_unless, is_used_in, import_ok, first_import}
+use Rattle.go_rules.specs.declared.scope_names.names.ImportName.{ImportName}
+use Rattle.go_rules.specs.ScopeNames.Means.{is_blank, means}
+use Rattle.go_rules.specs.GoTypes.Answers.{is_among, one_of}
+use Rattle.go_rules.specs.GoTypes.Entities.{World}
+use Rattle.go_rules.specs.GoTypes.Programs.{Import, Headed, is_init, import_sound}
+use Rattle.go_rules.specs.GoTypes.WellTyped.{NotTyped, refused_unless, is_used_in, import_ok, first_import}
 use Rattle.typed_names.specs.Meanings.{Names, block_at}
 use Rattle.package_blocks.specs.Names.{HasNames, is_declared}
 use Rattle.used_names.specs.Uses.{and_name}

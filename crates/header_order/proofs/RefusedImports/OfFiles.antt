@@ -4,11 +4,11 @@ use Rattle.std.specs.List.{list_any}
 use Rattle.std.proofs.Common.{refl, sym, ap, ◌∙◌, subst, arith}
 use Rattle.std.proofs.lemmas.List.Folds.{list_any-append}
 use Rattle.go_tree.specs.declared.spans.Span.{Span}
-use Rattle.go_tree.specs.ScopeNames.Means.{Environment}
-use Rattle.go_tree.specs.GoTypes.Answers.{is_among}
-use Rattle.go_tree.specs.GoTypes.Entities.{Entity, World}
-use Rattle.go_tree.specs.GoTypes.Programs.{SourceFile, SourcePackage, Program, Header, Headed, header_names, header_sound, headed, headed_package, headed_file, headed_files, all_headers, names_in, file_block, block_names, is_main}
-use Rattle.go_tree.specs.GoTypes.WellTyped.{header_uses, is_used_in}
+use Rattle.go_rules.specs.ScopeNames.Means.{Environment}
+use Rattle.go_rules.specs.GoTypes.Answers.{is_among}
+use Rattle.go_rules.specs.GoTypes.Entities.{Entity, World}
+use Rattle.go_rules.specs.GoTypes.Programs.{SourceFile, SourcePackage, Program, Header, Headed, header_names, header_sound, headed, headed_package, headed_file, headed_files, all_headers, names_in, file_block, block_names, is_main}
+use Rattle.go_rules.specs.GoTypes.WellTyped.{header_uses, is_used_in}
 use Rattle.name_uses.specs.HeaderUses.Laws.{header_at, is_used_by}
 use Rattle.header_order.specs.RefusedImports.Laws.{HasPackage, IsOfFile}
 

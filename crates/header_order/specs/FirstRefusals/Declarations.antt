@@ -2,12 +2,12 @@
 -- Declarations and scope).
 use Rattle.std.specs.Prelude.{◌≡◌, List, [], ◌∷◌, ◌++◌, length, Option, Some, None}
 use Rattle.go_tree.specs.declared.spans.Span.{Span}
-use Rattle.go_tree.specs.GoTypes.Answers.{one_of}
-use Rattle.go_tree.specs.GoTypes.Entities.{World}
-use Rattle.go_tree.specs.GoTypes.Programs.{Headed, Program, block_names, headed}
-use Rattle.go_tree.specs.GoTypes.TypeDeclarations.{DeclaredTypes}
-use Rattle.go_tree.specs.GoTypes.Collect.{collected, types_declared}
-use Rattle.go_tree.specs.GoTypes.WellTyped.{NotTyped, refused_header}
+use Rattle.go_rules.specs.GoTypes.Answers.{one_of}
+use Rattle.go_rules.specs.GoTypes.Entities.{World}
+use Rattle.go_rules.specs.GoTypes.Programs.{Headed, Program, block_names, headed}
+use Rattle.go_rules.specs.GoTypes.TypeDeclarations.{DeclaredTypes}
+use Rattle.go_rules.specs.GoTypes.Collect.{collected, types_declared}
+use Rattle.go_rules.specs.GoTypes.WellTyped.{NotTyped, refused_header}
 use Rattle.header_order.specs.Files.{imports_refused}
 use Rattle.header_order.specs.declared.first_refusals.first.RefusedPlace.{RefusedPlace}
 use Rattle.header_order.specs.FirstRefusals.Files.{all_named, file_numbers}

@@ -2,9 +2,9 @@
 -- organization).
 use Rattle.std.specs.Prelude.{ℕ, suc, List, [], ◌∷◌, ◌++◌, Option, Some, None, slice_get}
 use Rattle.go_tree.specs.declared.spans.Span.{Span}
-use Rattle.go_tree.specs.GoTypes.Answers.{given, one_of}
-use Rattle.go_tree.specs.GoTypes.Programs.{Program}
-use Rattle.go_tree.specs.GoTypes.WellTyped.{NotTyped}
+use Rattle.go_rules.specs.GoTypes.Answers.{given, one_of}
+use Rattle.go_rules.specs.GoTypes.Programs.{Program}
+use Rattle.go_rules.specs.GoTypes.WellTyped.{NotTyped}
 use Rattle.pkg_graph.specs.declared.packages.Package.{Package}
 use Rattle.package_blocks.specs.declared.headers.PackageHeader.{PackageHeader}
 use Rattle.header_order.specs.RefusedImports.First.{refused_at}

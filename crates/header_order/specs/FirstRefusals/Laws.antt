@@ -3,11 +3,11 @@ use Rattle.std.specs.Prelude.{◌≡◌, Bool, ◌&&◌, List, [], ◌∷◌, Op
 use Rattle.std.specs.Prelude.{if◌then◌else◌}
 use Rattle.std.specs.List.{list_all}
 use Rattle.go_tree.specs.declared.spans.Span.{Span}
-use Rattle.go_tree.specs.GoTypes.Answers.{meets, one_of}
-use Rattle.go_tree.specs.GoTypes.Entities.{World}
-use Rattle.go_tree.specs.GoTypes.Programs.{Headed, SourcePackage, Program, headed}
-use Rattle.go_tree.specs.GoTypes.Collect.{collected, types_declared}
-use Rattle.go_tree.specs.GoTypes.WellTyped.{NotTyped, first_body, lacks_main, refused_place, well_typed}
+use Rattle.go_rules.specs.GoTypes.Answers.{meets, one_of}
+use Rattle.go_rules.specs.GoTypes.Entities.{World}
+use Rattle.go_rules.specs.GoTypes.Programs.{Headed, SourcePackage, Program, headed}
+use Rattle.go_rules.specs.GoTypes.Collect.{collected, types_declared}
+use Rattle.go_rules.specs.GoTypes.WellTyped.{NotTyped, first_body, lacks_main, refused_place, well_typed}
 use Rattle.typed_in_place.specs.ImportRule.{files_declare, imports_ok}
 use Rattle.header_order.specs.Files.{NumbersApart}
 use Rattle.header_order.specs.FirstRefusals.Declarations.{refused_declaration}

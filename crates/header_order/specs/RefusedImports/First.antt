@@ -2,12 +2,12 @@
 use Rattle.std.specs.Prelude.{◌≡◌, ℕ, Bool, true, false, not, ◌&&◌, ◌||◌, List, [], ◌∷◌, drop}
 use Rattle.std.specs.Prelude.{Option, Some, None, is_some}
 use Rattle.go_tree.specs.declared.spans.Span.{Span}
-use Rattle.go_tree.specs.declared.scope_names.names.ImportName.{ImportName}
-use Rattle.go_tree.specs.ScopeNames.Means.{is_blank, means}
-use Rattle.go_tree.specs.GoTypes.Answers.{is_among}
-use Rattle.go_tree.specs.GoTypes.Entities.{World}
-use Rattle.go_tree.specs.GoTypes.Programs.{Import, Headed, is_init}
-use Rattle.go_tree.specs.GoTypes.WellTyped.{NotTyped, is_used_in, first_import}
+use Rattle.go_rules.specs.declared.scope_names.names.ImportName.{ImportName}
+use Rattle.go_rules.specs.ScopeNames.Means.{is_blank, means}
+use Rattle.go_rules.specs.GoTypes.Answers.{is_among}
+use Rattle.go_rules.specs.GoTypes.Entities.{World}
+use Rattle.go_rules.specs.GoTypes.Programs.{Import, Headed, is_init}
+use Rattle.go_rules.specs.GoTypes.WellTyped.{NotTyped, is_used_in, first_import}
 use Rattle.typed_names.specs.Meanings.{Names, block_at}
 use Rattle.package_blocks.specs.Names.{HasNames}
 

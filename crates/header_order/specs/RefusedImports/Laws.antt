@@ -2,10 +2,10 @@
 use Rattle.std.specs.Prelude.{◌≡◌, ℕ, false, List, [], ◌∷◌, ◌++◌, Some, nat_eq, slice_get}
 use Rattle.std.specs.List.{list_any}
 use Rattle.go_tree.specs.declared.spans.Span.{Span}
-use Rattle.go_tree.specs.GoTypes.Entities.{World}
-use Rattle.go_tree.specs.GoTypes.Programs.{SourceFile, SourcePackage, Program, Headed, headed, all_headers, file_block}
-use Rattle.go_tree.specs.GoTypes.Programs.{block_names}
-use Rattle.go_tree.specs.GoTypes.WellTyped.{is_used_in}
+use Rattle.go_rules.specs.GoTypes.Entities.{World}
+use Rattle.go_rules.specs.GoTypes.Programs.{SourceFile, SourcePackage, Program, Headed, headed, all_headers, file_block}
+use Rattle.go_rules.specs.GoTypes.Programs.{block_names}
+use Rattle.go_rules.specs.GoTypes.WellTyped.{is_used_in}
 use Rattle.name_uses.specs.HeaderUses.Laws.{is_used_by}
 
 -- a program with a package whose number no other has

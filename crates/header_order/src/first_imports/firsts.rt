@@ -1,8 +1,8 @@
 //! The first import of each file that is refused.
 
 ghost use Rattle.std.specs.Prelude.{◌≡◌, List, IfOk, OnOk, length, slice_get};
-ghost use Rattle.go_tree.specs.GoTypes.Programs.{headed};
-ghost use Rattle.go_tree.specs.GoTypes.Collect.{collected};
+ghost use Rattle.go_rules.specs.GoTypes.Programs.{headed};
+ghost use Rattle.go_rules.specs.GoTypes.Collect.{collected};
 ghost use Rattle.package_blocks.specs.Collected.{AreOrdered};
 ghost use Rattle.file_names.specs.Imports.{FindsPackages};
 ghost use Rattle.package_blocks.specs.FuncHeaders.Functions.{program_of};
@@ -13,7 +13,7 @@ ghost use Rattle.header_order.specs.FirstImports.Firsts.{of_package, tagged};
 
 use crate::refused_imports::first_refused_import;
 use file_names::{Places, find_packages, names_of_file};
-use go_tree::scope_names::NameList;
+use go_rules::scope_names::NameList;
 use go_tree::{FileTree, NoMemory, Span};
 use name_walks::NameSet;
 use pkg_graph::{Package, SourceTree, one_order_at_most};

@@ -1,8 +1,8 @@
 //! The first place that is refused, over the imports and the headers of all files.
 
 ghost use Rattle.std.specs.Prelude.{◌≡◌, length, map, slice_get, List, IfOk, Some};
-ghost use Rattle.go_tree.specs.GoTypes.Answers.{given, one_of};
-ghost use Rattle.go_tree.specs.GoTypes.Programs.{headed};
+ghost use Rattle.go_rules.specs.GoTypes.Answers.{given, one_of};
+ghost use Rattle.go_rules.specs.GoTypes.Programs.{headed};
 ghost use Rattle.typed_names.specs.declared.scopes.Scope.{Scope};
 ghost use Rattle.package_blocks.specs.Collected.{AreOrdered};
 ghost use Rattle.package_blocks.specs.Headers.{AreHeaders, listed_of};

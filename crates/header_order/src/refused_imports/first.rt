@@ -2,15 +2,15 @@
 
 ghost use Rattle.std.specs.Prelude.{◌≡◌, [], IfOk, List, ℕ};
 ghost use Rattle.go_tree.specs.declared.spans.Span.{Span};
-ghost use Rattle.go_tree.specs.GoTypes.Entities.{World};
-ghost use Rattle.go_tree.specs.GoTypes.Programs.{Headed, Import, is_init};
-ghost use Rattle.go_tree.specs.GoTypes.WellTyped.{first_import};
-ghost use Rattle.go_tree.specs.ScopeNames.Means.{is_blank};
+ghost use Rattle.go_rules.specs.GoTypes.Entities.{World};
+ghost use Rattle.go_rules.specs.GoTypes.Programs.{Headed, Import, is_init};
+ghost use Rattle.go_rules.specs.GoTypes.WellTyped.{first_import};
+ghost use Rattle.go_rules.specs.ScopeNames.Means.{is_blank};
 ghost use Rattle.typed_names.specs.Meanings.{block_at};
 ghost use Rattle.package_blocks.specs.Names.{HasNames};
 ghost use Rattle.header_order.specs.RefusedImports.First.{AreImports, AreUsed, is_refused, refused_at};
 
-use go_tree::scope_names::ImportName;
+use go_rules::scope_names::ImportName;
 use go_tree::{Name, NoMemory, Span};
 use name_walks::NameSet;
 use std::alloc::Global;

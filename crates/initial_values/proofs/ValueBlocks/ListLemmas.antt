@@ -3,9 +3,9 @@ use Rattle.std.proofs.Common.{◌≡◌, ◌∙◌, ◌<◌, ℕ, zero, suc, ◌
 use Rattle.std.specs.Prelude.{replicate, slice_get}
 use Rattle.go_tree.specs.declared.texts.NameAt as source
 use Rattle.go_tree.specs.View.{name_at_of}
-use Rattle.go_tree.specs.ScopeNames.FreeNames.{names_of}
+use Rattle.go_rules.specs.ScopeNames.FreeNames.{names_of}
 use Rattle.package_blocks.specs.Names.{plain_names}
-use Rattle.go_tree.specs.GoTypes.Agreement.{In, head, tail}
+use Rattle.go_rules.specs.GoTypes.Agreement.{In, head, tail}
 
 -- what holds of a name holds of each in a list of it alone
 pub only : (P : List ℕ → Type 0) (n : List ℕ) → P n → (q : List ℕ) → In q (n ∷ []) → P q

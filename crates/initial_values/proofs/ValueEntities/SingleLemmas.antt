@@ -2,17 +2,17 @@
 use Rattle.std.proofs.Common.{◌≡◌, ◌∙◌, ◌&&◌, Bool, true, false, ℕ, List, [], ◌∷◌, Option, Some, None, Ok, Err, refl, sym, ap, ap₂}
 use Rattle.go_tree.specs.declared.spans.Span.{Span}
 use Rattle.go_tree.specs.Tree.{Expr, Exprs, NameAt, TypeExpr, expr_and, no_exprs}
-use Rattle.go_tree.specs.ScopeNames.FreeNames.{names_of}
-use Rattle.go_tree.specs.GoTypes.Answers.{both, given}
-use Rattle.go_tree.specs.GoTypes.Bodiless.{all_bodiless, bodiless}
-use Rattle.go_tree.specs.GoTypes.Collect.{package_constants, package_variables}
-use Rattle.go_tree.specs.GoTypes.Entities as go
-use Rattle.go_tree.specs.GoTypes.Entities.{Binds, Env}
-use Rattle.go_tree.specs.GoTypes.Operands as go_operand
-use Rattle.go_tree.specs.GoTypes.Operands.{all_typed}
-use Rattle.go_tree.specs.GoTypes.Declarations.{bind_all}
-use Rattle.go_tree.specs.GoTypes.Initial.{all_initial, is_initial}
-use Rattle.go_tree.specs.GoTypes.TypeNames.{written_type}
+use Rattle.go_rules.specs.ScopeNames.FreeNames.{names_of}
+use Rattle.go_rules.specs.GoTypes.Answers.{both, given}
+use Rattle.go_rules.specs.GoTypes.Bodiless.{all_bodiless, bodiless}
+use Rattle.go_rules.specs.GoTypes.Collect.{package_constants, package_variables}
+use Rattle.go_rules.specs.GoTypes.Entities as go
+use Rattle.go_rules.specs.GoTypes.Entities.{Binds, Env}
+use Rattle.go_rules.specs.GoTypes.Operands as go_operand
+use Rattle.go_rules.specs.GoTypes.Operands.{all_typed}
+use Rattle.go_rules.specs.GoTypes.Declarations.{bind_all}
+use Rattle.go_rules.specs.GoTypes.Initial.{all_initial, is_initial}
+use Rattle.go_rules.specs.GoTypes.TypeNames.{written_type}
 use Rattle.type_table.specs.TypeRelations.Environment.{defined_types}
 use Rattle.type_table.specs.declared.nodes.TypeId.{TypeId}
 use Rattle.type_table.specs.declared.operand_rules.values.Refusal.{Refusal}

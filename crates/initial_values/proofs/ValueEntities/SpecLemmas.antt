@@ -7,23 +7,23 @@ use Rattle.go_tree.specs.declared.texts.NameAt as source
 use Rattle.go_tree.specs.Lists.{exprs_from}
 use Rattle.go_tree.specs.View.{expr_of, name_at_of}
 use Rattle.go_tree.specs.Tree.{Exprs, NameAt, TypeExpr}
-use Rattle.go_tree.specs.declared.const_eval.consts.Const.{Const}
-use Rattle.go_tree.specs.ScopeNames.FreeNames.{names_of}
-use Rattle.go_tree.specs.ScopeNames.Means.{binding}
-use Rattle.go_tree.specs.GoTypes.Answers.{answers_of, both, given, only_if}
-use Rattle.go_tree.specs.GoTypes.Types.{GoType}
-use Rattle.go_tree.specs.GoTypes.Defined.{Defined}
-use Rattle.go_tree.specs.GoTypes.Entities as go
-use Rattle.go_tree.specs.GoTypes.Entities.{Binds, Env}
-use Rattle.go_tree.specs.GoTypes.Bodies.{no_values}
-use Rattle.go_tree.specs.GoTypes.Declarations.{bind_all, bind_each}
-use Rattle.go_tree.specs.GoTypes.Operands as go_operand
-use Rattle.go_tree.specs.GoTypes.Operands.{all_typed}
-use Rattle.go_tree.specs.GoTypes.Bodiless.{all_bodiless}
-use Rattle.go_tree.specs.GoTypes.Initial.{all_initial}
-use Rattle.go_tree.specs.GoTypes.Collect.{package_constants, package_variables}
-use Rattle.go_tree.specs.GoTypes.TypeNames.{written_type}
-use Rattle.go_tree.specs.GoTypes.Typing.{all_parts, places}
+use Rattle.go_rules.specs.declared.const_eval.consts.Const.{Const}
+use Rattle.go_rules.specs.ScopeNames.FreeNames.{names_of}
+use Rattle.go_rules.specs.ScopeNames.Means.{binding}
+use Rattle.go_rules.specs.GoTypes.Answers.{answers_of, both, given, only_if}
+use Rattle.go_rules.specs.GoTypes.Types.{GoType}
+use Rattle.go_rules.specs.GoTypes.Defined.{Defined}
+use Rattle.go_rules.specs.GoTypes.Entities as go
+use Rattle.go_rules.specs.GoTypes.Entities.{Binds, Env}
+use Rattle.go_rules.specs.GoTypes.Bodies.{no_values}
+use Rattle.go_rules.specs.GoTypes.Declarations.{bind_all, bind_each}
+use Rattle.go_rules.specs.GoTypes.Operands as go_operand
+use Rattle.go_rules.specs.GoTypes.Operands.{all_typed}
+use Rattle.go_rules.specs.GoTypes.Bodiless.{all_bodiless}
+use Rattle.go_rules.specs.GoTypes.Initial.{all_initial}
+use Rattle.go_rules.specs.GoTypes.Collect.{package_constants, package_variables}
+use Rattle.go_rules.specs.GoTypes.TypeNames.{written_type}
+use Rattle.go_rules.specs.GoTypes.Typing.{all_parts, places}
 use Rattle.typed_names.specs.TypeExprs.Answers.{GivesType}
 use Rattle.type_table.specs.TypeRelations.Environment.{Environment, defined_types, env_type}
 use Rattle.type_table.specs.declared.nodes.TypeId.{TypeId}

@@ -8,8 +8,8 @@ use Rattle.go_tree.specs.Lists.{exprs_from, fields_from}
 use Rattle.go_tree.specs.Tree.{Exprs, no_exprs, expr_and}
 use Rattle.go_tree.specs.View.{expr_of, field_of, type_of}
 use Rattle.name_walks.specs.EachOnce.{each_once}
-use Rattle.go_tree.specs.ScopeNames.FreeNames.{free_expr, free_exprs, free_fields, free_type}
-use Rattle.go_tree.specs.GoTypes.Agreement.{In, head, tail}
+use Rattle.go_rules.specs.ScopeNames.FreeNames.{free_expr, free_exprs, free_fields, free_type}
+use Rattle.go_rules.specs.GoTypes.Agreement.{In, head, tail}
 use Rattle.initial_values.specs.ValuePlaces.Names.{names_of_each}
 
 -- ---- names are added

@@ -2,16 +2,16 @@
 use Rattle.std.proofs.Common.{◌≡◌, ◌∙◌, ℕ, true, false, List, [], ◌∷◌, ◌++◌, Option, Some, None, refl, sym, ap, ap₂, subst}
 use Rattle.go_tree.specs.declared.spans.Span.{Span}
 use Rattle.go_tree.specs.Tree.{NameAt, TypeExpr, Exprs}
-use Rattle.go_tree.specs.declared.const_eval.consts.Const.{Const}
-use Rattle.go_tree.specs.ScopeNames.Means.{is_blank, means, or_else}
-use Rattle.go_tree.specs.ScopeNames.FreeNames.{free_exprs, free_type_option}
-use Rattle.go_tree.specs.GoTypes.Agreement.{In, Same}
-use Rattle.go_tree.specs.GoTypes.Answers.{only_if}
-use Rattle.go_tree.specs.GoTypes.Entities as go
-use Rattle.go_tree.specs.GoTypes.Entities.{Binds, Env, World, block_of, extend, universe}
-use Rattle.go_tree.specs.GoTypes.Programs.{Header, constants, variables, Headed, env_of, file_env}
-use Rattle.go_tree.specs.GoTypes.TypeDeclarations.{DeclaredTypes}
-use Rattle.go_tree.specs.GoTypes.Collect.{declared_by, good_entity, package_constants, package_variables}
+use Rattle.go_rules.specs.declared.const_eval.consts.Const.{Const}
+use Rattle.go_rules.specs.ScopeNames.Means.{is_blank, means, or_else}
+use Rattle.go_rules.specs.ScopeNames.FreeNames.{free_exprs, free_type_option}
+use Rattle.go_rules.specs.GoTypes.Agreement.{In, Same}
+use Rattle.go_rules.specs.GoTypes.Answers.{only_if}
+use Rattle.go_rules.specs.GoTypes.Entities as go
+use Rattle.go_rules.specs.GoTypes.Entities.{Binds, Env, World, block_of, extend, universe}
+use Rattle.go_rules.specs.GoTypes.Programs.{Header, constants, variables, Headed, env_of, file_env}
+use Rattle.go_rules.specs.GoTypes.TypeDeclarations.{DeclaredTypes}
+use Rattle.go_rules.specs.GoTypes.Collect.{declared_by, good_entity, package_constants, package_variables}
 use Rattle.type_table.specs.TypeRelations.Environment.{Environment}
 use Rattle.typed_in_place.specs.ImportsMoved.{Moved, MovedIn, file_names, moved_constants, moved_variables, under_imports}
 use Rattle.typed_in_place.proofs.Headers.{declared_in}

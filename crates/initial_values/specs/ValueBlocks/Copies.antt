@@ -1,9 +1,9 @@
 -- Copies of package blocks, none of whose names means a constant (Go specification, Package block).
 use Rattle.std.specs.Prelude.{◌≡◌, ◌<◌, ℕ, Bool, true, false, List, [], ◌∷◌, length, Option, Some}
 use Rattle.std.specs.Prelude.{None, slice_get, ◌⊎◌}
-use Rattle.go_tree.specs.ScopeNames.Means.{means}
-use Rattle.go_tree.specs.GoTypes.Agreement.{In}
-use Rattle.go_tree.specs.GoTypes.Programs.{header_names}
+use Rattle.go_rules.specs.ScopeNames.Means.{means}
+use Rattle.go_rules.specs.GoTypes.Agreement.{In}
+use Rattle.go_rules.specs.GoTypes.Programs.{header_names}
 use Rattle.type_table.specs.TypeRelations.Environment.{Environment}
 use Rattle.typed_names.specs.declared.entities.Entity.{Entity}
 use Rattle.typed_names.specs.declared.entities.Entity.TheVariants.{Variable, Constant, TypeName, Function, Package}

@@ -2,8 +2,8 @@
 -- Variable declarations).
 use Rattle.std.specs.Prelude.{◌≡◌, ℕ, List, drop, if◌then◌else◌, nat_eq}
 use Rattle.go_tree.specs.declared.texts.NameAt.{NameAt}
-use Rattle.go_tree.specs.declared.const_eval.consts.Const.{Const}
-use Rattle.go_tree.specs.ScopeNames.Means.{binding, means}
+use Rattle.go_rules.specs.declared.const_eval.consts.Const.{Const}
+use Rattle.go_rules.specs.ScopeNames.Means.{binding, means}
 use Rattle.type_table.specs.TypeRelations.Environment.{Environment}
 use Rattle.typed_names.specs.declared.entities.Entity.{Entity}
 use Rattle.typed_names.specs.Known.{AllHaveTypes}

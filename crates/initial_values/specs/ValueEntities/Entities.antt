@@ -2,15 +2,15 @@
 -- declarations).
 use Rattle.std.specs.Prelude.{◌≡◌, ℕ, ◌&&◌, Bool, List, [], ◌∷◌, ◌++◌, length, map, replicate}
 use Rattle.std.specs.Prelude.{Option, Some, None, Result, Ok, Err, is_some}
-use Rattle.go_tree.specs.declared.const_eval.consts.Const.{Const}
-use Rattle.go_tree.specs.ScopeNames.Means.{Environment, binding}
-use Rattle.go_tree.specs.GoTypes.Answers.{answers_of, given}
-use Rattle.go_tree.specs.GoTypes.Types.{GoType, basic_kind}
-use Rattle.go_tree.specs.GoTypes.Defined.{Defined, under}
-use Rattle.go_tree.specs.GoTypes.Entities as go
-use Rattle.go_tree.specs.GoTypes.Entities.{Binds}
-use Rattle.go_tree.specs.GoTypes.Operands.{Operand, Typed, fits, typed}
-use Rattle.go_tree.specs.GoTypes.Declarations.{constant_entity, variable_entity}
+use Rattle.go_rules.specs.declared.const_eval.consts.Const.{Const}
+use Rattle.go_rules.specs.ScopeNames.Means.{Environment, binding}
+use Rattle.go_rules.specs.GoTypes.Answers.{answers_of, given}
+use Rattle.go_rules.specs.GoTypes.Types.{GoType, basic_kind}
+use Rattle.go_rules.specs.GoTypes.Defined.{Defined, under}
+use Rattle.go_rules.specs.GoTypes.Entities as go
+use Rattle.go_rules.specs.GoTypes.Entities.{Binds}
+use Rattle.go_rules.specs.GoTypes.Operands.{Operand, Typed, fits, typed}
+use Rattle.go_rules.specs.GoTypes.Declarations.{constant_entity, variable_entity}
 use Rattle.type_table.specs.TypeRelations.Environment as types
 use Rattle.type_table.specs.declared.nodes.TypeId.{TypeId}
 use Rattle.type_table.specs.declared.operand_rules.values.Refusal.{Refusal}

@@ -2,14 +2,14 @@
 use Rattle.std.specs.Prelude.{◌≡◌, ℕ, List, ◌++◌, map, Option, Some, None, Result, Ok, Err, IfSome}
 use Rattle.go_tree.specs.declared.spans.Span.{Span}
 use Rattle.go_tree.specs.Tree.{Exprs}
-use Rattle.go_tree.specs.declared.const_eval.consts.Const.{Const}
-use Rattle.go_tree.specs.GoTypes.Answers.{given}
-use Rattle.go_tree.specs.GoTypes.Types.{GoType}
-use Rattle.go_tree.specs.GoTypes.Defined.{Defined}
-use Rattle.go_tree.specs.GoTypes.Entities.{Binds, Env}
-use Rattle.go_tree.specs.GoTypes.Declarations.{bind_all}
-use Rattle.go_tree.specs.GoTypes.Operands.{all_typed}
-use Rattle.go_tree.specs.GoTypes.Typing.{all_parts}
+use Rattle.go_rules.specs.declared.const_eval.consts.Const.{Const}
+use Rattle.go_rules.specs.GoTypes.Answers.{given}
+use Rattle.go_rules.specs.GoTypes.Types.{GoType}
+use Rattle.go_rules.specs.GoTypes.Defined.{Defined}
+use Rattle.go_rules.specs.GoTypes.Entities.{Binds, Env}
+use Rattle.go_rules.specs.GoTypes.Declarations.{bind_all}
+use Rattle.go_rules.specs.GoTypes.Operands.{all_typed}
+use Rattle.go_rules.specs.GoTypes.Typing.{all_parts}
 use Rattle.type_table.specs.TypeRelations.Environment.{Environment}
 use Rattle.type_table.specs.declared.nodes.TypeId.{TypeId}
 use Rattle.type_table.specs.declared.operand_rules.values.ValueType.TheVariants.{Typed}

@@ -2,7 +2,7 @@
 use Rattle.std.specs.Prelude.{ℕ, List, [], ◌++◌, Option}
 use Rattle.go_tree.specs.Tree.{TypeExpr, Exprs, no_exprs, expr_and}
 use Rattle.name_walks.specs.EachOnce.{each_once}
-use Rattle.go_tree.specs.ScopeNames.FreeNames.{free_expr, free_type_option}
+use Rattle.go_rules.specs.ScopeNames.FreeNames.{free_expr, free_type_option}
 
 module _ {S : Type 0} where
   -- the free names of each value once

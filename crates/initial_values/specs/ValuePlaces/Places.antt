@@ -1,8 +1,8 @@
 -- Places outside all functions, with some of the imports of their file (Go specification, Import declarations; File
 -- block; Iota).
 use Rattle.std.specs.Prelude.{◌≡◌, ℕ, Bool, true, false, List, [], ◌∷◌, Option, Some, None, ◌⊎◌}
-use Rattle.go_tree.specs.ScopeNames.Means.{is_blank, means}
-use Rattle.go_tree.specs.GoTypes.Agreement.{In}
+use Rattle.go_rules.specs.ScopeNames.Means.{is_blank, means}
+use Rattle.go_rules.specs.GoTypes.Agreement.{In}
 use Rattle.typed_names.specs.declared.entities.Entity.{Entity}
 use Rattle.typed_names.specs.declared.entities.Entity.TheVariants.{Variable, Constant, TypeName, Function, Package}
 use Rattle.typed_names.specs.declared.entities.Entity.TheVariants.{Predeclared, Refused}

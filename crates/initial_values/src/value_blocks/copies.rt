@@ -1,7 +1,7 @@
 //! Copies of package blocks before constants are declared in them (Go specification, Package block).
 
 ghost use Rattle.std.specs.Prelude.{◌≡◌, [], ◌∷◌, replicate, length, IfOk, OnOk};
-ghost use Rattle.go_tree.specs.GoTypes.Programs.{header_names};
+ghost use Rattle.go_rules.specs.GoTypes.Programs.{header_names};
 ghost use Rattle.package_blocks.specs.Headers.{header_of};
 ghost use Rattle.package_blocks.specs.Names.{plain_names};
 ghost use Rattle.initial_values.specs.ValueBlocks.Copies.{AddsCopies, AddsHeader, AreAllCopied, AreCopies, is_constant};

@@ -2,8 +2,8 @@
 //! declarations; Variable declarations; Package block).
 
 ghost use Rattle.std.specs.Prelude.{◌≡◌, List, length, IfOk, OnErr, OnOk};
-ghost use Rattle.go_tree.specs.declared.const_eval.consts.Const.{Const};
-ghost use Rattle.go_tree.specs.ScopeNames.Means as scope;
+ghost use Rattle.go_rules.specs.declared.const_eval.consts.Const.{Const};
+ghost use Rattle.go_rules.specs.ScopeNames.Means as scope;
 ghost use Rattle.type_table.specs.TypeRelations.Environment.{Environment};
 ghost use Rattle.operand_modes.specs.OperandAnswers.Known.{IsEntity};
 ghost use Rattle.package_blocks.specs.Names.{plain_names};

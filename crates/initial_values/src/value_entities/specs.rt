@@ -3,16 +3,16 @@
 
 ghost use Rattle.std.specs.Prelude.{◌&&◌, IfSome, List, length, map, None};
 ghost use Rattle.std.specs.Option.{option_map};
-ghost use Rattle.go_tree.specs.declared.const_eval.consts.Const.{Const};
+ghost use Rattle.go_rules.specs.declared.const_eval.consts.Const.{Const};
 ghost use Rattle.go_tree.specs.Tree.{no_exprs};
 ghost use Rattle.go_tree.specs.View.{exprs_of, name_at_of, type_of};
-ghost use Rattle.go_tree.specs.GoTypes.Answers.{only_if};
-ghost use Rattle.go_tree.specs.GoTypes.Bodiless as go_bodiless;
-ghost use Rattle.go_tree.specs.GoTypes.Collect as go;
-ghost use Rattle.go_tree.specs.GoTypes.Entities.{Env};
-ghost use Rattle.go_tree.specs.GoTypes.Initial as go_initial;
-ghost use Rattle.go_tree.specs.GoTypes.TypeNames as go_types;
-ghost use Rattle.go_tree.specs.ScopeNames.FreeNames.{names_of};
+ghost use Rattle.go_rules.specs.GoTypes.Answers.{only_if};
+ghost use Rattle.go_rules.specs.GoTypes.Bodiless as go_bodiless;
+ghost use Rattle.go_rules.specs.GoTypes.Collect as go;
+ghost use Rattle.go_rules.specs.GoTypes.Entities.{Env};
+ghost use Rattle.go_rules.specs.GoTypes.Initial as go_initial;
+ghost use Rattle.go_rules.specs.GoTypes.TypeNames as go_types;
+ghost use Rattle.go_rules.specs.ScopeNames.FreeNames.{names_of};
 ghost use Rattle.type_table.specs.TypeRelations.Environment.{Environment};
 ghost use Rattle.type_table.specs.declared.operand_rules.values.ValueType.TheVariants.{Typed};
 ghost use Rattle.type_table.specs.OperandRules.Values.{IsType};

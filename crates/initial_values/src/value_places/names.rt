@@ -6,7 +6,7 @@ ghost use Rattle.std.specs.Option.{option_map};
 ghost use Rattle.go_tree.specs.Tree.{no_exprs, expr_and};
 ghost use Rattle.go_tree.specs.View.{expr_of, exprs_of, fields_of, name_at_of, type_of};
 ghost use Rattle.name_walks.specs.EachOnce.{each_once};
-ghost use Rattle.go_tree.specs.ScopeNames.FreeNames.{free_expr, free_fields, free_type, free_type_option, named_use};
+ghost use Rattle.go_rules.specs.ScopeNames.FreeNames.{free_expr, free_fields, free_type, free_type_option, named_use};
 ghost use Rattle.initial_values.specs.ValuePlaces.Names.{value_names};
 
 use go_tree::{Expr, ExprList, FieldSpecList, Name, NameAt, NoMemory, TypeExpr};

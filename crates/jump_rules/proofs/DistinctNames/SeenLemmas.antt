@@ -3,10 +3,10 @@ use Rattle.std.proofs.Common.{◌≡◌, ◌∙◌, ◌&&◌, ◌||◌, not, ℕ
 use Rattle.std.specs.List.{list_all, list_any}
 use Rattle.go_tree.specs.declared.texts.NameAt as source
 use Rattle.go_tree.specs.View.{name_at_of}
-use Rattle.go_tree.specs.ScopeNames.Means.{is_blank}
-use Rattle.go_tree.specs.ScopeNames.FreeNames.{names_of}
-use Rattle.go_tree.specs.GoTypes.Answers.{distinct_by, is_among}
-use Rattle.go_tree.specs.GoTypes.Declarations.{not_blank}
+use Rattle.go_rules.specs.ScopeNames.Means.{is_blank}
+use Rattle.go_rules.specs.ScopeNames.FreeNames.{names_of}
+use Rattle.go_rules.specs.GoTypes.Answers.{distinct_by, is_among}
+use Rattle.go_rules.specs.GoTypes.Declarations.{not_blank}
 use Rattle.name_walks.specs.EachOnce.{with_name}
 use Rattle.name_walks.proofs.SetLaws.{among_with}
 use Rattle.typed_names.proofs.NameLaws.{turned}

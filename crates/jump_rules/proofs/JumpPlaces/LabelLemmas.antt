@@ -1,7 +1,7 @@
 -- Labels that come last are the innermost.
 use Rattle.std.proofs.Common.{◌≡◌, ◌∙◌, ◌+◌, ◌++◌, ℕ, Bool, List, [], ◌∷◌, Option, Some, None, arith, drop, length, refl, sym, ap, ap₂}
 use Rattle.std.specs.Prelude.{MatchOption, option_to_list}
-use Rattle.go_tree.specs.GoTypes.Bodies.{Ctx}
+use Rattle.go_rules.specs.GoTypes.Bodies.{Ctx}
 use Rattle.jump_rules.specs.declared.around.Around.{Around}
 use Rattle.jump_rules.specs.declared.around.LabelAround.{LabelAround}
 use Rattle.jump_rules.specs.Labels.{IsAround, labels_at, labels_onto}

@@ -3,9 +3,9 @@ use Rattle.std.proofs.Common.{◌≡◌, ◌∙◌, ◌++◌, ◌&&◌, ◌||◌
 use mathlib.Core.Path.{fun_ext}
 use Rattle.std.specs.List.{list_all, list_any}
 use Rattle.std.proofs.lemmas.Slice.Eq.{bytes_eq-Decides}
-use Rattle.go_tree.specs.ScopeNames.Means.{is_blank}
-use Rattle.go_tree.specs.GoTypes.Answers.{distinct_by, is_among, only_if, without}
-use Rattle.go_tree.specs.GoTypes.Declarations.{all_used, not_blank}
+use Rattle.go_rules.specs.ScopeNames.Means.{is_blank}
+use Rattle.go_rules.specs.GoTypes.Answers.{distinct_by, is_among, only_if, without}
+use Rattle.go_rules.specs.GoTypes.Declarations.{all_used, not_blank}
 use Rattle.typed_names.proofs.NameLaws.{turned}
 use Rattle.jump_rules.specs.declared.used_locals.pending.PendingName.{PendingName}
 use Rattle.jump_rules.specs.UsedLocals.Used.{Used, and_names, set_name}

@@ -6,9 +6,9 @@ use Rattle.go_tree.specs.declared.types.FieldSpec as source_field
 use Rattle.go_tree.specs.declared.types.Param as source_param
 use Rattle.go_tree.specs.Lists.{fields_from}
 use Rattle.go_tree.specs.View.{field_of, param_of, type_of}
-use Rattle.go_tree.specs.ScopeNames.FreeNames.{free_fields, free_params, free_type}
-use Rattle.go_tree.specs.ScopeNames.Means.{means}
-use Rattle.go_tree.specs.GoTypes.Answers.{is_among, meets}
+use Rattle.go_rules.specs.ScopeNames.FreeNames.{free_fields, free_params, free_type}
+use Rattle.go_rules.specs.ScopeNames.Means.{means}
+use Rattle.go_rules.specs.GoTypes.Answers.{is_among, meets}
 use Rattle.typed_names.proofs.NameLaws.{turned}
 use Rattle.jump_rules.specs.UsedLocals.Used.{Used, and_name, and_names, set_name, used_of}
 

@@ -1,7 +1,7 @@
 -- Names that are seen one by one, and what they tell of whether each stands once (Go specification, Declarations and
 -- scope).
 use Rattle.std.specs.Prelude.{◌≡◌, ℕ, Bool, true, not, ◌&&◌, ◌||◌, List, [], ◌∷◌, bytes_eq}
-use Rattle.go_tree.specs.GoTypes.Answers.{is_among}
+use Rattle.go_rules.specs.GoTypes.Answers.{is_among}
 
 -- each name is none of those before it
 abbrev pub are_fresh : List (List ℕ) → List (List ℕ) → Bool

@@ -1,9 +1,9 @@
 -- The laws of scopes that begin and end. Each is a clause of a function of this crate.
 use Rattle.std.specs.Prelude.{◌≡◌, ℕ, Bool, true, not, ◌||◌, ◌&&◌, List, bytes_eq}
 use Rattle.std.specs.List.{list_all}
-use Rattle.go_tree.specs.ScopeNames.Means.{is_blank}
-use Rattle.go_tree.specs.GoTypes.Answers.{distinct_by, is_among, without}
-use Rattle.go_tree.specs.GoTypes.Declarations.{all_used, not_blank}
+use Rattle.go_rules.specs.ScopeNames.Means.{is_blank}
+use Rattle.go_rules.specs.GoTypes.Answers.{distinct_by, is_among, without}
+use Rattle.go_rules.specs.GoTypes.Declarations.{all_used, not_blank}
 use Rattle.jump_rules.specs.declared.used_locals.pending.PendingName.{PendingName}
 use Rattle.jump_rules.specs.UsedLocals.Used.{Used, and_names}
 use Rattle.jump_rules.specs.UsedLocals.Pending.{Scopes, all_begun, all_pass, ended}

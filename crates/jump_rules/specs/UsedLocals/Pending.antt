@@ -2,7 +2,7 @@
 -- Declarations and scope; Variable declarations).
 use Rattle.std.specs.Prelude.{ℕ, Bool, false, not, ◌||◌, List, [], ◌∷◌, ◌++◌, if◌then◌else◌}
 use Rattle.std.specs.List.{list_all}
-use Rattle.go_tree.specs.ScopeNames.Means.{is_blank}
+use Rattle.go_rules.specs.ScopeNames.Means.{is_blank}
 use Rattle.jump_rules.specs.declared.used_locals.pending.PendingName.{PendingName}
 use Rattle.jump_rules.specs.UsedLocals.Used.{Used, set_name}
 

@@ -1,9 +1,9 @@
 -- Names that are used so far (Go specification, Declarations and scope; Types).
 use Rattle.std.specs.Prelude.{ℕ, Bool, ◌||◌, List, [], ◌∷◌, ◌++◌, bytes_eq, if◌then◌else◌}
 use Rattle.go_tree.specs.Tree.{Sig}
-use Rattle.go_tree.specs.ScopeNames.FreeNames.{free_params}
-use Rattle.go_tree.specs.ScopeNames.Means.{means}
-use Rattle.go_tree.specs.GoTypes.Answers.{meets}
+use Rattle.go_rules.specs.ScopeNames.FreeNames.{free_params}
+use Rattle.go_rules.specs.ScopeNames.Means.{means}
+use Rattle.go_rules.specs.GoTypes.Answers.{meets}
 
 -- which names are used
 abbrev pub Used : Type 0

@@ -1,8 +1,8 @@
 -- Blocks that are walked part by part, and their laws, each a clause of a function of this crate (Go specification,
 -- Blocks; Declarations and scope; Variable declarations).
 use Rattle.std.specs.Prelude.{◌≡◌, ℕ, Bool, List, [], ◌++◌, Option, if◌then◌else◌}
-use Rattle.go_tree.specs.GoTypes.Answers.{only_if, without}
-use Rattle.go_tree.specs.GoTypes.Declarations.{all_used}
+use Rattle.go_rules.specs.GoTypes.Answers.{only_if, without}
+use Rattle.go_rules.specs.GoTypes.Declarations.{all_used}
 use Rattle.jump_rules.specs.declared.used_locals.pending.PendingName.{PendingName}
 use Rattle.jump_rules.specs.UsedLocals.Used.{Used, and_names}
 use Rattle.jump_rules.specs.UsedLocals.Pending.{all_begun, all_pass, ended}

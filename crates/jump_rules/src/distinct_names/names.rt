@@ -2,9 +2,9 @@
 
 ghost use Rattle.std.specs.Prelude.{◌≡◌, ◌∷◌, [], map, IfOk, bytes_eq};
 ghost use Rattle.go_tree.specs.View.{name_at_of};
-ghost use Rattle.go_tree.specs.GoTypes.Answers.{distinct_by};
-ghost use Rattle.go_tree.specs.GoTypes.Declarations.{names_once, not_blank};
-ghost use Rattle.go_tree.specs.ScopeNames.FreeNames.{names_of};
+ghost use Rattle.go_rules.specs.GoTypes.Answers.{distinct_by};
+ghost use Rattle.go_rules.specs.GoTypes.Declarations.{names_once, not_blank};
+ghost use Rattle.go_rules.specs.ScopeNames.FreeNames.{names_of};
 ghost use Rattle.jump_rules.specs.DistinctNames.Seen.{AddsName, AddsNames};
 
 use go_tree::{Name, NameAt, NoMemory};

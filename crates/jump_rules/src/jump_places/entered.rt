@@ -2,7 +2,7 @@
 
 ghost use Rattle.std.specs.Prelude.{◌≡◌, OnOk};
 ghost use Rattle.go_tree.specs.View.{name_at_of, stmt_of};
-ghost use Rattle.go_tree.specs.GoTypes.Bodies as go;
+ghost use Rattle.go_rules.specs.GoTypes.Bodies as go;
 ghost use Rattle.jump_rules.specs.Labels.{IsAround};
 
 use crate::{Around, LabelAround, is_breakable, is_loop};

@@ -2,8 +2,8 @@
 
 ghost use Rattle.std.specs.Prelude.{◌≡◌, ◌||◌, [], OnOk, map, not};
 ghost use Rattle.go_tree.specs.View.{name_at_of};
-ghost use Rattle.go_tree.specs.ScopeNames.FreeNames.{names_of};
-ghost use Rattle.go_tree.specs.ScopeNames.Means.{is_blank};
+ghost use Rattle.go_rules.specs.ScopeNames.FreeNames.{names_of};
+ghost use Rattle.go_rules.specs.ScopeNames.Means.{is_blank};
 ghost use Rattle.jump_rules.specs.UsedLocals.Pending.{all_begun, all_pass, ended, begun};
 ghost use Rattle.jump_rules.specs.UsedLocals.Used.{used_of};
 

@@ -3,7 +3,7 @@
 ghost use Rattle.std.specs.Prelude.{◌≡◌, [], OnOk, map};
 ghost use Rattle.std.specs.Option.{option_map};
 ghost use Rattle.go_tree.specs.View.{fields_of, name_at_of, param_of, sig_of, type_of};
-ghost use Rattle.go_tree.specs.ScopeNames.FreeNames.{free_fields, free_params, free_type, free_type_option, named_use};
+ghost use Rattle.go_rules.specs.ScopeNames.FreeNames.{free_fields, free_params, free_type, free_type_option, named_use};
 ghost use Rattle.jump_rules.specs.UsedLocals.Used.{and_name, and_names, sig_uses, used_of};
 
 use crate::used_locals::names::UsedNames;

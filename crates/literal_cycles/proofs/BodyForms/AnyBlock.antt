@@ -2,26 +2,26 @@
 use Rattle.std.proofs.Common.{◌≡◌, ◌∙◌, ℕ, suc, false, List, [], ◌∷◌, ◌++◌, Option, Some, None, refl, ap, ap₂}
 use Rattle.std.specs.Prelude.{if◌then◌else◌}
 use Rattle.go_tree.specs.Tree.{TypeExpr, named, pointer, slice_type, map_type, struct_type, Fields, no_fields, field, Param, Sig, Expr, ident, int_lit, rune_lit, str_lit, composite, selector, index, slice, call, func_lit, type_operand, unary, binary, star, Exprs, no_exprs, expr_and, ExprOption, no_expr, some_expr, Elems, no_elems, elem, Value, plain, braced, ValueOption, no_value, some_value}
-use Rattle.go_tree.specs.GoTypes.Answers.{both, given, only_if}
-use Rattle.go_tree.specs.GoTypes.Types.{GoType, pointer_to, slice_of, map_of, struct_of}
-use Rattle.go_tree.specs.GoTypes.Defined.{has_keys, under}
-use Rattle.go_tree.specs.GoTypes.Entities.{Env, Entity, variable, constant, stand_in, type_name, function, package_name, builtin, nil_name, iota_name, refused, Place, addressable, defined_in, extend, exported, in_block, meaning}
-use Rattle.go_tree.specs.GoTypes.TypeNames.{field_before, func_type, params_meant, resolved, resolved_fields, type_meant}
-use Rattle.go_tree.specs.GoTypes.Operands.{Operand, a_function, a_type, named_operand, named_place, place_by, typed, with_value}
-use Rattle.go_tree.specs.GoTypes.Operators.{binary_of, star_of, unary_of}
-use Rattle.go_tree.specs.GoTypes.Primary.{call_of, index_of, index_place, selected, selected_place, sliced}
-use Rattle.go_tree.specs.GoTypes.Literals.{built, built_inside, field_key, inner_type, is_struct, key_type, keyed, literal_type, of_field}
-use Rattle.go_tree.specs.GoTypes.Bodies.{body_binds, body_ctx, is_body}
-use Rattle.go_tree.specs.GoTypes.Statements.{package_before}
-use Rattle.go_tree.specs.GoTypes.Typing.{all_parts, bound, element, elements, parts, place, places, stmts, with_key}
-use Rattle.go_tree.specs.GoTypes.Answers.{meets, otherwise}
-use Rattle.go_tree.specs.GoTypes.Types.{GoFields, fields_of, base_of, type_name_of}
-use Rattle.go_tree.specs.GoTypes.Primary.{field_type}
-use Rattle.go_tree.specs.ScopeNames.FreeNames.{names_of, sig_names}
-use Rattle.go_tree.specs.ScopeNames.Means.{Environment}
-use Rattle.go_tree.specs.ScopeNames.Scopes.{sig_declares}
-use Rattle.go_tree.specs.GoTypes.Bodies.{literal_env}
-use Rattle.go_tree.specs.GoTypes.Declarations.{binds_or}
+use Rattle.go_rules.specs.GoTypes.Answers.{both, given, only_if}
+use Rattle.go_rules.specs.GoTypes.Types.{GoType, pointer_to, slice_of, map_of, struct_of}
+use Rattle.go_rules.specs.GoTypes.Defined.{has_keys, under}
+use Rattle.go_rules.specs.GoTypes.Entities.{Env, Entity, variable, constant, stand_in, type_name, function, package_name, builtin, nil_name, iota_name, refused, Place, addressable, defined_in, extend, exported, in_block, meaning}
+use Rattle.go_rules.specs.GoTypes.TypeNames.{field_before, func_type, params_meant, resolved, resolved_fields, type_meant}
+use Rattle.go_rules.specs.GoTypes.Operands.{Operand, a_function, a_type, named_operand, named_place, place_by, typed, with_value}
+use Rattle.go_rules.specs.GoTypes.Operators.{binary_of, star_of, unary_of}
+use Rattle.go_rules.specs.GoTypes.Primary.{call_of, index_of, index_place, selected, selected_place, sliced}
+use Rattle.go_rules.specs.GoTypes.Literals.{built, built_inside, field_key, inner_type, is_struct, key_type, keyed, literal_type, of_field}
+use Rattle.go_rules.specs.GoTypes.Bodies.{body_binds, body_ctx, is_body}
+use Rattle.go_rules.specs.GoTypes.Statements.{package_before}
+use Rattle.go_rules.specs.GoTypes.Typing.{all_parts, bound, element, elements, parts, place, places, stmts, with_key}
+use Rattle.go_rules.specs.GoTypes.Answers.{meets, otherwise}
+use Rattle.go_rules.specs.GoTypes.Types.{GoFields, fields_of, base_of, type_name_of}
+use Rattle.go_rules.specs.GoTypes.Primary.{field_type}
+use Rattle.go_rules.specs.ScopeNames.FreeNames.{names_of, sig_names}
+use Rattle.go_rules.specs.ScopeNames.Means.{Environment}
+use Rattle.go_rules.specs.ScopeNames.Scopes.{sig_declares}
+use Rattle.go_rules.specs.GoTypes.Bodies.{literal_env}
+use Rattle.go_rules.specs.GoTypes.Declarations.{binds_or}
 use Rattle.go_tree.specs.Tree.{Stmts}
 use Rattle.std.specs.Prelude.{true, is_some}
 use Rattle.std.proofs.Common.{sym, arith}

@@ -7,11 +7,11 @@
 use Rattle.std.proofs.Common.{◌≡◌, refl, sym, ap, ◌∙◌, ℕ, Bool, true, false, List, [], ◌∷◌, Some, None, codes, arith, zero, suc, ◌⊎◌, if◌then◌else◌}
 use Rattle.go_tree.specs.declared.exprs.Rest.TheVariants.{Plain}
 use Rattle.go_tree.specs.declared.operators.BinOp.TheVariants.{Add}
-use Rattle.go_tree.specs.declared.const_eval.kinds.Kind.TheVariants as kind
+use Rattle.go_rules.specs.declared.const_eval.kinds.Kind.TheVariants as kind
 use Rattle.go_tree.specs.Tree.{NameAt, named, Param, Expr, ident, int_lit, call, binary, no_exprs, expr_and, Stmt, eval, return_, Stmts, no_stmts, stmt_and}
 use Rattle.go_tree.specs.File.{Func, func}
 use Rattle.pkg_graph.specs.Package.{SourceTree, Package}
-use Rattle.go_tree.specs.GoTypes.Types.{basic}
+use Rattle.go_rules.specs.GoTypes.Types.{basic}
 use Rattle.run_rules.specs.Surroundings.{Place, at_stmt, Use, whole, other, a_slot, in_slot}
 use Rattle.run_rules.specs.Programs.{body_place}
 use Rattle.run_rules.specs.Sites.{MarkRef, Where, Site, an_expr, is_among_marks}
@@ -22,7 +22,7 @@ use Rattle.run_rules.proofs.CaseTools.{mark}
 use Rattle.order_runs.proofs.CycleLaws.ConstantCycles.Examples.{node}
 use Rattle.literal_cycles.specs.BodyForms.Uses.{CalledUse, call_of, chosen_of, Becomes, names_for, plainly, LinkedUse, BodyServed, NamedCall, TypedBlock, ConvertsToType}
 use Rattle.std.specs.Prelude.{is_some}
-use Rattle.go_tree.proofs.GoTypes.Agreeing.{some_same}
+use Rattle.go_rules.proofs.GoTypes.Agreeing.{some_same}
 use Rattle.run_rules.specs.Places.{expr_seen}
 use Rattle.run_rules.specs.Conversions.{converts}
 use Rattle.run_rules.specs.Cycles.{LeadsTo}

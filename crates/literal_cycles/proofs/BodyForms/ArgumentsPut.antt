@@ -4,10 +4,10 @@ use Rattle.std.specs.Prelude.{is_some, slice_get}
 use Rattle.go_tree.specs.Tree.{TypeExpr, Expr, ident, int_lit, rune_lit, str_lit, composite, selector, index, slice, call, func_lit, type_operand, unary, binary, star, Exprs, no_exprs, expr_and, ExprOption, no_expr, some_expr, Stmts, no_stmts, stmt_and, eval, return_}
 use Rattle.go_tree.specs.declared.exprs.Rest.{Rest}
 use Rattle.go_tree.specs.File.{func}
-use Rattle.go_tree.specs.ScopeNames.FreeNames.{names_of}
+use Rattle.go_rules.specs.ScopeNames.FreeNames.{names_of}
 use Rattle.pkg_graph.specs.Package.{Package}
-use Rattle.go_tree.specs.GoTypes.Answers.{given, otherwise}
-use Rattle.go_tree.proofs.GoTypes.Agreeing.{from_given, some_same}
+use Rattle.go_rules.specs.GoTypes.Answers.{given, otherwise}
+use Rattle.go_rules.proofs.GoTypes.Agreeing.{from_given, some_same}
 use Rattle.run_rules.specs.Surroundings.{Use, called, returned, other, Place, in_slot, inner_slot, callee_place, Seen, seen}
 use Rattle.run_rules.specs.Places.{expr_seen, all_seen, option_seen}
 use Rattle.run_rules.specs.Sites.{MarkRef, is_among_marks, Where, Site, a_function, called_mark}

@@ -2,10 +2,10 @@
 use Rattle.std.proofs.Common.{◌≡◌, refl, sym, ap, ◌∙◌, inr, ℕ, Bool, true, List, [], ◌∷◌, ◌++◌, Some, None, if◌then◌else◌}
 use Rattle.go_tree.specs.declared.exprs.Rest.TheVariants.{Plain}
 use Rattle.go_tree.specs.Tree.{TypeExpr, Expr, Stmts, call}
-use Rattle.go_tree.specs.ScopeNames.FreeNames.{names_of}
+use Rattle.go_rules.specs.ScopeNames.FreeNames.{names_of}
 use Rattle.pkg_graph.specs.Package.{Package}
-use Rattle.go_tree.specs.GoTypes.Answers.{meets}
-use Rattle.go_tree.specs.GoTypes.Entities.{in_block}
+use Rattle.go_rules.specs.GoTypes.Answers.{meets}
+use Rattle.go_rules.specs.GoTypes.Entities.{in_block}
 use Rattle.go_translation.specs.Here.{Here}
 use Rattle.run_rules.specs.Surroundings.{other, Place, block}
 use Rattle.run_rules.specs.Places.{expr_seen, stmts_seen}

@@ -6,11 +6,11 @@ use Rattle.std.specs.List.{list_any}
 use Rattle.go_tree.specs.declared.exprs.Rest.TheVariants.{Plain}
 use Rattle.go_tree.specs.Tree.{NameAt, Expr, ident, selector, Stmt, define, assign, inner, Stmts, no_stmts, stmt_and}
 use Rattle.go_tree.specs.Bare.{bare_expr, bare_stmts}
-use Rattle.go_tree.specs.ScopeNames.FreeNames.{names_of}
-use Rattle.go_tree.specs.ScopeNames.Means.{binding, means}
+use Rattle.go_rules.specs.ScopeNames.FreeNames.{names_of}
+use Rattle.go_rules.specs.ScopeNames.Means.{binding, means}
 use Rattle.pkg_graph.specs.Package.{Package}
-use Rattle.go_tree.specs.GoTypes.Answers.{given, meets, is_among}
-use Rattle.go_tree.proofs.GoTypes.Agreeing.{from_given, some_same}
+use Rattle.go_rules.specs.GoTypes.Answers.{given, meets, is_among}
+use Rattle.go_rules.proofs.GoTypes.Agreeing.{from_given, some_same}
 use Rattle.go_translation.specs.Here.{Here}
 use Rattle.run_rules.specs.BodyItems.{number_of}
 use Rattle.run_rules.specs.Surroundings.{Use, whole, other, Place, is_local, local_at, declared_at, Seen, seen, seen_type, seen_stmt, block, after_stmt}

@@ -7,11 +7,11 @@
 use Rattle.std.proofs.Common.{◌≡◌, refl, sym, ap, ◌∙◌, ℕ, Bool, true, false, List, [], ◌∷◌, Some, None, codes, arith}
 use Rattle.go_tree.specs.declared.exprs.Rest.TheVariants.{Plain}
 use Rattle.go_tree.specs.declared.operators.BinOp.TheVariants.{Add}
-use Rattle.go_tree.specs.declared.const_eval.kinds.Kind.TheVariants as kind
+use Rattle.go_rules.specs.declared.const_eval.kinds.Kind.TheVariants as kind
 use Rattle.go_tree.specs.Tree.{NameAt, named, Param, Expr, ident, int_lit, call, binary, Exprs, no_exprs, expr_and, Stmt, assign, define, eval, inner, return_, Stmts, no_stmts, stmt_and}
 use Rattle.go_tree.specs.File.{Func, func}
 use Rattle.pkg_graph.specs.Package.{SourceTree, Package}
-use Rattle.go_tree.specs.GoTypes.Types.{basic}
+use Rattle.go_rules.specs.GoTypes.Types.{basic}
 use Rattle.run_rules.specs.Surroundings.{alone, Place, at_stmt}
 use Rattle.run_rules.specs.Programs.{body_place}
 use Rattle.run_rules.specs.Sites.{MarkRef, Where, Site, an_expr}
@@ -29,9 +29,9 @@ use Rattle.literal_steps.specs.CalledAt.{CalledAt}
 use Rattle.literal_steps.proofs.PartsHere.{all_here}
 use Rattle.literal_cycles.specs.Uses.{place_of_use}
 use Rattle.literal_cycles.specs.BodyForms.Uses.{CalledUse, call_of, chosen_of, Becomes, names_for, plainly, LinkedUse, BodyServed}
-use Rattle.go_tree.specs.ScopeNames.FreeNames.{declared}
-use Rattle.go_tree.specs.GoTypes.Entities.{Binds, variable, extend, in_block}
-use Rattle.go_tree.specs.GoTypes.Typing.{declares, binds_of}
+use Rattle.go_rules.specs.ScopeNames.FreeNames.{declared}
+use Rattle.go_rules.specs.GoTypes.Entities.{Binds, variable, extend, in_block}
+use Rattle.go_rules.specs.GoTypes.Typing.{declares, binds_of}
 use Rattle.form_meaning.specs.FormInPlace.Bound.{literal_binds}
 use Rattle.param_choice.specs.Chosen.{has}
 use Rattle.run_rules.specs.Calls.{Given}

@@ -9,11 +9,11 @@
 use Rattle.std.proofs.Common.{◌≡◌, refl, sym, ap, ◌∙◌, ℕ, Bool, true, false, List, [], ◌∷◌, Some, None, codes, arith}
 use Rattle.go_tree.specs.declared.exprs.Rest.TheVariants.{Plain}
 use Rattle.go_tree.specs.declared.operators.BinOp.TheVariants.{Add}
-use Rattle.go_tree.specs.declared.const_eval.kinds.Kind.TheVariants as kind
+use Rattle.go_rules.specs.declared.const_eval.kinds.Kind.TheVariants as kind
 use Rattle.go_tree.specs.Tree.{NameAt, named, Param, Expr, ident, int_lit, call, binary, no_exprs, expr_and, Stmt, eval, return_, Stmts, no_stmts, stmt_and}
 use Rattle.go_tree.specs.File.{Func, func}
 use Rattle.pkg_graph.specs.Package.{SourceTree, Package}
-use Rattle.go_tree.specs.GoTypes.Types.{basic}
+use Rattle.go_rules.specs.GoTypes.Types.{basic}
 use Rattle.run_rules.specs.Surroundings.{whole, returned, alone, other, Place, a_slot, in_slot, at_stmt, after_stmt, block}
 use Rattle.run_rules.specs.Places.{expr_seen, stmts_seen}
 use Rattle.run_rules.specs.Programs.{body_place}
@@ -22,7 +22,7 @@ use Rattle.run_rules.specs.Calls.{body_seen}
 use Rattle.run_rules.specs.FormTrees.{ExprForm, BlockForm, as_expr, as_dropped, as_block, one_expr}
 use Rattle.run_rules.specs.Forms.{value_converts}
 use Rattle.run_rules.specs.Obstacles.{Shadowed}
-use Rattle.go_tree.proofs.GoTypes.Agreeing.{some_same}
+use Rattle.go_rules.proofs.GoTypes.Agreeing.{some_same}
 use Rattle.run_rules.specs.Reduced.{kept, reduced}
 use Rattle.run_rules.specs.Steps.{At, same_here, changes_for}
 use Rattle.run_rules.proofs.CaseTools.{mark}

@@ -4,10 +4,10 @@ use Rattle.std.specs.Prelude.{slice_get, is_some}
 use Rattle.std.proofs.lemmas.Option.{same_Some}
 use Rattle.go_tree.specs.Tree.{Expr, Stmt, ident, no_exprs, expr_and, eval, assign, inner, return_, Stmts}
 use Rattle.go_tree.specs.File.{Func, func}
-use Rattle.go_tree.specs.ScopeNames.FreeNames.{names_of}
+use Rattle.go_rules.specs.ScopeNames.FreeNames.{names_of}
 use Rattle.pkg_graph.specs.Package.{Package}
-use Rattle.go_tree.specs.GoTypes.Answers.{meets}
-use Rattle.go_tree.specs.GoTypes.Entities.{in_block}
+use Rattle.go_rules.specs.GoTypes.Answers.{meets}
+use Rattle.go_rules.specs.GoTypes.Entities.{in_block}
 use Rattle.run_rules.specs.Surroundings.{Use, other, Place, Seen, seen, seen_type, seen_stmt, block}
 use Rattle.run_rules.specs.Places.{expr_seen, stmt_seen, sig_seen, stmts_seen}
 use Rattle.run_rules.specs.Calls.{blank}
@@ -28,7 +28,7 @@ use Rattle.order_runs.specs.CycleRuns.Linked.{Linked, SettlesFile}
 use Rattle.order_runs.proofs.CycleRuns.FoundUses.NoRecursive.{step-form}
 use Rattle.order_runs.proofs.RunSteps.UsesAlone.{stands-alone}
 use Rattle.constant_steps.specs.PlainUse.{AllTheUse}
-use Rattle.go_tree.proofs.GoTypes.Agreeing.{some_same}
+use Rattle.go_rules.proofs.GoTypes.Agreeing.{some_same}
 use Rattle.literal_cycles.specs.FormCycles.Bodies.{StandsInFunction, changes_of}
 use Rattle.literal_cycles.specs.FormCycles.Puts.{ExprCallsThrough, StatementCallsThrough, AllPutThrough, PutsInBody}
 use Rattle.literal_cycles.proofs.FormCycles.FormSteps.{calls-change, call-step}

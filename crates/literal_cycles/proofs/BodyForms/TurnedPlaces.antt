@@ -2,16 +2,16 @@
 use Rattle.std.proofs.Common.{◌≡◌, refl, ℕ, suc, Bool, true, false, List, [], ◌∷◌, ◌++◌, Option, Some, None, if◌then◌else◌}
 use Rattle.std.specs.Prelude.{◌+◌, ◌||◌}
 use Rattle.go_tree.specs.Tree.{Param, Sig, TypeExpr, Expr, ident, int_lit, rune_lit, str_lit, composite, selector, index, slice, call, func_lit, type_operand, unary, binary, star, Exprs, no_exprs, expr_and, ExprOption, no_expr, some_expr, Elems, no_elems, elem, Value, plain, braced, ValueOption, no_value, some_value, Stmts, no_stmts, stmt_and}
-use Rattle.go_tree.specs.ScopeNames.Scopes.{sig_declares}
+use Rattle.go_rules.specs.ScopeNames.Scopes.{sig_declares}
 use Rattle.go_tree.specs.GoWords.Terminals.{level_of}
-use Rattle.go_tree.specs.GoTypes.Answers.{given, meets, otherwise}
-use Rattle.go_tree.specs.GoTypes.Types.{GoType, FuncType}
-use Rattle.go_tree.specs.GoTypes.Defined.{under}
-use Rattle.go_tree.specs.GoTypes.Entities.{defined_in}
-use Rattle.go_tree.specs.GoTypes.TypeNames.{type_meant, func_type}
-use Rattle.go_tree.specs.GoTypes.Literals.{is_struct, literal_type}
-use Rattle.go_tree.specs.GoTypes.Bodies.{body_ctx, literal_env}
-use Rattle.go_tree.specs.GoTypes.Typing.{parts, all_parts}
+use Rattle.go_rules.specs.GoTypes.Answers.{given, meets, otherwise}
+use Rattle.go_rules.specs.GoTypes.Types.{GoType, FuncType}
+use Rattle.go_rules.specs.GoTypes.Defined.{under}
+use Rattle.go_rules.specs.GoTypes.Entities.{defined_in}
+use Rattle.go_rules.specs.GoTypes.TypeNames.{type_meant, func_type}
+use Rattle.go_rules.specs.GoTypes.Literals.{is_struct, literal_type}
+use Rattle.go_rules.specs.GoTypes.Bodies.{body_ctx, literal_env}
+use Rattle.go_rules.specs.GoTypes.Typing.{parts, all_parts}
 use Rattle.run_rules.specs.Respanned.{value_with}
 use Rattle.run_rules.specs.Surroundings.{Use, called, other, Slot, into_type, head_use, later_uses, arg_uses, unary_use, operand_use, a_slot, Place, Around, elem_use, key_use, elem_closed, inner_slot, last_slot, in_slot, callee_place, comma_slot, at_stmt, after_stmt}
 use Rattle.run_rules.specs.Rewriting.{Changes, new_name, new_label, new_params, new_expr, new_all, new_option, new_elems, new_key, new_value, new_stmt, new_stmts}

@@ -3,9 +3,9 @@ use Rattle.std.proofs.Common.{◌≡◌, refl, sym, ap, ◌∙◌, ◌⊎◌, in
 use Rattle.std.proofs.lemmas.Bool.{or_left, or_right, or_cases}
 use Rattle.std.proofs.lemmas.List.Folds.{list_any-append}
 use Rattle.go_tree.specs.Tree.{Expr, ident, call, func_lit, Exprs, no_exprs, expr_and, Stmt, inner, Stmts}
-use Rattle.go_tree.specs.ScopeNames.FreeNames.{names_of}
+use Rattle.go_rules.specs.ScopeNames.FreeNames.{names_of}
 use Rattle.pkg_graph.specs.Package.{Package}
-use Rattle.go_tree.specs.GoTypes.Entities.{Env}
+use Rattle.go_rules.specs.GoTypes.Entities.{Env}
 use Rattle.run_rules.specs.Surroundings.{other, Place, Seen, seen, seen_type, seen_stmt, block, after_stmt, in_literal}
 use Rattle.run_rules.specs.Places.{expr_seen, stmt_seen}
 use Rattle.run_rules.specs.Programs.{body_place}

@@ -13,7 +13,7 @@ use Rattle.run_rules.specs.Programs.{body_place}
 use Rattle.run_rules.specs.Sites.{MarkRef, Where}
 use Rattle.run_rules.specs.Steps.{At}
 use Rattle.run_rules.proofs.CaseTools.{mark, param, sig}
-use Rattle.go_tree.specs.ScopeNames.Identifiers.{stmts_identifiers}
+use Rattle.go_rules.specs.ScopeNames.Identifiers.{stmts_identifiers}
 use Rattle.order_runs.specs.CycleLaws.PutCalls.{called_among}
 use Rattle.order_runs.specs.CycleRuns.BodiesThere.There.{AllCalledSo, PlaceThere}
 use Rattle.order_runs.proofs.CycleLaws.ConstantCycles.Examples.{node}

@@ -4,12 +4,12 @@ use Rattle.std.specs.Prelude.{slice_get}
 use Rattle.std.proofs.lemmas.Option.{same_Some}
 use Rattle.go_tree.specs.Tree.{TypeExpr, Stmts}
 use Rattle.go_tree.specs.File.{Receiver, Func, Decl, func, File}
-use Rattle.go_tree.specs.ScopeNames.Means.{Environment}
+use Rattle.go_rules.specs.ScopeNames.Means.{Environment}
 use Rattle.pkg_graph.specs.Package.{SourceTree, Package}
-use Rattle.go_tree.specs.GoTypes.Entities.{Entity, World, Env}
-use Rattle.go_tree.specs.GoTypes.TypeNames.{resolved}
-use Rattle.go_tree.specs.GoTypes.Programs.{Header, a_func, Program, headed, headers}
-use Rattle.go_tree.specs.GoTypes.Collect.{file_env, aliased_world, typed_world, valued_world}
+use Rattle.go_rules.specs.GoTypes.Entities.{Entity, World, Env}
+use Rattle.go_rules.specs.GoTypes.TypeNames.{resolved}
+use Rattle.go_rules.specs.GoTypes.Programs.{Header, a_func, Program, headed, headers}
+use Rattle.go_rules.specs.GoTypes.Collect.{file_env, aliased_world, typed_world, valued_world}
 use Rattle.typed_in_place.specs.Replaced.{TypeReplaced}
 use Rattle.typed_in_place.specs.ProgramsAlike.{OneByOne, no_more, and_more, AliasesStand, TypesStand, ValuesStand, DeclareAlike}
 use Rattle.typed_in_place.specs.HeaderReplaced.{SpecsIn, types_of_func, SameReceiver, HeaderIn, in_func}

@@ -15,7 +15,7 @@ use Rattle.go_tree.specs.declared.operators.BinOp.TheVariants.{Add, Gt}
 use Rattle.go_tree.specs.Tree.{NameAt, named, ident, int_lit, str_lit, call, binary, no_exprs, expr_and, eval, define, return_, if_, defer, no_stmts, stmt_and, no_stmt, no_block, no_arms, arm}
 use Rattle.go_tree.specs.File.{File}
 use Rattle.pkg_graph.specs.Package.{Package}
-use Rattle.go_tree.specs.GoTypes.Answers.{given}
+use Rattle.go_rules.specs.GoTypes.Answers.{given}
 use Rattle.run_rules.specs.Programs.{decl_seen}
 use Rattle.run_rules.specs.Sites.{MarkRef, Site, part_span, sites}
 use Rattle.run_rules.specs.Reduced.{Reduced, becomes, kept, reduced}

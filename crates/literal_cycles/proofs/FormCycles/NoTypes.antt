@@ -4,7 +4,7 @@ use Rattle.std.proofs.lemmas.Option.{same_Some}
 use Rattle.go_tree.specs.Tree.{Expr}
 use Rattle.go_tree.specs.File.{Func}
 use Rattle.pkg_graph.specs.Package.{Package}
-use Rattle.go_tree.specs.GoTypes.Answers.{given, meets}
+use Rattle.go_rules.specs.GoTypes.Answers.{given, meets}
 use Rattle.run_rules.specs.Sites.{MarkRef, Where, Inlinable, a_constant, an_alias, a_function, is_function, Part, an_expr, a_type_part, Site, where_is, inlinable}
 use Rattle.run_rules.specs.Naming.{Named, Names, names_by}
 use Rattle.run_rules.specs.Calls.{Call, chosen}

@@ -4,10 +4,10 @@ use Rattle.std.specs.Prelude.{◌≡◌, ℕ, Bool, true, false, List, [], ◌�
 use Rattle.go_tree.specs.declared.exprs.Rest.TheVariants.{Plain}
 use Rattle.go_tree.specs.Tree.{TypeExpr, Expr, ident, selector, call, Exprs, no_exprs, Stmt, no_stmts, stmt_and}
 use Rattle.go_tree.specs.File.{Func}
-use Rattle.go_tree.specs.ScopeNames.FreeNames.{names_of}
-use Rattle.go_tree.specs.ScopeNames.Scopes.{sig_declares}
-use Rattle.go_tree.specs.GoTypes.Entities.{is_exported, extend, in_block}
-use Rattle.go_tree.specs.GoTypes.WellTyped.{well_typed}
+use Rattle.go_rules.specs.ScopeNames.FreeNames.{names_of}
+use Rattle.go_rules.specs.ScopeNames.Scopes.{sig_declares}
+use Rattle.go_rules.specs.GoTypes.Entities.{is_exported, extend, in_block}
+use Rattle.go_rules.specs.GoTypes.WellTyped.{well_typed}
 use Rattle.pkg_graph.specs.Package.{Package}
 use Rattle.go_translation.specs.Here.{Here}
 use Rattle.param_choice.specs.Chosen.{has}

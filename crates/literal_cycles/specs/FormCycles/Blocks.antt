@@ -7,11 +7,11 @@ use Rattle.go_tree.specs.Tree.{NameAt, Sig, Expr, ident, call, func_lit, Exprs, 
 use Rattle.go_tree.specs.Tree.{assign, inner, return_, Stmts, stmt_and}
 use Rattle.go_tree.specs.File.{Func, func}
 use Rattle.go_tree.specs.Bare.{bare_stmts}
-use Rattle.go_tree.specs.ScopeNames.Means.{Environment}
-use Rattle.go_tree.specs.ScopeNames.Identifiers.{stmts_identifiers}
+use Rattle.go_rules.specs.ScopeNames.Means.{Environment}
+use Rattle.go_rules.specs.ScopeNames.Identifiers.{stmts_identifiers}
 use Rattle.pkg_graph.specs.Package.{Package}
-use Rattle.go_tree.specs.GoTypes.Answers.{meets}
-use Rattle.go_tree.specs.GoTypes.Entities.{Entity}
+use Rattle.go_rules.specs.GoTypes.Answers.{meets}
+use Rattle.go_rules.specs.GoTypes.Entities.{Entity}
 use Rattle.run_rules.specs.Surroundings.{other, Place, Seen, seen, seen_type, seen_stmt, block, after_stmt, in_literal}
 use Rattle.run_rules.specs.Places.{expr_seen, all_seen, stmts_seen}
 use Rattle.run_rules.specs.Rewriting.{Changes}

@@ -5,11 +5,11 @@ use Rattle.go_tree.specs.declared.spans.Span.{Span}
 use Rattle.go_tree.specs.Tree.{Expr, Stmt, Stmts}
 use Rattle.pkg_graph.specs.Package.{Package}
 use Rattle.pkg_graph.specs.Reads.{Source}
-use Rattle.go_tree.specs.GoTypes.Answers.{meets}
+use Rattle.go_rules.specs.GoTypes.Answers.{meets}
 use Rattle.typed_in_place.specs.SameWorlds.SameWorlds.{SameWorld}
 use Rattle.run_rules.specs.Surroundings.{Place}
 use Rattle.run_rules.specs.Places.{stmts_seen}
-use Rattle.go_tree.specs.GoTypes.Programs.{block_names}
+use Rattle.go_rules.specs.GoTypes.Programs.{block_names}
 use Rattle.typed_in_place.specs.ImportRule.{imports_sound}
 use Rattle.run_rules.specs.Programs.{world, linked_file, linked_imports}
 use Rattle.run_rules.specs.Rewriting.{new_stmts}

@@ -5,7 +5,7 @@ use Rattle.std.specs.Prelude.{◌≡◌, ℕ, ◌⊎◌, true, false, List, [], 
 use Rattle.go_tree.specs.Tree.{Expr, call, Stmt, const_decl, var_decl, define, range_, ValueSpecs, no_specs, spec}
 use Rattle.go_tree.specs.File.{Func, func}
 use Rattle.pkg_graph.specs.Package.{Package}
-use Rattle.go_tree.specs.GoTypes.Declarations.{nothing_to_repeat}
+use Rattle.go_rules.specs.GoTypes.Declarations.{nothing_to_repeat}
 use Rattle.run_rules.specs.Surroundings.{whole, called, other, Place, Seen, seen, seen_type, seen_stmt, alike}
 use Rattle.run_rules.specs.Surroundings.{value_use, inner_slot, callee_place, after_stmt, in_heading, plain_slot}
 use Rattle.run_rules.specs.Surroundings.{ranged, after_variables}

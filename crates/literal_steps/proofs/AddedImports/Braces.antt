@@ -4,15 +4,15 @@ use mathlib.Core.Path.{ap, sym, ◌∙◌, subst}
 use Rattle.std.proofs.Common.{arith}
 use Rattle.go_tree.specs.declared.spans.Span.{Span}
 use Rattle.go_tree.specs.Tree.{Stmts, stmt_and, inner}
-use Rattle.go_tree.specs.ScopeNames.FreeNames.{free_stmts}
-use Rattle.go_tree.specs.ScopeNames.Identifiers.{identifiers}
-use Rattle.go_tree.specs.GoTypes.Agreement.{In, On}
-use Rattle.go_tree.specs.GoTypes.Answers.{both, only_if, is_among}
-use Rattle.go_tree.specs.GoTypes.Bodies.{Ctx}
-use Rattle.go_tree.specs.GoTypes.Declarations.{Declared, all_used, no_names}
-use Rattle.go_tree.specs.GoTypes.Entities.{Env, extend}
-use Rattle.go_tree.specs.GoTypes.Typing.{used_stmts, stmts}
-use Rattle.go_tree.proofs.GoTypes.TypingAlike.{stmts-alike}
+use Rattle.go_rules.specs.ScopeNames.FreeNames.{free_stmts}
+use Rattle.go_rules.specs.ScopeNames.Identifiers.{identifiers}
+use Rattle.go_rules.specs.GoTypes.Agreement.{In, On}
+use Rattle.go_rules.specs.GoTypes.Answers.{both, only_if, is_among}
+use Rattle.go_rules.specs.GoTypes.Bodies.{Ctx}
+use Rattle.go_rules.specs.GoTypes.Declarations.{Declared, all_used, no_names}
+use Rattle.go_rules.specs.GoTypes.Entities.{Env, extend}
+use Rattle.go_rules.specs.GoTypes.Typing.{used_stmts, stmts}
+use Rattle.go_rules.proofs.GoTypes.TypingAlike.{stmts-alike}
 use Rattle.pkg_graph.specs.Package.{Package}
 use Rattle.go_kernel.specs.Alike.{MeanSame, Same, Calls, Below, let'}
 use Rattle.go_kernel.specs.Kernel.{FuncName}

@@ -7,15 +7,15 @@ use Rattle.std.proofs.Common.{arith}
 use Rattle.go_tree.specs.declared.spans.Span.{Span}
 use Rattle.go_tree.specs.Tree.{Expr, ident, int_lit, selector, no_exprs, expr_and}
 use Rattle.go_tree.specs.File.{ImportSpec}
-use Rattle.go_tree.specs.declared.const_eval.kinds.Kind.TheVariants as kind
+use Rattle.go_rules.specs.declared.const_eval.kinds.Kind.TheVariants as kind
 use Rattle.go_tree.specs.GoWords.Tokens.Pieces.{keyword_spellings}
-use Rattle.go_tree.specs.GoTypes.Agreement.{In, head, tail}
-use Rattle.go_tree.specs.GoTypes.Answers.{is_among}
-use Rattle.go_tree.specs.GoTypes.Types.{basic}
-use Rattle.go_tree.specs.GoTypes.Typing.{parts}
-use Rattle.go_tree.specs.ScopeNames.FreeNames.{free_expr}
-use Rattle.go_tree.specs.ScopeNames.Identifiers.{identifiers}
-use Rattle.go_tree.specs.ScopeNames.Means.{means}
+use Rattle.go_rules.specs.GoTypes.Agreement.{In, head, tail}
+use Rattle.go_rules.specs.GoTypes.Answers.{is_among}
+use Rattle.go_rules.specs.GoTypes.Types.{basic}
+use Rattle.go_rules.specs.GoTypes.Typing.{parts}
+use Rattle.go_rules.specs.ScopeNames.FreeNames.{free_expr}
+use Rattle.go_rules.specs.ScopeNames.Identifiers.{identifiers}
+use Rattle.go_rules.specs.ScopeNames.Means.{means}
 use Rattle.pkg_graph.specs.Package.{Package}
 use Rattle.pkg_graph.specs.ModuleFiles.Internal.{passes}
 use Rattle.param_choice.specs.Chosen.{has}
@@ -27,7 +27,7 @@ use Rattle.go_translation.specs.Packages.{paths_in, codes_of, program_of}
 use Rattle.go_translation.specs.Translation.{expr_term}
 use Rattle.go_translation.proofs.Ranks.{program_ranked}
 use Rattle.run_rules.specs.FormTrees.{LiteralForm, as_expr}
-use Rattle.go_tree.specs.GoTypes.WellTyped.{well_typed}
+use Rattle.go_rules.specs.GoTypes.WellTyped.{well_typed}
 use Rattle.run_rules.specs.Programs.{linked, top_env}
 use Rattle.run_rules.specs.Steps.{Found, packages_between, where_between}
 use Rattle.literal_steps.specs.AddedImports.Files.{WithImports}

@@ -2,10 +2,10 @@
 use Rattle.std.specs.Prelude.{◌≡◌, refl, ℕ, true, false, List, [], ◌++◌, Option, Some, None, is_some}
 use mathlib.Core.Path.{ap, sym, ◌∙◌}
 use Rattle.std.proofs.Common.{arith}
-use Rattle.go_tree.specs.ScopeNames.Means.{Environment, means, or_else}
+use Rattle.go_rules.specs.ScopeNames.Means.{Environment, means, or_else}
 use Rattle.pkg_graph.specs.Package.{Package}
 use Rattle.pkg_graph.specs.Members.{Target}
-use Rattle.go_tree.specs.GoTypes.Entities.{Entity, World, package_of}
+use Rattle.go_rules.specs.GoTypes.Entities.{Entity, World, package_of}
 use Rattle.go_translation.specs.Here.{Here}
 use Rattle.go_translation.specs.Packages as translated
 use Rattle.run_rules.specs.Sites.{Where, Site, outer}

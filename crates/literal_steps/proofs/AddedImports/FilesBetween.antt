@@ -2,7 +2,7 @@
 use Rattle.std.specs.Prelude.{◌≡◌, refl, ℕ, zero, suc, Bool, true, List, [], ◌∷◌, ◌++◌, map, if◌then◌else◌, bytes_eq}
 use mathlib.Core.Path.{ap, sym, ◌∙◌}
 use Rattle.go_tree.specs.File.{ImportSpec, ImportDecl}
-use Rattle.go_tree.specs.GoTypes.Programs.{block_names}
+use Rattle.go_rules.specs.GoTypes.Programs.{block_names}
 use Rattle.pkg_graph.specs.Members.{package_name}
 use Rattle.pkg_graph.specs.Package.{Package, specs_in, import_specs}
 use Rattle.run_rules.specs.declared.import_rules.new_import.NewImport.{NewImport}

@@ -4,14 +4,14 @@ use mathlib.Core.Path.{ap, sym, ◌∙◌, subst}
 use Rattle.std.proofs.Common.{arith}
 use Rattle.go_tree.specs.declared.spans.Span.{Span}
 use Rattle.go_tree.specs.Tree.{Expr}
-use Rattle.go_tree.specs.ScopeNames.FreeNames.{free_expr}
-use Rattle.go_tree.specs.ScopeNames.Means.{Environment, means, or_else}
-use Rattle.go_tree.specs.GoTypes.Agreement.{On, Agrees, Same}
-use Rattle.go_tree.specs.GoTypes.Answers.{is_among}
-use Rattle.go_tree.specs.GoTypes.Entities.{Entity}
-use Rattle.go_tree.specs.GoTypes.Types.{GoType}
-use Rattle.go_tree.specs.GoTypes.Typing.{parts}
-use Rattle.go_tree.proofs.GoTypes.TypingAlike.{parts-alike}
+use Rattle.go_rules.specs.ScopeNames.FreeNames.{free_expr}
+use Rattle.go_rules.specs.ScopeNames.Means.{Environment, means, or_else}
+use Rattle.go_rules.specs.GoTypes.Agreement.{On, Agrees, Same}
+use Rattle.go_rules.specs.GoTypes.Answers.{is_among}
+use Rattle.go_rules.specs.GoTypes.Entities.{Entity}
+use Rattle.go_rules.specs.GoTypes.Types.{GoType}
+use Rattle.go_rules.specs.GoTypes.Typing.{parts}
+use Rattle.go_rules.proofs.GoTypes.TypingAlike.{parts-alike}
 use Rattle.pkg_graph.specs.Package.{Package}
 use Rattle.go_kernel.specs.Alike.{MeanSame}
 use Rattle.go_kernel.specs.Kernel.{FuncName}
@@ -65,7 +65,7 @@ module _ {S : Type 0} (same : S → S → Bool) (commented : ℕ → ℕ → S �
   names_new = subst (NewThere rs x.at) (sym more_is) (new_beside rs x.at l.there_stands x.place f.around bs asked f.new_left)
 
   -- what stands in the file isn't among the names that are added
-  pub not_added : (n : List ℕ) → is_among n (Rattle.go_tree.specs.ScopeNames.Identifiers.identifiers x.at.source.tree) ≡ true → means more n ≡ None
+  pub not_added : (n : List ℕ) → is_among n (Rattle.go_rules.specs.ScopeNames.Identifiers.identifiers x.at.source.tree) ≡ true → means more n ≡ None
   not_added n e = ap (λ (m : Environment Entity). means m n) more_is ∙ file_name rs x.at l.there_stands x.place f.around bs asked f.new_left n e
 
   module _ (c d : Here) (h : CalledAt rs ms x c) (a : PlaceAfter same commented rs marks x u c d) where

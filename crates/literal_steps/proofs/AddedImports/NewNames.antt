@@ -4,14 +4,14 @@ use mathlib.Core.Path.{ap, sym, ◌∙◌}
 use Rattle.std.proofs.Common.{arith}
 use Rattle.std.proofs.lemmas.Slice.Eq.{bytes_eq-Decides}
 use Rattle.go_tree.specs.Tree.{NameAt}
-use Rattle.go_tree.specs.declared.scope_names.names.ImportName.{ImportName}
+use Rattle.go_rules.specs.declared.scope_names.names.ImportName.{ImportName}
 use Rattle.go_tree.specs.File.{Decl, ImportSpec}
-use Rattle.go_tree.specs.GoTypes.Answers.{is_among}
+use Rattle.go_rules.specs.GoTypes.Answers.{is_among}
 use Rattle.go_tree.specs.GoWords.Tokens.Pieces.{keyword_spellings}
-use Rattle.go_tree.specs.ScopeNames.Fresh.{is_new}
-use Rattle.go_tree.specs.ScopeNames.Identifiers.{identifiers}
-use Rattle.go_tree.specs.ScopeNames.Means as names
-use Rattle.go_tree.specs.ScopeNames.Means.{Environment, means, is_blank, binding, numbered, or_else}
+use Rattle.go_rules.specs.ScopeNames.Fresh.{is_new}
+use Rattle.go_rules.specs.ScopeNames.Identifiers.{identifiers}
+use Rattle.go_rules.specs.ScopeNames.Means as names
+use Rattle.go_rules.specs.ScopeNames.Means.{Environment, means, is_blank, binding, numbered, or_else}
 use Rattle.pkg_graph.specs.Members.{Target, imported, member, predeclared, block_names, items_from, decls_from, files_from, package_block, import_name}
 use Rattle.pkg_graph.specs.Package.{SourceTree, Package, import_specs}
 use Rattle.run_rules.specs.ImportRules.Needs.{avoided}

@@ -1,9 +1,9 @@
 -- In the file with the imports of a form the place of the call is the place of the literal.
 use Rattle.std.specs.Prelude.{◌≡◌, refl, ℕ, Bool, true, List, ◌++◌}
 use mathlib.Core.Path.{ap, sym, ◌∙◌, subst}
-use Rattle.go_tree.specs.GoTypes.Answers.{is_among}
-use Rattle.go_tree.specs.GoTypes.Entities.{Entity}
-use Rattle.go_tree.specs.ScopeNames.Means.{Environment, means, or_else}
+use Rattle.go_rules.specs.GoTypes.Answers.{is_among}
+use Rattle.go_rules.specs.GoTypes.Entities.{Entity}
+use Rattle.go_rules.specs.ScopeNames.Means.{Environment, means, or_else}
 use Rattle.pkg_graph.specs.Package.{Package}
 use Rattle.go_translation.specs.Agreement.{at_names}
 use Rattle.go_translation.specs.Here.{Here}

@@ -3,7 +3,7 @@ use Rattle.std.specs.Prelude.{◌≡◌, ℕ, suc, Bool, List}
 use mathlib.Core.Path.{subst}
 use Rattle.go_tree.specs.declared.spans.Span.{Span}
 use Rattle.go_tree.specs.Tree.{Expr}
-use Rattle.go_tree.specs.GoTypes.Types.{GoType}
+use Rattle.go_rules.specs.GoTypes.Types.{GoType}
 use Rattle.pkg_graph.specs.Package.{Package}
 use Rattle.go_kernel.specs.Alike.{MeanSame}
 use Rattle.go_translation.specs.Here.{Here}

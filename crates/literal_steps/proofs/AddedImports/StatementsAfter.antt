@@ -4,15 +4,15 @@ use Rattle.std.specs.Prelude.{◌≡◌, ◌≤◌, refl, ℕ, suc, Bool, true, 
 use mathlib.Core.Path.{ap, sym, ◌∙◌, subst}
 use Rattle.go_tree.specs.declared.spans.Span.{Span}
 use Rattle.go_tree.specs.Tree.{Expr, eval, defer, Stmts, stmt_and}
-use Rattle.go_tree.specs.ScopeNames.FreeNames.{free_expr, free_stmts}
-use Rattle.go_tree.specs.ScopeNames.Identifiers.{identifiers}
-use Rattle.go_tree.specs.GoTypes.Agreement.{In, head, tail, On, Same as SameName}
-use Rattle.go_tree.specs.GoTypes.Answers.{both, only_if, is_among}
-use Rattle.go_tree.specs.GoTypes.Bodies.{Ctx}
-use Rattle.go_tree.specs.GoTypes.Declarations.{all_used, no_names}
-use Rattle.go_tree.specs.GoTypes.Entities.{extend}
-use Rattle.go_tree.specs.GoTypes.Typing.{used_stmts, stmts}
-use Rattle.go_tree.proofs.GoTypes.TypingAlike.{stmts-alike}
+use Rattle.go_rules.specs.ScopeNames.FreeNames.{free_expr, free_stmts}
+use Rattle.go_rules.specs.ScopeNames.Identifiers.{identifiers}
+use Rattle.go_rules.specs.GoTypes.Agreement.{In, head, tail, On, Same as SameName}
+use Rattle.go_rules.specs.GoTypes.Answers.{both, only_if, is_among}
+use Rattle.go_rules.specs.GoTypes.Bodies.{Ctx}
+use Rattle.go_rules.specs.GoTypes.Declarations.{all_used, no_names}
+use Rattle.go_rules.specs.GoTypes.Entities.{extend}
+use Rattle.go_rules.specs.GoTypes.Typing.{used_stmts, stmts}
+use Rattle.go_rules.proofs.GoTypes.TypingAlike.{stmts-alike}
 use Rattle.pkg_graph.specs.Package.{Package}
 use Rattle.go_kernel.specs.Alike.{MeanSame, Same, Calls, Below, let', swap}
 use Rattle.go_kernel.specs.Kernel.{FuncName, Program, Term}

@@ -3,16 +3,16 @@ use Rattle.std.specs.Prelude.{◌≡◌, refl, ℕ, Bool, true, List, [], Option
 use mathlib.Core.Path.{ap, sym, ◌∙◌, subst}
 use Rattle.go_tree.specs.declared.spans.Span.{Span}
 use Rattle.go_tree.specs.Tree.{Stmt, Stmts, stmt_and, const_decl, var_decl, empty, eval, step, assign, define, return_, break_, continue_, inner, if_, for_, range_, switch, defer, label}
-use Rattle.go_tree.specs.ScopeNames.FreeNames.{free_stmt}
-use Rattle.go_tree.specs.ScopeNames.Identifiers.{identifiers}
-use Rattle.go_tree.specs.GoTypes.Agreement.{In, On}
-use Rattle.go_tree.specs.GoTypes.Answers.{both, only_if, is_among}
-use Rattle.go_tree.specs.GoTypes.Bodies.{Ctx}
-use Rattle.go_tree.specs.GoTypes.Declarations.{Declared, all_used, no_names}
-use Rattle.go_tree.specs.GoTypes.Entities.{Env, extend}
-use Rattle.go_tree.specs.GoTypes.Statements.{is_empty_stmt}
-use Rattle.go_tree.specs.GoTypes.Typing.{used_stmts, declares, stmt, stmts}
-use Rattle.go_tree.proofs.GoTypes.TypingAlike.{stmt-alike}
+use Rattle.go_rules.specs.ScopeNames.FreeNames.{free_stmt}
+use Rattle.go_rules.specs.ScopeNames.Identifiers.{identifiers}
+use Rattle.go_rules.specs.GoTypes.Agreement.{In, On}
+use Rattle.go_rules.specs.GoTypes.Answers.{both, only_if, is_among}
+use Rattle.go_rules.specs.GoTypes.Bodies.{Ctx}
+use Rattle.go_rules.specs.GoTypes.Declarations.{Declared, all_used, no_names}
+use Rattle.go_rules.specs.GoTypes.Entities.{Env, extend}
+use Rattle.go_rules.specs.GoTypes.Statements.{is_empty_stmt}
+use Rattle.go_rules.specs.GoTypes.Typing.{used_stmts, declares, stmt, stmts}
+use Rattle.go_rules.proofs.GoTypes.TypingAlike.{stmt-alike}
 use Rattle.pkg_graph.specs.Package.{Package}
 use Rattle.go_kernel.specs.Alike.{MeanSame, Same, Calls, Below, let'}
 use Rattle.go_kernel.specs.Kernel.{FuncName, Term}

@@ -4,11 +4,11 @@ use mathlib.Core.Path.{ap, sym, ◌∙◌}
 use Rattle.std.proofs.Common.{arith}
 use Rattle.std.proofs.lemmas.Slice.Eq.{bytes_eq-Decides}
 use Rattle.go_tree.specs.File.{ImportSpec}
-use Rattle.go_tree.specs.GoTypes.Answers.{is_among}
-use Rattle.go_tree.specs.GoTypes.Entities as typing
-use Rattle.go_tree.specs.GoTypes.Entities.{Entity, block_of, universe}
-use Rattle.go_tree.specs.GoTypes.Programs.{Import, import_sound, import_entity, file_block, block_names}
-use Rattle.go_tree.specs.ScopeNames.Means.{Environment, means, is_blank, binding, or_else}
+use Rattle.go_rules.specs.GoTypes.Answers.{is_among}
+use Rattle.go_rules.specs.GoTypes.Entities as typing
+use Rattle.go_rules.specs.GoTypes.Entities.{Entity, block_of, universe}
+use Rattle.go_rules.specs.GoTypes.Programs.{Import, import_sound, import_entity, file_block, block_names}
+use Rattle.go_rules.specs.ScopeNames.Means.{Environment, means, is_blank, binding, or_else}
 use Rattle.pkg_graph.specs.Members.{package_name, import_name, name_or}
 use Rattle.pkg_graph.specs.Package.{Package, import_specs}
 use Rattle.typed_in_place.specs.ImportRule.{imports_sound}
@@ -111,7 +111,7 @@ module _ {S : Type 0} where
         go None k h = h
         go (Some i) k h = ap (λ (b : Environment Entity). means (b ++ rest) n) (one_is i k.0) ∙ put (is_blank m.name) refl k.1 h
 
-  module _ (rs : List (Package S)) (w : Where S) (s : Standing rs w) (at : Place S) (around : (n : List ℕ) → is_local at n ≡ true → is_among n (Rattle.go_tree.specs.ScopeNames.Identifiers.identifiers w.source.tree) ≡ true) (z : S) where
+  module _ (rs : List (Package S)) (w : Where S) (s : Standing rs w) (at : Place S) (around : (n : List ℕ) → is_local at n ≡ true → is_among n (Rattle.go_rules.specs.ScopeNames.Identifiers.identifiers w.source.tree) ≡ true) (z : S) where
     pub as_added : (bound : List (List ℕ)) (qs : List ℕ) → NewOnesLeft rs w at bound qs → AllAsAdded rs z (named_packages rs w at bound qs)
     as_added bound [] h = tt
     as_added bound (r ∷ ks) h = go (serving (environment_here rs w at) bound (package_path rs r) (names_here rs w).imports) refl h.1 (λ b k. as_added b ks k)

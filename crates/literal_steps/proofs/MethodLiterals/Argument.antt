@@ -4,16 +4,16 @@ use mathlib.Core.Path.{ap, sym, ◌∙◌}
 use Rattle.std.proofs.Common.{arith}
 use Rattle.go_tree.specs.declared.operators.UnOp.TheVariants.{Address}
 use Rattle.go_tree.specs.Tree.{Expr, unary, star}
-use Rattle.go_tree.specs.GoTypes.Answers.{given, both, meets, only_if}
-use Rattle.go_tree.specs.GoTypes.Types.{GoType, named_type, pointer_to, base_of, is_untyped, FuncType}
-use Rattle.go_tree.specs.GoTypes.Defined.{Defined, under}
-use Rattle.go_tree.specs.GoTypes.Relations.{assignable, same_underlying}
-use Rattle.go_tree.specs.GoTypes.Entities.{Content, run, exact, shift, Place, addressable, map_element, literal, elsewhere, Env, defined_in}
-use Rattle.go_tree.specs.GoTypes.Operands.{Operand, value, several, a_type, a_function, a_builtin, recovered, typed, is_shift, fits, takes_all, spread, results_operand, represented}
-use Rattle.go_tree.specs.GoTypes.Operators.{has_address, unary_of, star_of}
-use Rattle.go_tree.specs.GoTypes.Primary.{call_of, is_addressable}
-use Rattle.go_tree.specs.GoTypes.Typing.{parts, place}
-use Rattle.go_tree.proofs.GoTypes.IdenticalLaws.{identical_self}
+use Rattle.go_rules.specs.GoTypes.Answers.{given, both, meets, only_if}
+use Rattle.go_rules.specs.GoTypes.Types.{GoType, named_type, pointer_to, base_of, is_untyped, FuncType}
+use Rattle.go_rules.specs.GoTypes.Defined.{Defined, under}
+use Rattle.go_rules.specs.GoTypes.Relations.{assignable, same_underlying}
+use Rattle.go_rules.specs.GoTypes.Entities.{Content, run, exact, shift, Place, addressable, map_element, literal, elsewhere, Env, defined_in}
+use Rattle.go_rules.specs.GoTypes.Operands.{Operand, value, several, a_type, a_function, a_builtin, recovered, typed, is_shift, fits, takes_all, spread, results_operand, represented}
+use Rattle.go_rules.specs.GoTypes.Operators.{has_address, unary_of, star_of}
+use Rattle.go_rules.specs.GoTypes.Primary.{call_of, is_addressable}
+use Rattle.go_rules.specs.GoTypes.Typing.{parts, place}
+use Rattle.go_rules.proofs.GoTypes.IdenticalLaws.{identical_self}
 use Rattle.go_kernel.specs.Kernel.{Prim}
 use Rattle.go_translation.specs.Here.{Here, defined_here}
 use Rattle.go_translation.specs.Operators.{no_type, folded}

@@ -8,26 +8,26 @@ use Rattle.go_tree.specs.declared.spans.Span.{Span}
 use Rattle.go_tree.specs.Tree.{named, pointer, Sig, Expr, ident, selector, call, func_lit, expr_and, Stmts}
 use Rattle.go_tree.specs.File.{Receiver, func}
 use Rattle.go_tree.specs.Bare.{bare_expr}
-use Rattle.go_tree.specs.ScopeNames.Means.{Environment}
-use Rattle.go_tree.specs.ScopeNames.FreeNames.{names_of, sig_names}
-use Rattle.go_tree.specs.ScopeNames.Scopes.{not_blank, param_names, sig_declares}
+use Rattle.go_rules.specs.ScopeNames.Means.{Environment}
+use Rattle.go_rules.specs.ScopeNames.FreeNames.{names_of, sig_names}
+use Rattle.go_rules.specs.ScopeNames.Scopes.{not_blank, param_names, sig_declares}
 use Rattle.pkg_graph.specs.Package.{Package}
-use Rattle.go_tree.specs.GoTypes.Answers.{given, both, meets, only_if, otherwise, is_among}
-use Rattle.go_tree.specs.GoTypes.Types.{GoType, FuncType, named_type, pointer_to, base_of, type_name_of}
-use Rattle.go_tree.specs.GoTypes.Defined.{under, methods}
-use Rattle.go_tree.specs.GoTypes.Entities.{Content, Entity, Env, World, Binds, meaning, type_of_name, exported, defined_in, extend, in_block, run}
-use Rattle.go_tree.specs.GoTypes.TypeNames.{type_meant, func_type, params_meant}
-use Rattle.go_tree.specs.GoTypes.Operands.{Operand, value, a_function, named_operand, is_shift}
-use Rattle.go_tree.specs.GoTypes.Primary.{call_of, find_method}
-use Rattle.go_tree.specs.GoTypes.Declarations.{bound_names, binds_or}
-use Rattle.go_tree.specs.GoTypes.Bodies.{Ctx, body_binds, body_ctx, is_body}
-use Rattle.go_tree.specs.GoTypes.Typing.{parts, all_parts, place, stmts}
-use Rattle.go_tree.specs.GoTypes.Programs.{SourcePackage, Headed, headed, file_env}
-use Rattle.go_tree.specs.GoTypes.Collect.{env_of, collected}
-use Rattle.go_tree.specs.GoTypes.MethodDeclarations.{receiver_type, receiver_binds}
-use Rattle.go_tree.specs.GoTypes.WellTyped.{body_env, receiver_of}
-use Rattle.go_tree.proofs.GoTypes.Agreeing.{from_given, from_both, some_same}
-use Rattle.go_tree.proofs.GoTypes.TypingBare.{parts-bare}
+use Rattle.go_rules.specs.GoTypes.Answers.{given, both, meets, only_if, otherwise, is_among}
+use Rattle.go_rules.specs.GoTypes.Types.{GoType, FuncType, named_type, pointer_to, base_of, type_name_of}
+use Rattle.go_rules.specs.GoTypes.Defined.{under, methods}
+use Rattle.go_rules.specs.GoTypes.Entities.{Content, Entity, Env, World, Binds, meaning, type_of_name, exported, defined_in, extend, in_block, run}
+use Rattle.go_rules.specs.GoTypes.TypeNames.{type_meant, func_type, params_meant}
+use Rattle.go_rules.specs.GoTypes.Operands.{Operand, value, a_function, named_operand, is_shift}
+use Rattle.go_rules.specs.GoTypes.Primary.{call_of, find_method}
+use Rattle.go_rules.specs.GoTypes.Declarations.{bound_names, binds_or}
+use Rattle.go_rules.specs.GoTypes.Bodies.{Ctx, body_binds, body_ctx, is_body}
+use Rattle.go_rules.specs.GoTypes.Typing.{parts, all_parts, place, stmts}
+use Rattle.go_rules.specs.GoTypes.Programs.{SourcePackage, Headed, headed, file_env}
+use Rattle.go_rules.specs.GoTypes.Collect.{env_of, collected}
+use Rattle.go_rules.specs.GoTypes.MethodDeclarations.{receiver_type, receiver_binds}
+use Rattle.go_rules.specs.GoTypes.WellTyped.{body_env, receiver_of}
+use Rattle.go_rules.proofs.GoTypes.Agreeing.{from_given, from_both, some_same}
+use Rattle.go_rules.proofs.GoTypes.TypingBare.{parts-bare}
 use Rattle.form_meaning.specs.FormInPlace.CalledLiteral.{declared_at}
 use Rattle.form_meaning.specs.FormInPlace.Bound.{literal_binds}
 use Rattle.form_meaning.specs.FormInPlace.Places.{Landing, results_in}

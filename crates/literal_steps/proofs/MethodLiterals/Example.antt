@@ -10,7 +10,7 @@
 use Rattle.std.specs.Prelude.{◌≡◌, refl, ℕ, zero, suc, Bool, false, true, ◌||◌, if◌then◌else◌, List, [], ◌∷◌, Some, None, codes, bytes_eq}
 use mathlib.Core.Path.{ap, sym, ◌∙◌, subst}
 use Rattle.std.proofs.lemmas.Slice.Eq.{bytes_eq-Decides}
-use Rattle.go_tree.specs.ScopeNames.Means.{Environment, means}
+use Rattle.go_rules.specs.ScopeNames.Means.{Environment, means}
 use Rattle.std.proofs.Common.{arith}
 use Rattle.go_tree.specs.declared.spans.Span.{Span}
 use Rattle.go_tree.specs.declared.exprs.Rest.TheVariants.{Plain}
@@ -21,9 +21,9 @@ use Rattle.go_tree.specs.File.{Receiver, Func, values, types, func, File}
 use Rattle.pkg_graph.specs.Package.{SourceTree, Package}
 use Rattle.param_choice.specs.Chosen.{has}
 use Rattle.run_rules.specs.ImportRules.Removed.{same_span}
-use Rattle.go_tree.specs.GoTypes.Types.{named_type, pointer_to}
-use Rattle.go_tree.specs.GoTypes.Entities.{run, variable, extend}
-use Rattle.go_tree.specs.GoTypes.Typing.{parts}
+use Rattle.go_rules.specs.GoTypes.Types.{named_type, pointer_to}
+use Rattle.go_rules.specs.GoTypes.Entities.{run, variable, extend}
+use Rattle.go_rules.specs.GoTypes.Typing.{parts}
 use Rattle.go_kernel.specs.Kernel.{FuncName}
 use Rattle.go_kernel.specs.Alike.{MeanSame}
 use Rattle.go_translation.specs.Here.{Here, in_frame}
@@ -33,7 +33,7 @@ use Rattle.go_translation.specs.Translation.{expr_term, deferred_term}
 use Rattle.go_translation.proofs.Ranks.{program_ranked}
 use Rattle.run_rules.specs.Surroundings.{whole, Place, is_local, a_slot, in_slot, at_stmt}
 use Rattle.run_rules.specs.Programs.{linked, linked_file, world, headed_func, body_place}
-use Rattle.go_tree.specs.GoTypes.MethodDeclarations.{receiver_type}
+use Rattle.go_rules.specs.GoTypes.MethodDeclarations.{receiver_type}
 use Rattle.run_rules.specs.Sites.{MarkRef, Where, Site, an_expr}
 use Rattle.run_rules.specs.Calls.{body_seen}
 use Rattle.run_rules.specs.FormTrees.{as_expr, top}

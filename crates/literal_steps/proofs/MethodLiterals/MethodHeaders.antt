@@ -5,18 +5,18 @@ use Rattle.std.proofs.lemmas.List.{append_assoc}
 use mathlib.Core.Path.{ap, sym, ◌∙◌, subst}
 use Rattle.std.proofs.Common.{arith}
 use Rattle.go_tree.specs.File.{Receiver, Func, Decl, func}
-use Rattle.go_tree.specs.ScopeNames.Means.{Environment}
-use Rattle.go_tree.specs.GoTypes.Answers.{given, meets, unless_missing, and_also, one_of}
-use Rattle.go_tree.specs.GoTypes.Types.{FuncType, named_type}
-use Rattle.go_tree.specs.GoTypes.Entities.{Entity, World, Binds}
-use Rattle.go_tree.specs.GoTypes.TypeNames.{func_type}
-use Rattle.go_tree.specs.GoTypes.Bodies.{body_binds}
-use Rattle.go_tree.specs.GoTypes.Programs.{Header, a_func, func_of, Headed, SourceFile, SourcePackage, Program, headed, headed_file, headed_files, headed_package, headers, all_headers, header_names, header_sound, names_in, block_names, file_block, is_main, env_of}
-use Rattle.go_tree.specs.GoTypes.Collect.{DeclaredTypes, types_declared, collected, declared_by}
-use Rattle.go_tree.specs.GoTypes.MethodDeclarations.{MethodName, is_new_method, receiver_type, receiver_binds, method_header, method_declared, declared_on}
-use Rattle.go_tree.specs.GoTypes.Defined.{Method}
-use Rattle.go_tree.specs.GoTypes.WellTyped.{is_method, refused_unless, header_ok, method_ok, body_ok, function_ok, first_header, first_body, lacks_main, well_typed}
-use Rattle.go_tree.proofs.GoTypes.Agreeing.{from_given, from_both, some_same}
+use Rattle.go_rules.specs.ScopeNames.Means.{Environment}
+use Rattle.go_rules.specs.GoTypes.Answers.{given, meets, unless_missing, and_also, one_of}
+use Rattle.go_rules.specs.GoTypes.Types.{FuncType, named_type}
+use Rattle.go_rules.specs.GoTypes.Entities.{Entity, World, Binds}
+use Rattle.go_rules.specs.GoTypes.TypeNames.{func_type}
+use Rattle.go_rules.specs.GoTypes.Bodies.{body_binds}
+use Rattle.go_rules.specs.GoTypes.Programs.{Header, a_func, func_of, Headed, SourceFile, SourcePackage, Program, headed, headed_file, headed_files, headed_package, headers, all_headers, header_names, header_sound, names_in, block_names, file_block, is_main, env_of}
+use Rattle.go_rules.specs.GoTypes.Collect.{DeclaredTypes, types_declared, collected, declared_by}
+use Rattle.go_rules.specs.GoTypes.MethodDeclarations.{MethodName, is_new_method, receiver_type, receiver_binds, method_header, method_declared, declared_on}
+use Rattle.go_rules.specs.GoTypes.Defined.{Method}
+use Rattle.go_rules.specs.GoTypes.WellTyped.{is_method, refused_unless, header_ok, method_ok, body_ok, function_ok, first_header, first_body, lacks_main, well_typed}
+use Rattle.go_rules.proofs.GoTypes.Agreeing.{from_given, from_both, some_same}
 use Rattle.typed_in_place.specs.ImportRule.{files_declare, package_declares, declarations_ok, imports_ok}
 use Rattle.typed_in_place.proofs.ImportRule.{well_typed_apart}
 use Rattle.typed_in_place.proofs.Rising.{and_first, and_second}

@@ -4,11 +4,11 @@ use mathlib.Core.Path.{ap, sym, ◌∙◌}
 use Rattle.std.proofs.Common.{arith}
 use Rattle.go_tree.specs.Tree.{Param, Expr}
 use Rattle.pkg_graph.specs.Package.{Package}
-use Rattle.go_tree.specs.GoTypes.Answers.{given, one_of, otherwise}
-use Rattle.go_tree.specs.GoTypes.Types.{GoType, base_of}
-use Rattle.go_tree.specs.GoTypes.Defined.{Method, methods}
-use Rattle.go_tree.specs.GoTypes.Entities.{defined_in}
-use Rattle.go_tree.specs.GoTypes.Primary.{find_method}
+use Rattle.go_rules.specs.GoTypes.Answers.{given, one_of, otherwise}
+use Rattle.go_rules.specs.GoTypes.Types.{GoType, base_of}
+use Rattle.go_rules.specs.GoTypes.Defined.{Method, methods}
+use Rattle.go_rules.specs.GoTypes.Entities.{defined_in}
+use Rattle.go_rules.specs.GoTypes.Primary.{find_method}
 use Rattle.run_rules.specs.Surroundings.{Seen, seen_type}
 use Rattle.run_rules.specs.Places.{params_seen}
 use Rattle.run_rules.specs.Classes.{type_at}
@@ -23,7 +23,7 @@ use Rattle.constant_steps.proofs.MarksFound.{both_none}
 use Rattle.literal_steps.specs.LiteralUse.{LiteralUse, call_of, chosen_of}
 use Rattle.literal_steps.proofs.NoObstacle.{clear}
 use Rattle.literal_steps.specs.MethodLiterals.MethodUse.{MethodCall, receiver_argument, receiver_first}
-use Rattle.go_tree.specs.GoTypes.Operands.{typed}
+use Rattle.go_rules.specs.GoTypes.Operands.{typed}
 
 first_split : {A B : Type 0} (f : A → Option B) (xs ys : List A) → first_answer f (xs ++ ys) ≡ None → (first_answer f xs ≡ None) × (first_answer f ys ≡ None)
 first_split f [] ys e = (refl, e)

@@ -2,17 +2,17 @@
 use Rattle.std.specs.Prelude.{◌≡◌, refl, ℕ, false, true, List, [], Some, None}
 use mathlib.Core.Path.{ap, sym, ◌∙◌}
 use Rattle.go_tree.specs.File.{Receiver, Func}
-use Rattle.go_tree.specs.ScopeNames.Means.{is_blank, Environment}
-use Rattle.go_tree.specs.GoTypes.Types.{FuncType, named_type}
-use Rattle.go_tree.specs.GoTypes.Defined.{Method, methods}
-use Rattle.go_tree.specs.GoTypes.Entities.{Entity, World}
-use Rattle.go_tree.specs.GoTypes.TypeNames.{func_type}
-use Rattle.go_tree.specs.GoTypes.Primary.{find_method}
-use Rattle.go_tree.specs.GoTypes.Programs.{SourcePackage, Program, Headed, headed, block_names, file_block, file_env, env_of}
-use Rattle.go_tree.specs.GoTypes.Collect.{collected}
-use Rattle.go_tree.specs.GoTypes.MethodDeclarations.{receiver_type}
-use Rattle.go_tree.specs.GoTypes.WellTyped.{well_typed}
-use Rattle.go_tree.proofs.GoTypes.Agreeing.{some_same}
+use Rattle.go_rules.specs.ScopeNames.Means.{is_blank, Environment}
+use Rattle.go_rules.specs.GoTypes.Types.{FuncType, named_type}
+use Rattle.go_rules.specs.GoTypes.Defined.{Method, methods}
+use Rattle.go_rules.specs.GoTypes.Entities.{Entity, World}
+use Rattle.go_rules.specs.GoTypes.TypeNames.{func_type}
+use Rattle.go_rules.specs.GoTypes.Primary.{find_method}
+use Rattle.go_rules.specs.GoTypes.Programs.{SourcePackage, Program, Headed, headed, block_names, file_block, file_env, env_of}
+use Rattle.go_rules.specs.GoTypes.Collect.{collected}
+use Rattle.go_rules.specs.GoTypes.MethodDeclarations.{receiver_type}
+use Rattle.go_rules.specs.GoTypes.WellTyped.{well_typed}
+use Rattle.go_rules.proofs.GoTypes.Agreeing.{some_same}
 use Rattle.go_kernel.specs.Kernel.{ImportPath}
 use Rattle.go_translation.specs.Values.{path_of}
 use Rattle.go_translation.specs.Calls.{method_named}

@@ -4,20 +4,20 @@ use mathlib.Core.Path.{ap, sym, ◌∙◌}
 use Rattle.std.proofs.Common.{arith}
 use Rattle.go_tree.specs.Tree.{NameAt, named, pointer, Sig, func_lit}
 use Rattle.go_tree.specs.File.{Receiver, Func}
-use Rattle.go_tree.specs.ScopeNames.Means.{Environment, binding}
+use Rattle.go_rules.specs.ScopeNames.Means.{Environment, binding}
 use Rattle.pkg_graph.specs.Package.{Package}
-use Rattle.go_tree.specs.GoTypes.Answers.{given, both, only_if, distinct_by}
-use Rattle.go_tree.specs.GoTypes.Types.{GoType, FuncType, named_type, pointer_to}
-use Rattle.go_tree.specs.GoTypes.Defined.{has_keys}
-use Rattle.go_tree.specs.GoTypes.Entities.{Entity, Env, World, Binds, meaning, type_of_name, defined_in, extend, in_block, variable}
-use Rattle.go_tree.specs.GoTypes.TypeNames.{type_meant, func_type, params_meant}
-use Rattle.go_tree.specs.GoTypes.Declarations.{bound_names}
-use Rattle.go_tree.specs.GoTypes.Bodies.{param_binds, param_binding, body_binds}
-use Rattle.go_tree.specs.GoTypes.Programs.{Headed}
-use Rattle.go_tree.specs.GoTypes.Collect.{env_of}
-use Rattle.go_tree.specs.GoTypes.MethodDeclarations.{receiver_binds}
-use Rattle.go_tree.specs.GoTypes.WellTyped.{receiver_of}
-use Rattle.go_tree.proofs.GoTypes.Agreeing.{from_both, some_same}
+use Rattle.go_rules.specs.GoTypes.Answers.{given, both, only_if, distinct_by}
+use Rattle.go_rules.specs.GoTypes.Types.{GoType, FuncType, named_type, pointer_to}
+use Rattle.go_rules.specs.GoTypes.Defined.{has_keys}
+use Rattle.go_rules.specs.GoTypes.Entities.{Entity, Env, World, Binds, meaning, type_of_name, defined_in, extend, in_block, variable}
+use Rattle.go_rules.specs.GoTypes.TypeNames.{type_meant, func_type, params_meant}
+use Rattle.go_rules.specs.GoTypes.Declarations.{bound_names}
+use Rattle.go_rules.specs.GoTypes.Bodies.{param_binds, param_binding, body_binds}
+use Rattle.go_rules.specs.GoTypes.Programs.{Headed}
+use Rattle.go_rules.specs.GoTypes.Collect.{env_of}
+use Rattle.go_rules.specs.GoTypes.MethodDeclarations.{receiver_binds}
+use Rattle.go_rules.specs.GoTypes.WellTyped.{receiver_of}
+use Rattle.go_rules.proofs.GoTypes.Agreeing.{from_both, some_same}
 use Rattle.go_kernel.specs.Kernel.{ImportPath, Slot}
 use Rattle.go_translation.specs.Mentions.{Mention, mentions_stmts}
 use Rattle.go_translation.specs.Here.{Location, Here, function_of, at_body}

@@ -4,19 +4,19 @@ use mathlib.Core.Path.{ap, sym, ◌∙◌}
 use Rattle.std.proofs.Common.{arith}
 use Rattle.go_tree.specs.Tree.{NameAt, Expr, ident, selector}
 use Rattle.go_tree.specs.File.{Receiver}
-use Rattle.go_tree.specs.ScopeNames.Means.{is_blank}
+use Rattle.go_rules.specs.ScopeNames.Means.{is_blank}
 use Rattle.pkg_graph.specs.Package.{Package}
-use Rattle.go_tree.specs.GoTypes.Answers.{given, only_if, otherwise}
-use Rattle.go_tree.specs.GoTypes.Types.{GoType, named_type, pointer_to, basic, slice_of, map_of, struct_of, tuple_of, untyped, untyped_nil, base_of, type_name_of, FuncType}
-use Rattle.go_tree.specs.GoTypes.Defined.{Defined, Method, under, methods}
-use Rattle.go_tree.specs.GoTypes.Entities.{Content, Entity, package_name, Place, Env, meaning, package_of, defined_in, is_exported, World, type_of_name, exported}
-use Rattle.go_tree.specs.GoTypes.Operands.{Operand, value, several, a_type, a_function, a_builtin, recovered, typed, with_value, named_operand, plain_value}
-use Rattle.go_tree.specs.GoTypes.Primary.{find_method, field_type, is_addressable, method_of, method_value, selected, sees, home_of}
-use Rattle.go_tree.specs.GoTypes.Statements.{package_before}
-use Rattle.go_tree.specs.GoTypes.Typing.{parts, place}
-use Rattle.go_tree.specs.GoTypes.Programs.{Headed, env_of}
-use Rattle.go_tree.specs.GoTypes.MethodDeclarations.{receiver_type}
-use Rattle.go_tree.proofs.GoTypes.Agreeing.{from_given, from_only, some_same}
+use Rattle.go_rules.specs.GoTypes.Answers.{given, only_if, otherwise}
+use Rattle.go_rules.specs.GoTypes.Types.{GoType, named_type, pointer_to, basic, slice_of, map_of, struct_of, tuple_of, untyped, untyped_nil, base_of, type_name_of, FuncType}
+use Rattle.go_rules.specs.GoTypes.Defined.{Defined, Method, under, methods}
+use Rattle.go_rules.specs.GoTypes.Entities.{Content, Entity, package_name, Place, Env, meaning, package_of, defined_in, is_exported, World, type_of_name, exported}
+use Rattle.go_rules.specs.GoTypes.Operands.{Operand, value, several, a_type, a_function, a_builtin, recovered, typed, with_value, named_operand, plain_value}
+use Rattle.go_rules.specs.GoTypes.Primary.{find_method, field_type, is_addressable, method_of, method_value, selected, sees, home_of}
+use Rattle.go_rules.specs.GoTypes.Statements.{package_before}
+use Rattle.go_rules.specs.GoTypes.Typing.{parts, place}
+use Rattle.go_rules.specs.GoTypes.Programs.{Headed, env_of}
+use Rattle.go_rules.specs.GoTypes.MethodDeclarations.{receiver_type}
+use Rattle.go_rules.proofs.GoTypes.Agreeing.{from_given, from_only, some_same}
 use Rattle.run_rules.specs.Classes.{type_at}
 use Rattle.run_rules.specs.Sites.{method_home}
 

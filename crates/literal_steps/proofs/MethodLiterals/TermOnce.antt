@@ -7,24 +7,24 @@ use Rattle.go_tree.specs.declared.operators.UnOp.TheVariants as un
 use Rattle.go_tree.specs.declared.operators.BinOp.{BinOp}
 use Rattle.go_tree.specs.declared.operators.BinOp.TheVariants as bin
 use Rattle.go_tree.specs.Tree.{Expr, ident, int_lit, rune_lit, str_lit, composite, selector, index, slice, call, func_lit, type_operand, unary, binary, star}
-use Rattle.go_tree.specs.declared.const_eval.kinds.Kind.{Kind}
-use Rattle.go_tree.specs.declared.const_eval.kinds.Kind.TheVariants as kind
-use Rattle.go_tree.specs.declared.const_eval.consts.Const.{Const}
-use Rattle.go_tree.specs.declared.const_eval.consts.Const.TheVariants.{Whole}
-use Rattle.go_tree.specs.ConstEval.Exact.{Exact, number, text}
-use Rattle.go_tree.specs.ConstEval.Literals.{integer_value, literal_value}
-use Rattle.go_tree.specs.ConstEval.Conditions.{unary_applies, binary_applies, is_number_kind}
+use Rattle.go_rules.specs.declared.const_eval.kinds.Kind.{Kind}
+use Rattle.go_rules.specs.declared.const_eval.kinds.Kind.TheVariants as kind
+use Rattle.go_rules.specs.declared.const_eval.consts.Const.{Const}
+use Rattle.go_rules.specs.declared.const_eval.consts.Const.TheVariants.{Whole}
+use Rattle.go_rules.specs.ConstEval.Exact.{Exact, number, text}
+use Rattle.go_rules.specs.ConstEval.Literals.{integer_value, literal_value}
+use Rattle.go_rules.specs.ConstEval.Conditions.{unary_applies, binary_applies, is_number_kind}
 use Rattle.go_tree.specs.GoWords.Texts.{text_value}
-use Rattle.go_tree.specs.GoTypes.Answers.{given, only_if}
-use Rattle.go_tree.specs.GoTypes.Types.{GoType, basic, named_type, pointer_to, slice_of, map_of, struct_of, tuple_of, untyped, untyped_nil, is_untyped}
-use Rattle.go_tree.specs.GoTypes.Defined.{Defined}
-use Rattle.go_tree.specs.GoTypes.Entities.{Content, run, exact, shift, Entity, constant, nil_name, iota_name, meaning, exported, defined_in}
-use Rattle.go_tree.specs.GoTypes.Operands.{Operand, value, several, a_type, a_function, a_builtin, recovered, Typed, typed, with_value, named_operand, literal_operand, constant_at, constant_value, leaves, kind_of, kind_passes}
-use Rattle.go_tree.specs.GoTypes.Operators.{common_type, joins, divides_by_zero, calculated_operand, not_constant, truth_operand, is_count, shifted_operand, shifting, logic, arithmetic, binary_value_operand, recover_compared, is_equality, binary_of, changed_operand, unary_value_operand, a_comparison}
-use Rattle.go_tree.specs.GoTypes.Primary.{selected}
-use Rattle.go_tree.specs.GoTypes.Statements.{package_before}
-use Rattle.go_tree.specs.GoTypes.Typing.{parts, place}
-use Rattle.go_tree.proofs.GoTypes.Agreeing.{from_given, from_both, from_only, some_same}
+use Rattle.go_rules.specs.GoTypes.Answers.{given, only_if}
+use Rattle.go_rules.specs.GoTypes.Types.{GoType, basic, named_type, pointer_to, slice_of, map_of, struct_of, tuple_of, untyped, untyped_nil, is_untyped}
+use Rattle.go_rules.specs.GoTypes.Defined.{Defined}
+use Rattle.go_rules.specs.GoTypes.Entities.{Content, run, exact, shift, Entity, constant, nil_name, iota_name, meaning, exported, defined_in}
+use Rattle.go_rules.specs.GoTypes.Operands.{Operand, value, several, a_type, a_function, a_builtin, recovered, Typed, typed, with_value, named_operand, literal_operand, constant_at, constant_value, leaves, kind_of, kind_passes}
+use Rattle.go_rules.specs.GoTypes.Operators.{common_type, joins, divides_by_zero, calculated_operand, not_constant, truth_operand, is_count, shifted_operand, shifting, logic, arithmetic, binary_value_operand, recover_compared, is_equality, binary_of, changed_operand, unary_value_operand, a_comparison}
+use Rattle.go_rules.specs.GoTypes.Primary.{selected}
+use Rattle.go_rules.specs.GoTypes.Statements.{package_before}
+use Rattle.go_rules.specs.GoTypes.Typing.{parts, place}
+use Rattle.go_rules.proofs.GoTypes.Agreeing.{from_given, from_both, from_only, some_same}
 use Rattle.go_kernel.specs.Kernel.{ImportPath, Term, Prim, Field}
 use Rattle.go_translation.specs.Values.{path_of, constant_term, typed_of}
 use Rattle.go_translation.specs.Here.{Location, Here, defined_here, location}
@@ -33,7 +33,7 @@ use Rattle.go_translation.specs.Names.{entity_term, iota_term}
 use Rattle.go_translation.specs.Calls.{selected_field, is_pointer_value, struct_value}
 use Rattle.go_translation.specs.Facts.{typed_at}
 use Rattle.go_translation.specs.Translation.{expr_term, address}
-use Rattle.go_tree.specs.ConstEval.Operators.{binary_value, unary_value}
+use Rattle.go_rules.specs.ConstEval.Operators.{binary_value, unary_value}
 
 abbrev type_in : GoType → Option Operand → GoType
 type_in d (Some (value t k)) = t

@@ -7,19 +7,19 @@ use Rattle.std.proofs.Common.{arith}
 use Rattle.std.proofs.lemmas.Bool.{eq-eqb}
 use Rattle.std.proofs.lemmas.Slice.Eq.{bytes_eq-Decides}
 use Rattle.go_tree.specs.Tree.{NameAt, Expr, ident, composite, selector, call}
-use Rattle.go_tree.specs.ScopeNames.Means.{Environment, means}
+use Rattle.go_rules.specs.ScopeNames.Means.{Environment, means}
 use Rattle.pkg_graph.specs.Package.{Package}
-use Rattle.go_tree.specs.GoTypes.Answers.{given, meets}
-use Rattle.go_tree.specs.GoTypes.Types.{GoType, basic, named_type, pointer_to, slice_of, map_of, struct_of, tuple_of, untyped, untyped_nil}
-use Rattle.go_tree.specs.GoTypes.Defined.{Defined, Method, methods}
-use Rattle.go_tree.specs.GoTypes.Entities.{Entity, variable, constant, stand_in, type_name, function, package_name, builtin, nil_name, iota_name, refused, World, Env, meaning, exported, block_of, package_of, is_exported, Binds, defined_in}
-use Rattle.go_tree.specs.GoTypes.Operands as operand
-use Rattle.go_tree.specs.GoTypes.Operands.{Operand, Typed, named_operand}
-use Rattle.go_tree.specs.GoTypes.Primary.{find_method}
-use Rattle.go_tree.specs.GoTypes.Programs.{Headed, headed}
-use Rattle.go_tree.specs.GoTypes.Collect.{collected, blocks_by, block_by, valued_world, types_declared, declared_by}
-use Rattle.go_tree.specs.GoTypes.Typing.{package_before}
-use Rattle.go_tree.proofs.GoTypes.Agreeing.{from_given, some_same}
+use Rattle.go_rules.specs.GoTypes.Answers.{given, meets}
+use Rattle.go_rules.specs.GoTypes.Types.{GoType, basic, named_type, pointer_to, slice_of, map_of, struct_of, tuple_of, untyped, untyped_nil}
+use Rattle.go_rules.specs.GoTypes.Defined.{Defined, Method, methods}
+use Rattle.go_rules.specs.GoTypes.Entities.{Entity, variable, constant, stand_in, type_name, function, package_name, builtin, nil_name, iota_name, refused, World, Env, meaning, exported, block_of, package_of, is_exported, Binds, defined_in}
+use Rattle.go_rules.specs.GoTypes.Operands as operand
+use Rattle.go_rules.specs.GoTypes.Operands.{Operand, Typed, named_operand}
+use Rattle.go_rules.specs.GoTypes.Primary.{find_method}
+use Rattle.go_rules.specs.GoTypes.Programs.{Headed, headed}
+use Rattle.go_rules.specs.GoTypes.Collect.{collected, blocks_by, block_by, valued_world, types_declared, declared_by}
+use Rattle.go_rules.specs.GoTypes.Typing.{package_before}
+use Rattle.go_rules.proofs.GoTypes.Agreeing.{from_given, some_same}
 use Rattle.typed_in_place.proofs.Collected.{valued_settled}
 use Rattle.go_kernel.specs.Kernel.{Term, ImportPath, FuncName}
 use Rattle.go_translation.specs.Values.{path_of}
@@ -209,7 +209,7 @@ module _ {S : Type 0} (ps : List (Package S)) (marks : List MarkRef) (ms : List 
     named_offered p n a (Some nil_name) k = tt
     named_offered p n a (Some iota_name) k = go a.iota
       where
-        go : (i : Option ℕ) → CalleeOffered offer (named_callee p n (given i (λ i. Some (operand.value (untyped Rattle.go_tree.specs.declared.const_eval.kinds.Kind.TheVariants.UntypedInt) (Rattle.go_tree.specs.GoTypes.Entities.exact (Rattle.go_tree.specs.declared.const_eval.consts.Const.TheVariants.Whole (Rattle.std.specs.Prelude.pos i)))))))
+        go : (i : Option ℕ) → CalleeOffered offer (named_callee p n (given i (λ i. Some (operand.value (untyped Rattle.go_rules.specs.declared.const_eval.kinds.Kind.TheVariants.UntypedInt) (Rattle.go_rules.specs.GoTypes.Entities.exact (Rattle.go_rules.specs.declared.const_eval.consts.Const.TheVariants.Whole (Rattle.std.specs.Prelude.pos i)))))))
         go None = tt
         go (Some i) = tt
     named_offered p n a (Some (package_name r)) k = tt

@@ -3,13 +3,13 @@ use Rattle.std.specs.Prelude.{◌≡◌, refl, ℕ, true, List, [], ◌∷◌, O
 use Rattle.std.specs.List.{list_any}
 use mathlib.Core.Path.{ap, sym, ◌∙◌, subst}
 use Rattle.go_tree.specs.Tree.{NameAt, Expr, ident, composite, selector, call, Stmts}
-use Rattle.go_tree.specs.GoTypes.Answers.{meets}
-use Rattle.go_tree.specs.GoTypes.Types.{GoType, basic, named_type, pointer_to, slice_of, map_of, struct_of, tuple_of, untyped, untyped_nil}
-use Rattle.go_tree.specs.GoTypes.Defined.{Defined, Method, methods}
-use Rattle.go_tree.specs.GoTypes.Entities.{Env, exported, defined_in}
-use Rattle.go_tree.specs.GoTypes.Operands.{Typed, named_operand}
-use Rattle.go_tree.specs.GoTypes.Primary.{find_method}
-use Rattle.go_tree.specs.GoTypes.Typing.{package_before}
+use Rattle.go_rules.specs.GoTypes.Answers.{meets}
+use Rattle.go_rules.specs.GoTypes.Types.{GoType, basic, named_type, pointer_to, slice_of, map_of, struct_of, tuple_of, untyped, untyped_nil}
+use Rattle.go_rules.specs.GoTypes.Defined.{Defined, Method, methods}
+use Rattle.go_rules.specs.GoTypes.Entities.{Env, exported, defined_in}
+use Rattle.go_rules.specs.GoTypes.Operands.{Typed, named_operand}
+use Rattle.go_rules.specs.GoTypes.Primary.{find_method}
+use Rattle.go_rules.specs.GoTypes.Typing.{package_before}
 use Rattle.go_kernel.specs.Kernel.{ImportPath, FuncName, same_func, Term}
 use Rattle.go_translation.specs.Values.{path_of}
 use Rattle.go_translation.specs.Calls.{Callee, to_function, to_literal, to_type, to_builtin, to_nothing, named_callee, method_callee, method_on, receiver_type}

@@ -11,7 +11,7 @@ use Rattle.go_tree.specs.declared.exprs.Rest.TheVariants.{Plain}
 use Rattle.go_tree.specs.Tree.{slice_type, int_lit, no_elems, elem, plain, no_value, const_decl, no_specs, spec, NameAt, named, Sig, Expr, ident, call, no_exprs, expr_and, eval, return_, Stmts, no_stmts, stmt_and}
 use Rattle.go_tree.specs.File.{Func, Decl, func}
 use Rattle.pkg_graph.specs.Package.{SourceTree, Package}
-use Rattle.go_tree.proofs.GoTypes.Agreeing.{some_same}
+use Rattle.go_rules.proofs.GoTypes.Agreeing.{some_same}
 use Rattle.go_kernel.specs.Kernel.{FuncName, code}
 use Rattle.go_kernel.specs.Laws.{Ranked}
 use Rattle.go_translation.specs.Calls.{function_named}

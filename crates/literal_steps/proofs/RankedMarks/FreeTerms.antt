@@ -2,14 +2,14 @@
 use Rattle.std.specs.Prelude.{◌≡◌, refl, ℕ, suc, Bool, true, false, not, ◌&&◌, List, [], ◌∷◌, Option, Some, None, if◌then◌else◌, is_some}
 use mathlib.Core.Path.{ap}
 use Rattle.std.proofs.Common.{arith}
-use Rattle.go_tree.specs.ScopeNames.Means.{is_blank}
-use Rattle.go_tree.specs.GoTypes.Types.{GoType, basic, named_type, pointer_to, slice_of, map_of, struct_of, tuple_of, untyped, untyped_nil, base_of}
-use Rattle.go_tree.specs.GoTypes.Defined.{Defined, Method, methods}
-use Rattle.go_tree.specs.GoTypes.Entities.{Entity, variable, constant, stand_in, iota_name, meaning, is_declared_here}
-use Rattle.go_tree.specs.GoTypes.Operands as operand
-use Rattle.go_tree.specs.GoTypes.Operands.{Operand, a_type, Typed, named_operand, literal_operand, spread}
-use Rattle.go_tree.specs.GoTypes.Literals.{is_struct, inner_type}
-use Rattle.go_tree.specs.GoTypes.Primary.{find_method}
+use Rattle.go_rules.specs.ScopeNames.Means.{is_blank}
+use Rattle.go_rules.specs.GoTypes.Types.{GoType, basic, named_type, pointer_to, slice_of, map_of, struct_of, tuple_of, untyped, untyped_nil, base_of}
+use Rattle.go_rules.specs.GoTypes.Defined.{Defined, Method, methods}
+use Rattle.go_rules.specs.GoTypes.Entities.{Entity, variable, constant, stand_in, iota_name, meaning, is_declared_here}
+use Rattle.go_rules.specs.GoTypes.Operands as operand
+use Rattle.go_rules.specs.GoTypes.Operands.{Operand, a_type, Typed, named_operand, literal_operand, spread}
+use Rattle.go_rules.specs.GoTypes.Literals.{is_struct, inner_type}
+use Rattle.go_rules.specs.GoTypes.Primary.{find_method}
 use Rattle.go_kernel.specs.Kernel.{Name, ImportPath, Int, Alloc, RangeNext, temporary, Term, Local, Set, Both, Prim, Let}
 use Rattle.go_translation.specs.Values.{one_value, path_of, as_value, constant_term, zero_of, typed_of}
 use Rattle.go_translation.specs.Values as v

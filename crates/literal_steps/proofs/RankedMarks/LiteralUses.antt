@@ -7,13 +7,13 @@ use Rattle.std.proofs.lemmas.Bool.{eq-eqb, or_left, or_right}
 use Rattle.go_tree.specs.declared.exprs.Rest.TheVariants.{Plain}
 use Rattle.go_tree.specs.declared.spans.Span.{Span}
 use Rattle.go_tree.specs.Tree.{Expr, ident, selector, call}
-use Rattle.go_tree.specs.ScopeNames.Means.{means}
+use Rattle.go_rules.specs.ScopeNames.Means.{means}
 use Rattle.pkg_graph.specs.Package.{Package}
 use Rattle.pkg_graph.specs.Members.{package_block}
-use Rattle.go_tree.specs.GoTypes.Answers.{given, meets, one_of}
-use Rattle.go_tree.specs.GoTypes.Programs.{SourcePackage}
-use Rattle.go_tree.specs.GoTypes.Types.{GoType}
-use Rattle.go_tree.proofs.GoTypes.Agreeing.{from_given}
+use Rattle.go_rules.specs.GoTypes.Answers.{given, meets, one_of}
+use Rattle.go_rules.specs.GoTypes.Programs.{SourcePackage}
+use Rattle.go_rules.specs.GoTypes.Types.{GoType}
+use Rattle.go_rules.proofs.GoTypes.Agreeing.{from_given}
 use Rattle.go_kernel.specs.Kernel.{FuncName}
 use Rattle.go_kernel.specs.Alike.{MeanSame}
 use Rattle.go_translation.specs.Values.{path_of}

@@ -5,21 +5,21 @@ use Rattle.std.proofs.Common.{arith}
 use Rattle.std.proofs.lemmas.Bool.{eq-eqb}
 use Rattle.go_tree.specs.Tree.{NameAt, Exprs, no_exprs, expr_and, ValueSpecs, no_specs, spec, const_decl}
 use Rattle.go_tree.specs.File.{Receiver, TypeSpec, Func, Decl, values, types, func}
-use Rattle.go_tree.specs.ScopeNames.Means.{means, is_blank}
-use Rattle.go_tree.specs.ScopeNames.FreeNames.{names_of, sig_names}
-use Rattle.go_tree.specs.ScopeNames.Scopes.{not_blank, param_names, sig_declares}
+use Rattle.go_rules.specs.ScopeNames.Means.{means, is_blank}
+use Rattle.go_rules.specs.ScopeNames.FreeNames.{names_of, sig_names}
+use Rattle.go_rules.specs.ScopeNames.Scopes.{not_blank, param_names, sig_declares}
 use Rattle.pkg_graph.specs.Package.{Package}
 use Rattle.pkg_graph.specs.Members.{package_block}
-use Rattle.go_tree.specs.GoTypes.Answers.{given, meets, otherwise, is_among}
-use Rattle.go_tree.specs.GoTypes.Entities.{Env, Binds, extend, in_block}
-use Rattle.go_tree.specs.GoTypes.TypeNames.{func_type}
-use Rattle.go_tree.specs.GoTypes.Declarations.{binds_or}
-use Rattle.go_tree.specs.GoTypes.Bodies.{Ctx, body_binds, body_ctx, is_body}
-use Rattle.go_tree.specs.GoTypes.Typing.{stmts}
-use Rattle.go_tree.specs.GoTypes.Programs.{SourcePackage, Program, Headed, headed, file_env, file_block, block_names}
-use Rattle.go_tree.specs.GoTypes.Collect.{env_of, collected}
-use Rattle.go_tree.specs.GoTypes.WellTyped.{body_env, receiver_of}
-use Rattle.go_tree.proofs.GoTypes.Agreeing.{from_given, some_same}
+use Rattle.go_rules.specs.GoTypes.Answers.{given, meets, otherwise, is_among}
+use Rattle.go_rules.specs.GoTypes.Entities.{Env, Binds, extend, in_block}
+use Rattle.go_rules.specs.GoTypes.TypeNames.{func_type}
+use Rattle.go_rules.specs.GoTypes.Declarations.{binds_or}
+use Rattle.go_rules.specs.GoTypes.Bodies.{Ctx, body_binds, body_ctx, is_body}
+use Rattle.go_rules.specs.GoTypes.Typing.{stmts}
+use Rattle.go_rules.specs.GoTypes.Programs.{SourcePackage, Program, Headed, headed, file_env, file_block, block_names}
+use Rattle.go_rules.specs.GoTypes.Collect.{env_of, collected}
+use Rattle.go_rules.specs.GoTypes.WellTyped.{body_env, receiver_of}
+use Rattle.go_rules.proofs.GoTypes.Agreeing.{from_given, some_same}
 use Rattle.typed_in_place.specs.Declared as declared
 use Rattle.typed_in_place.specs.Declared.{HasNumber, FirstWith}
 use Rattle.form_meaning.specs.FormInPlace.Bound.{literal_binds}

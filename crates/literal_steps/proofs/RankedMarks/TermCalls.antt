@@ -3,25 +3,25 @@ use Rattle.std.specs.Prelude.{◌≡◌, ℕ, suc, ◌+◌, Bool, true, false, �
 use mathlib.Core.Path.{ap, sym, ◌∙◌, subst}
 use Rattle.std.proofs.Common.{arith}
 use Rattle.go_tree.specs.Tree.{Sig, Expr, ident, int_lit, rune_lit, str_lit, composite, selector, index, slice, call, func_lit, type_operand, unary, binary, star, Exprs, no_exprs, expr_and, ExprOption, no_expr, some_expr, Elems, no_elems, elem, Value, plain, braced, ValueOption, no_value, some_value, Stmt, const_decl, var_decl, empty, eval, step, assign, define, return_, break_, continue_, inner, if_, for_, range_, switch, defer, label, Stmts, no_stmts, stmt_and, StmtOption, no_stmt, some_stmt, BlockOption, no_block, some_block, RangeLeft, nothing, assigns, defines, Arms, no_arms, arm, Cases, no_cases, case, ValueSpecs, no_specs, spec}
-use Rattle.go_tree.specs.declared.const_eval.kinds.Kind.TheVariants as kind
-use Rattle.go_tree.specs.declared.const_eval.consts.Const.TheVariants.{Whole}
-use Rattle.go_tree.specs.ConstEval.Exact.{number, text}
-use Rattle.go_tree.specs.ConstEval.Literals.{integer_value, literal_value}
+use Rattle.go_rules.specs.declared.const_eval.kinds.Kind.TheVariants as kind
+use Rattle.go_rules.specs.declared.const_eval.consts.Const.TheVariants.{Whole}
+use Rattle.go_rules.specs.ConstEval.Exact.{number, text}
+use Rattle.go_rules.specs.ConstEval.Literals.{integer_value, literal_value}
 use Rattle.go_tree.specs.GoWords.Texts.{text_value}
-use Rattle.go_tree.specs.ScopeNames.FreeNames.{names_of, sig_names, defined}
-use Rattle.go_tree.specs.GoTypes.Answers.{given, meets}
-use Rattle.go_tree.specs.GoTypes.Types.{GoType, basic, named_type, pointer_to, slice_of, map_of, struct_of, tuple_of, untyped, untyped_nil, FuncType}
-use Rattle.go_tree.specs.GoTypes.Defined.{Defined, under}
-use Rattle.go_tree.specs.GoTypes.Entities.{run, Env, meaning, exported, Binds, extend, in_block, defined_in}
-use Rattle.go_tree.specs.GoTypes.TypeNames.{type_meant, func_type, written_type}
-use Rattle.go_tree.specs.GoTypes.Operands.{Operand, a_type, named_operand, literal_operand, spread}
-use Rattle.go_tree.specs.GoTypes.Literals.{Element, of_field, keyed, is_struct, field_key, key_type, inner_type, literal_type, built_inside}
-use Rattle.go_tree.specs.GoTypes.Jumps.{is_breakable}
-use Rattle.go_tree.specs.GoTypes.Bodies.{literal_env}
-use Rattle.go_tree.specs.GoTypes.Declarations.{binds_or}
-use Rattle.go_tree.specs.GoTypes.Statements.{body_binds, no_values}
-use Rattle.go_tree.specs.GoTypes.Typing.{parts, all_parts, place, elements, element, with_key, range_declares, binds_of, package_before, step_op}
-use Rattle.go_tree.proofs.GoTypes.Agreeing.{from_given, from_both}
+use Rattle.go_rules.specs.ScopeNames.FreeNames.{names_of, sig_names, defined}
+use Rattle.go_rules.specs.GoTypes.Answers.{given, meets}
+use Rattle.go_rules.specs.GoTypes.Types.{GoType, basic, named_type, pointer_to, slice_of, map_of, struct_of, tuple_of, untyped, untyped_nil, FuncType}
+use Rattle.go_rules.specs.GoTypes.Defined.{Defined, under}
+use Rattle.go_rules.specs.GoTypes.Entities.{run, Env, meaning, exported, Binds, extend, in_block, defined_in}
+use Rattle.go_rules.specs.GoTypes.TypeNames.{type_meant, func_type, written_type}
+use Rattle.go_rules.specs.GoTypes.Operands.{Operand, a_type, named_operand, literal_operand, spread}
+use Rattle.go_rules.specs.GoTypes.Literals.{Element, of_field, keyed, is_struct, field_key, key_type, inner_type, literal_type, built_inside}
+use Rattle.go_rules.specs.GoTypes.Jumps.{is_breakable}
+use Rattle.go_rules.specs.GoTypes.Bodies.{literal_env}
+use Rattle.go_rules.specs.GoTypes.Declarations.{binds_or}
+use Rattle.go_rules.specs.GoTypes.Statements.{body_binds, no_values}
+use Rattle.go_rules.specs.GoTypes.Typing.{parts, all_parts, place, elements, element, with_key, range_declares, binds_of, package_before, step_op}
+use Rattle.go_rules.proofs.GoTypes.Agreeing.{from_given, from_both}
 use Rattle.go_kernel.specs.Kernel as k
 use Rattle.go_kernel.specs.Kernel.{Name, ImportPath, Int, Alloc, MapGet, MapTry, RangeNext, in_cells, temporary, return_label, break_label, Term, Vals, Local, Set, Both, Prim, If, Let, Leave, Catch, code}
 use Rattle.go_translation.specs.Values.{one_value, path_of, as_value, constant_term, zero_of, typed_of}
@@ -76,11 +76,11 @@ module _ {S : Type 0} where
         | None ↦ p
         | Some f ↦ record p {
           env = literal_env p.env g;
-          bound = Rattle.go_tree.specs.ScopeNames.Scopes.sig_declares g ++ p.bound;
-          ctx = Rattle.go_tree.specs.GoTypes.Bodies.body_ctx g f;
+          bound = Rattle.go_rules.specs.ScopeNames.Scopes.sig_declares g ++ p.bound;
+          ctx = Rattle.go_rules.specs.GoTypes.Bodies.body_ctx g f;
           deferred = p.deferred || p.deferring;
           deferring = false;
-          since = Rattle.go_tree.specs.ScopeNames.Scopes.sig_declares g ++ (if p.deferring then [] else p.since);
+          since = Rattle.go_rules.specs.ScopeNames.Scopes.sig_declares g ++ (if p.deferring then [] else p.since);
           literals = suc p.literals;
         }
       ]).env) e
@@ -390,7 +390,7 @@ module _ {S : Type 0} (paths : List (ℕ × ImportPath)) where
               r,
             )
         stmt_calls h l ms p z (defer _ e) rest a r = (deferred_calls h (record p { deferring = true; slot = a_slot 0 false false }) around.deferred_call e (front _ _ a), r)
-        stmt_calls h l ms p z (label s n x) rest a r = go (is_breakable x) (stmt_calls h (Some n.name) ms (record p { ctx = Rattle.go_tree.specs.GoTypes.Bodies.labelled p.ctx n x }) false x v.nothing (front _ _ a) tt) (stmt_calls h None ms (record p { ctx = Rattle.go_tree.specs.GoTypes.Bodies.labelled p.ctx n x }) false x rest (front _ _ a) r)
+        stmt_calls h l ms p z (label s n x) rest a r = go (is_breakable x) (stmt_calls h (Some n.name) ms (record p { ctx = Rattle.go_rules.specs.GoTypes.Bodies.labelled p.ctx n x }) false x v.nothing (front _ _ a) tt) (stmt_calls h None ms (record p { ctx = Rattle.go_rules.specs.GoTypes.Bodies.labelled p.ctx n x }) false x rest (front _ _ a) r)
           where
             go : (b : Bool) → Found d (stmt_term (at_env paths h p.env) (Some n.name) ms x v.nothing) → Found d (stmt_term (at_env paths h p.env) None ms x rest) → Found d (if b then Let [] (Catch (break_label (Some n.name)) (stmt_term (at_env paths h p.env) (Some n.name) ms x v.nothing)) rest else stmt_term (at_env paths h p.env) None ms x rest)
             go true f q = (f, r)

@@ -9,13 +9,13 @@ use Rattle.go_tree.specs.declared.exprs.Rest.TheVariants.{Plain}
 use Rattle.go_tree.specs.declared.operators.BinOp.TheVariants.{Add}
 use Rattle.go_tree.specs.Tree.{named, struct_type, no_fields, field, Expr, ident, int_lit, composite, selector, call, func_lit, binary, no_exprs, expr_and, no_elems, elem, plain, some_value, Stmts, assign, return_, no_stmts, stmt_and}
 use Rattle.go_tree.specs.File.{Func, types, func, File}
-use Rattle.go_tree.specs.declared.const_eval.kinds.Kind.TheVariants as kind
+use Rattle.go_rules.specs.declared.const_eval.kinds.Kind.TheVariants as kind
 use Rattle.pkg_graph.specs.Package.{Package}
 use Rattle.pkg_graph.specs.ModuleFiles.Internal.{passes}
 use Rattle.param_choice.specs.Chosen.{has}
 use Rattle.run_rules.specs.ImportRules.Removed.{same_span}
-use Rattle.go_tree.specs.GoTypes.Types.{basic}
-use Rattle.go_tree.specs.GoTypes.Typing.{parts}
+use Rattle.go_rules.specs.GoTypes.Types.{basic}
+use Rattle.go_rules.specs.GoTypes.Typing.{parts}
 use Rattle.go_kernel.specs.Kernel.{FuncName}
 use Rattle.go_kernel.specs.Alike.{MeanSame}
 use Rattle.go_translation.specs.Here.{Here}

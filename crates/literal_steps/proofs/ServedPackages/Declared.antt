@@ -2,12 +2,12 @@
 use Rattle.std.specs.Prelude.{◌≡◌, refl, ℕ, Bool, true, false, not, ◌||◌, List, [], ◌∷◌, ◌++◌, Option, Some, None, if◌then◌else◌, bytes_eq}
 use mathlib.Core.Path.{ap, sym, ◌∙◌}
 use Rattle.go_tree.specs.Tree.{NameAt, Param, Sig, Stmt, const_decl, var_decl, define, label, StmtOption, no_stmt, some_stmt, RangeLeft, defines, ValueSpecs, no_specs, spec}
-use Rattle.go_tree.specs.ScopeNames.Binders.{exprs_binders, stmt_binders, stmt_option_binders, left_binders, specs_binders}
-use Rattle.go_tree.specs.ScopeNames.FreeNames.{names_of, name_then, params_names, sig_names}
-use Rattle.go_tree.specs.ScopeNames.Means.{is_blank}
-use Rattle.go_tree.specs.ScopeNames.Scopes as scopes
-use Rattle.go_tree.specs.ScopeNames.Scopes.{not_blank, specs_declare, with_name, param_names, sig_declares}
-use Rattle.go_tree.specs.GoTypes.Answers.{is_among}
+use Rattle.go_rules.specs.ScopeNames.Binders.{exprs_binders, stmt_binders, stmt_option_binders, left_binders, specs_binders}
+use Rattle.go_rules.specs.ScopeNames.FreeNames.{names_of, name_then, params_names, sig_names}
+use Rattle.go_rules.specs.ScopeNames.Means.{is_blank}
+use Rattle.go_rules.specs.ScopeNames.Scopes as scopes
+use Rattle.go_rules.specs.ScopeNames.Scopes.{not_blank, specs_declare, with_name, param_names, sig_declares}
+use Rattle.go_rules.specs.GoTypes.Answers.{is_among}
 use Rattle.run_rules.specs.Surroundings.{first_declares, left_declares}
 use Rattle.constant_steps.proofs.StepLaws.OutsideHolds.{among_right, no_name}
 use Rattle.literal_steps.proofs.ServedPackages.Parts.{among_left}

@@ -5,13 +5,13 @@ use Rattle.std.specs.Prelude.{◌≡◌, refl, ℕ, zero, suc, Bool, false, List
 use Rattle.go_tree.specs.declared.spans.Span.{Span}
 use Rattle.go_tree.specs.Tree.{Expr, ident, selector, no_exprs, expr_and}
 use Rattle.go_tree.specs.File.{ImportSpec}
-use Rattle.go_tree.specs.declared.const_eval.kinds.Kind.TheVariants as kind
+use Rattle.go_rules.specs.declared.const_eval.kinds.Kind.TheVariants as kind
 use Rattle.pkg_graph.specs.Package.{Package}
 use Rattle.pkg_graph.specs.ModuleFiles.Internal.{passes}
 use Rattle.param_choice.specs.Chosen.{has}
 use Rattle.run_rules.specs.ImportRules.Removed.{same_span}
-use Rattle.go_tree.specs.GoTypes.Types.{basic}
-use Rattle.go_tree.specs.GoTypes.Typing.{parts}
+use Rattle.go_rules.specs.GoTypes.Types.{basic}
+use Rattle.go_rules.specs.GoTypes.Typing.{parts}
 use Rattle.go_kernel.specs.Kernel.{FuncName}
 use Rattle.go_kernel.specs.Alike.{MeanSame}
 use Rattle.go_translation.specs.Here.{Here}

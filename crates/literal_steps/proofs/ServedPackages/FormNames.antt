@@ -5,19 +5,19 @@ use Rattle.std.specs.List.{list_any}
 use Rattle.std.proofs.Common.{arith}
 use Rattle.std.proofs.lemmas.Slice.Eq.{bytes_eq-Decides}
 use Rattle.go_tree.specs.Tree.{Param, Expr}
-use Rattle.go_tree.specs.ScopeNames.Binders.{receiver_names, stmts_binders, func_binders}
-use Rattle.go_tree.specs.ScopeNames.FreeNames.{names_of, sig_names}
-use Rattle.go_tree.specs.ScopeNames.Identifiers.{params_identifiers, stmts_identifiers, exprs_identifiers}
-use Rattle.go_tree.specs.ScopeNames.Scopes.{not_blank, param_names}
+use Rattle.go_rules.specs.ScopeNames.Binders.{receiver_names, stmts_binders, func_binders}
+use Rattle.go_rules.specs.ScopeNames.FreeNames.{names_of, sig_names}
+use Rattle.go_rules.specs.ScopeNames.Identifiers.{params_identifiers, stmts_identifiers, exprs_identifiers}
+use Rattle.go_rules.specs.ScopeNames.Scopes.{not_blank, param_names}
 use Rattle.pkg_graph.specs.Package.{Package}
-use Rattle.go_tree.specs.GoTypes.Answers.{given, otherwise, is_among}
-use Rattle.go_tree.specs.GoTypes.Bodies.{body_binds}
-use Rattle.go_tree.specs.GoTypes.Entities.{Env, extend, in_block}
-use Rattle.go_tree.specs.GoTypes.TypeNames.{type_meant, func_type, params_meant}
-use Rattle.go_tree.specs.GoTypes.Types.{GoType, FuncType}
-use Rattle.go_tree.specs.GoTypes.WellTyped.{receiver_of}
-use Rattle.go_tree.specs.GoTypes.Programs.{Headed, block_names, file_env}
-use Rattle.go_tree.proofs.GoTypes.Agreeing.{from_both, some_same}
+use Rattle.go_rules.specs.GoTypes.Answers.{given, otherwise, is_among}
+use Rattle.go_rules.specs.GoTypes.Bodies.{body_binds}
+use Rattle.go_rules.specs.GoTypes.Entities.{Env, extend, in_block}
+use Rattle.go_rules.specs.GoTypes.TypeNames.{type_meant, func_type, params_meant}
+use Rattle.go_rules.specs.GoTypes.Types.{GoType, FuncType}
+use Rattle.go_rules.specs.GoTypes.WellTyped.{receiver_of}
+use Rattle.go_rules.specs.GoTypes.Programs.{Headed, block_names, file_env}
+use Rattle.go_rules.proofs.GoTypes.Agreeing.{from_both, some_same}
 use Rattle.go_translation.specs.Packages as translated
 use Rattle.translation_rules.proofs.DeclaredResults.FirstDeclared.{answers_length}
 use Rattle.run_rules.specs.Calls.{Given, Call, givens, list_of, exprs_of, arguments, start, args, all_params, spread_call, given_params, bound_from, bound_params, param_name, body_seen}

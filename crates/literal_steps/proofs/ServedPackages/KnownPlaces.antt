@@ -2,16 +2,16 @@
 use Rattle.std.specs.Prelude.{◌≡◌, refl, ℕ, suc, true, false, ◌||◌, List, [], ◌++◌, Option, Some, None, if◌then◌else◌}
 use mathlib.Core.Path.{◌∙◌}
 use Rattle.go_tree.specs.Tree.{NameAt, Sig, TypeExpr, Expr, func_lit, Exprs, Stmt, StmtOption, RangeLeft, Arms, no_arms, arm}
-use Rattle.go_tree.specs.ScopeNames.Binders.{expr_binders, stmt_binders, stmts_binders, stmt_option_binders, left_binders, arms_binders}
-use Rattle.go_tree.specs.ScopeNames.FreeNames.{names_of, sig_names}
-use Rattle.go_tree.specs.ScopeNames.Scopes as scopes
-use Rattle.go_tree.specs.ScopeNames.Scopes.{not_blank, specs_declare, with_name, param_names, sig_declares}
-use Rattle.go_tree.specs.GoTypes.Answers.{is_among}
-use Rattle.go_tree.specs.GoTypes.Bodies.{body_ctx, literal_env}
-use Rattle.go_tree.specs.GoTypes.Entities.{Env, Binds, extend, in_block}
-use Rattle.go_tree.specs.GoTypes.Statements.{bound_names}
-use Rattle.go_tree.specs.GoTypes.TypeNames.{func_type}
-use Rattle.go_tree.specs.GoTypes.Types.{FuncType}
+use Rattle.go_rules.specs.ScopeNames.Binders.{expr_binders, stmt_binders, stmts_binders, stmt_option_binders, left_binders, arms_binders}
+use Rattle.go_rules.specs.ScopeNames.FreeNames.{names_of, sig_names}
+use Rattle.go_rules.specs.ScopeNames.Scopes as scopes
+use Rattle.go_rules.specs.ScopeNames.Scopes.{not_blank, specs_declare, with_name, param_names, sig_declares}
+use Rattle.go_rules.specs.GoTypes.Answers.{is_among}
+use Rattle.go_rules.specs.GoTypes.Bodies.{body_ctx, literal_env}
+use Rattle.go_rules.specs.GoTypes.Entities.{Env, Binds, extend, in_block}
+use Rattle.go_rules.specs.GoTypes.Statements.{bound_names}
+use Rattle.go_rules.specs.GoTypes.TypeNames.{func_type}
+use Rattle.go_rules.specs.GoTypes.Types.{FuncType}
 use Rattle.form_meaning.specs.FormInPlace.Bound.{stmt_binds, first_binds, range_left_binds, literal_binds, variable_binds}
 use Rattle.run_rules.specs.Places.{after_arms}
 use Rattle.run_rules.specs.Surroundings.{Slot, Place, callee_place, after_stmt, after_first, first_declares, left_declares, block, ranged, in_literal, after_variables}

@@ -5,11 +5,11 @@ use Rattle.std.specs.List.{list_any, list_all}
 use Rattle.std.proofs.Common.{arith}
 use Rattle.go_tree.specs.declared.exprs.Rest.TheVariants.{Plain}
 use Rattle.go_tree.specs.Tree.{TypeExpr, named, pointer, slice_type, map_type, struct_type, Fields, no_fields, field, Expr, ident, int_lit, rune_lit, str_lit, composite, selector, index, slice, call, func_lit, type_operand, unary, binary, star, const_decl}
-use Rattle.go_tree.specs.ScopeNames.FreeNames.{names_of}
+use Rattle.go_rules.specs.ScopeNames.FreeNames.{names_of}
 use Rattle.pkg_graph.specs.Members.{Target, package_block}
 use Rattle.pkg_graph.specs.Package.{Package, import_specs}
-use Rattle.go_tree.proofs.GoTypes.Agreeing.{from_given, some_same}
-use Rattle.go_tree.specs.GoTypes.Answers.{given}
+use Rattle.go_rules.proofs.GoTypes.Agreeing.{from_given, some_same}
+use Rattle.go_rules.specs.GoTypes.Answers.{given}
 use Rattle.go_translation.specs.Here.{Here}
 use Rattle.go_translation.specs.Packages as translated
 use Rattle.run_rules.specs.Calls.{Call, body_seen}
@@ -94,7 +94,7 @@ module _ {S : Type 0} (ps : List (Package S)) (home : Where S) (to : ℕ) (binde
   fit_back (x ∷ xs) ys a = fit_back xs ys a.1
 
   -- a name that serves for each package that stands unnamed, at each such place
-  module _ (names : Names) (there : Rattle.go_tree.specs.ScopeNames.Means.Environment Rattle.go_tree.specs.GoTypes.Entities.Entity)
+  module _ (names : Names) (there : Rattle.go_rules.specs.ScopeNames.Means.Environment Rattle.go_rules.specs.GoTypes.Entities.Entity)
       (around : List (List ℕ))
       (serves : (p : Place S) → Inside ps home to binders p → (k : ℕ) → Has ps home to binders k ids →
       package_number ps (package_path ps k) ≡ k → Serves names there around p k) where
@@ -258,10 +258,10 @@ module _ {S : Type 0} (same : S → S → Bool) (commented : ℕ → ℕ → S �
       ]) f) ∙ called in
       let g = from_given (slice_get rs k) (λ p. members_in k (package_block k p) v.name) x.mark
       (marked_so rs marks is_free_function (member_of rs k v.name) x.mark m) in
-      let r : Rattle.go_tree.specs.ScopeNames.Means.means (block_from k 0 (map (linked_file rs) (g.0).files)) v.name ≡ Some
+      let r : Rattle.go_rules.specs.ScopeNames.Means.means (block_from k 0 (map (linked_file rs) (g.0).files)) v.name ≡ Some
       (member_of_mark x.mark) =
-      sym (ap (λ b. Rattle.go_tree.specs.ScopeNames.Means.means b v.name) (linked_block rs k g.0)) ∙ named_member
-      (Rattle.go_tree.specs.ScopeNames.Means.means (package_block k g.0) v.name) x.mark g.2 in
+      sym (ap (λ b. Rattle.go_rules.specs.ScopeNames.Means.means b v.name) (linked_block rs k g.0)) ∙ named_member
+      (Rattle.go_rules.specs.ScopeNames.Means.means (package_block k g.0) v.name) x.mark g.2 in
       let is : x.mark.«package» ≡ k = package_found k 0 (map (linked_file rs) (g.0).files) v.name x.mark.«package»
       x.mark.file x.mark.decl x.mark.item r in
       sym is ∙ sym mark_stands.number

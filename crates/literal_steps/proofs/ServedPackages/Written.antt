@@ -5,13 +5,13 @@ use Rattle.std.specs.List.{list_any}
 use Rattle.std.proofs.Common.{arith}
 use Rattle.std.proofs.lemmas.Slice.Eq.{bytes_eq-Decides}
 use Rattle.go_tree.specs.Tree.{NameAt, TypeExpr, named, pointer, slice_type, map_type, struct_type, Fields, no_fields, field, Expr, ident, selector}
-use Rattle.go_tree.specs.ScopeNames.FreeNames.{names_of}
-use Rattle.go_tree.specs.ScopeNames.Identifiers.{name_option, type_identifiers, fields_identifiers, expr_identifiers}
-use Rattle.go_tree.specs.ScopeNames.Means.{means}
+use Rattle.go_rules.specs.ScopeNames.FreeNames.{names_of}
+use Rattle.go_rules.specs.ScopeNames.Identifiers.{name_option, type_identifiers, fields_identifiers, expr_identifiers}
+use Rattle.go_rules.specs.ScopeNames.Means.{means}
 use Rattle.pkg_graph.specs.Package.{Package}
 use Rattle.pkg_graph.specs.Members.{Target, member}
-use Rattle.go_tree.specs.GoTypes.Answers.{given, is_among, otherwise}
-use Rattle.go_tree.proofs.GoTypes.Agreeing.{from_given}
+use Rattle.go_rules.specs.GoTypes.Answers.{given, is_among, otherwise}
+use Rattle.go_rules.proofs.GoTypes.Agreeing.{from_given}
 use Rattle.run_rules.specs.BodyItems.{number_of}
 use Rattle.run_rules.specs.Calls.{Call, all_params, declared_place}
 use Rattle.run_rules.specs.Forms.{body_expr, chosen_arg, param_number}

@@ -1,9 +1,9 @@
 -- The place of a call where names of packages stand besides, as in a file whose imports are added (Go specification,
 -- Import declarations; Declarations and scope; Qualified identifiers).
 use Rattle.std.specs.Prelude.{◌≡◌, ℕ, true, false, List, ◌++◌, None, is_some}
-use Rattle.go_tree.specs.ScopeNames.Means.{Environment, means, is_blank}
+use Rattle.go_rules.specs.ScopeNames.Means.{Environment, means, is_blank}
 use Rattle.pkg_graph.specs.Package.{Package}
-use Rattle.go_tree.specs.GoTypes.Entities.{Entity, meaning}
+use Rattle.go_rules.specs.GoTypes.Entities.{Entity, meaning}
 use Rattle.go_translation.specs.Here.{Here}
 use Rattle.go_translation.specs.Packages as translated
 use Rattle.go_translation.specs.Packages.{paths_in}

@@ -1,7 +1,7 @@
 -- The file of a use with the imports that its form adds, among packages that declare what they declared (Go
 -- specification, Import declarations; Declarations and scope).
 use Rattle.std.specs.Prelude.{◌≡◌, ℕ, true, List, [], ◌∷◌, ◌++◌, map}
-use Rattle.go_tree.specs.GoTypes.Programs.{block_names}
+use Rattle.go_rules.specs.GoTypes.Programs.{block_names}
 use Rattle.pkg_graph.specs.Members.{package_name}
 use Rattle.pkg_graph.specs.Package.{Package, import_specs}
 use Rattle.run_rules.specs.Naming.{Named, imports_added, own_name, package_path}

@@ -1,10 +1,10 @@
 -- A method's declaration by its numbers, and its header (Go specification, Method declarations; Package block).
 use Rattle.std.specs.Prelude.{◌≡◌, ℕ, true, List, [], Some, slice_get}
 use Rattle.go_tree.specs.File.{Receiver, Func, func}
-use Rattle.go_tree.specs.GoTypes.Programs.{SourceFile, SourcePackage, Program, Headed, a_func, block_names, file_block}
-use Rattle.go_tree.specs.GoTypes.Programs.{is_main}
-use Rattle.go_tree.specs.GoTypes.Collect.{collected}
-use Rattle.go_tree.specs.GoTypes.MethodDeclarations.{receiver_type}
+use Rattle.go_rules.specs.GoTypes.Programs.{SourceFile, SourcePackage, Program, Headed, a_func, block_names, file_block}
+use Rattle.go_rules.specs.GoTypes.Programs.{is_main}
+use Rattle.go_rules.specs.GoTypes.Collect.{collected}
+use Rattle.go_rules.specs.GoTypes.MethodDeclarations.{receiver_type}
 use Rattle.constant_steps.specs.Alone.{PackageAt}
 
 module _ {S : Type 0} where

@@ -4,14 +4,14 @@ use Rattle.std.specs.Prelude.{◌≡◌, ℕ, Bool, false, List, ◌∷◌, map,
 use Rattle.go_tree.specs.declared.exprs.Rest.TheVariants.{Plain}
 use Rattle.go_tree.specs.Tree.{NameAt, Param, Expr, selector, call, func_lit, Exprs, expr_and}
 use Rattle.go_tree.specs.File.{Receiver}
-use Rattle.go_tree.specs.ScopeNames.FreeNames.{names_of}
+use Rattle.go_rules.specs.ScopeNames.FreeNames.{names_of}
 use Rattle.pkg_graph.specs.Package.{Package}
 use Rattle.param_choice.specs.Chosen.{has}
-use Rattle.go_tree.specs.GoTypes.Types.{GoType, FuncType}
-use Rattle.go_tree.specs.GoTypes.Entities.{Content}
-use Rattle.go_tree.specs.GoTypes.Operands.{value, a_function, is_shift}
-use Rattle.go_tree.specs.GoTypes.MethodDeclarations.{receiver_type}
-use Rattle.go_tree.specs.GoTypes.Typing.{parts}
+use Rattle.go_rules.specs.GoTypes.Types.{GoType, FuncType}
+use Rattle.go_rules.specs.GoTypes.Entities.{Content}
+use Rattle.go_rules.specs.GoTypes.Operands.{value, a_function, is_shift}
+use Rattle.go_rules.specs.GoTypes.MethodDeclarations.{receiver_type}
+use Rattle.go_rules.specs.GoTypes.Typing.{parts}
 use Rattle.go_translation.specs.Here.{Here}
 use Rattle.run_rules.specs.Programs.{world, headed_func, receiver_param}
 use Rattle.run_rules.specs.Calls.{list_of, receiver_for}

@@ -4,8 +4,8 @@ use Rattle.std.specs.Prelude.{◌≡◌, ℕ, Bool, true, not, List, [], ◌∷�
 use Rattle.std.specs.Prelude.{if◌then◌else◌, slice_get}
 use Rattle.go_tree.specs.File.{Func, func}
 use Rattle.pkg_graph.specs.Package.{Package}
-use Rattle.go_tree.specs.GoTypes.Answers.{given, meets}
-use Rattle.go_tree.specs.GoTypes.WellTyped.{well_typed}
+use Rattle.go_rules.specs.GoTypes.Answers.{given, meets}
+use Rattle.go_rules.specs.GoTypes.WellTyped.{well_typed}
 use Rattle.go_kernel.specs.Kernel.{ImportPath, FuncName, same_text}
 use Rattle.go_translation.specs.Packages as translated
 use Rattle.go_translation.specs.Packages.{sources, paths_in, are_distinct}

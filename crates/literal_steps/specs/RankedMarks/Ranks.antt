@@ -2,7 +2,7 @@
 -- declarations).
 use Rattle.std.specs.Prelude.{ℕ, suc, Bool, ◌&&◌, ◌||◌, List, [], ◌∷◌, if◌then◌else◌}
 use Rattle.pkg_graph.specs.Package.{Package}
-use Rattle.go_tree.specs.GoTypes.Answers.{meets}
+use Rattle.go_rules.specs.GoTypes.Answers.{meets}
 use Rattle.run_rules.specs.Sites.{MarkRef, is_among_marks, inlinable, is_function}
 use Rattle.run_rules.specs.Cycles.{leads_to}
 

@@ -4,15 +4,15 @@ use Rattle.std.specs.Prelude.{◌≡◌, ℕ, suc, Bool, true, List, ◌++◌, O
 use Rattle.std.specs.List.{list_any}
 use Rattle.go_tree.specs.declared.spans.Span.{Span}
 use Rattle.go_tree.specs.Tree.{TypeExpr, Expr, composite, Elems}
-use Rattle.go_tree.specs.ScopeNames.FreeNames.{names_of}
+use Rattle.go_rules.specs.ScopeNames.FreeNames.{names_of}
 use Rattle.pkg_graph.specs.Package.{Package}
-use Rattle.go_tree.specs.GoTypes.Collect.{collected}
-use Rattle.go_tree.specs.GoTypes.Entities.{Content, Env, is_exported, defined_in}
-use Rattle.go_tree.specs.GoTypes.Operands.{value}
-use Rattle.go_tree.specs.GoTypes.Primary.{fields_in}
-use Rattle.go_tree.specs.GoTypes.Programs.{Import, Program, file_block, file_env}
-use Rattle.go_tree.specs.GoTypes.Types.{GoType}
-use Rattle.go_tree.specs.GoTypes.Typing.{parts}
+use Rattle.go_rules.specs.GoTypes.Collect.{collected}
+use Rattle.go_rules.specs.GoTypes.Entities.{Content, Env, is_exported, defined_in}
+use Rattle.go_rules.specs.GoTypes.Operands.{value}
+use Rattle.go_rules.specs.GoTypes.Primary.{fields_in}
+use Rattle.go_rules.specs.GoTypes.Programs.{Import, Program, file_block, file_env}
+use Rattle.go_rules.specs.GoTypes.Types.{GoType}
+use Rattle.go_rules.specs.GoTypes.Typing.{parts}
 use Rattle.form_meaning.specs.FormInPlace.Bound.{literal_under}
 use Rattle.form_meaning.specs.FormInPlace.Leaves.{LiteralAlike}
 use Rattle.form_meaning.specs.FormInPlace.Places.{Landing, open_in}

@@ -1,17 +1,17 @@
 -- Types whose exported fields are seen everywhere, and what stands for values of such types (Go specification, Struct
 -- types; Exported identifiers; Selectors).
 use Rattle.std.specs.Prelude.{◌≡◌, ℕ, true, List, [], ◌∷◌, None}
-use Rattle.go_tree.specs.ScopeNames.Means.{Environment}
-use Rattle.go_tree.specs.GoTypes.Types.{GoType, basic, named_type, pointer_to, slice_of, map_of, struct_of, tuple_of}
-use Rattle.go_tree.specs.GoTypes.Types.{untyped}
-use Rattle.go_tree.specs.GoTypes.Types.{untyped_nil, GoFields, no_go_fields, go_field, FuncType}
-use Rattle.go_tree.specs.GoTypes.Defined.{Method, Defined}
-use Rattle.go_tree.specs.GoTypes.Entities.{Entity, variable, constant, stand_in, type_name, function, package_name}
-use Rattle.go_tree.specs.GoTypes.Entities.{builtin}
-use Rattle.go_tree.specs.GoTypes.Entities.{nil_name, iota_name, refused, World, Env, is_exported}
+use Rattle.go_rules.specs.ScopeNames.Means.{Environment}
+use Rattle.go_rules.specs.GoTypes.Types.{GoType, basic, named_type, pointer_to, slice_of, map_of, struct_of, tuple_of}
+use Rattle.go_rules.specs.GoTypes.Types.{untyped}
+use Rattle.go_rules.specs.GoTypes.Types.{untyped_nil, GoFields, no_go_fields, go_field, FuncType}
+use Rattle.go_rules.specs.GoTypes.Defined.{Method, Defined}
+use Rattle.go_rules.specs.GoTypes.Entities.{Entity, variable, constant, stand_in, type_name, function, package_name}
+use Rattle.go_rules.specs.GoTypes.Entities.{builtin}
+use Rattle.go_rules.specs.GoTypes.Entities.{nil_name, iota_name, refused, World, Env, is_exported}
 use Rattle.run_rules.specs.Calls.{place_of}
 use Rattle.run_rules.specs.Surroundings.{Seen}
-use Rattle.go_tree.specs.GoTypes.Operands.{Operand, value, several, a_type, a_function, a_builtin, recovered, Typed}
+use Rattle.go_rules.specs.GoTypes.Operands.{Operand, value, several, a_type, a_function, a_builtin, recovered, Typed}
 
 abbrev mutual
   -- each exported field of a struct in the type belongs to no package alone

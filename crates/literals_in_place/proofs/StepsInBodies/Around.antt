@@ -1,9 +1,9 @@
 -- A step in the body of a function: the function around leads to the one that is called, each import is used after it, and so packages show the same.
 use Rattle.std.proofs.Common.{◌≡◌, subst, ℕ, Bool, true, List, length}
 use Rattle.go_tree.specs.declared.spans.Span.{Span}
-use Rattle.go_tree.specs.ScopeNames.Means.{Environment}
+use Rattle.go_rules.specs.ScopeNames.Means.{Environment}
 use Rattle.go_tree.specs.Tree.{Expr}
-use Rattle.go_tree.specs.GoTypes.Entities.{Entity}
+use Rattle.go_rules.specs.GoTypes.Entities.{Entity}
 use Rattle.pkg_graph.specs.Package.{Package}
 use Rattle.go_kernel.specs.Kernel.{FuncName}
 use Rattle.go_translation.specs.Packages as translated

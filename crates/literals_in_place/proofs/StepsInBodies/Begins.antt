@@ -2,17 +2,17 @@
 use Rattle.std.proofs.Common.{◌≡◌, refl, ℕ, Bool, true, false, List, [], ◌++◌, Option, Some, None, append_assoc, ap, sym, ◌∙◌}
 use Rattle.go_tree.specs.File.{Receiver, Func, File}
 use Rattle.go_tree.specs.Tree.{NameAt, Param}
-use Rattle.go_tree.specs.ScopeNames.FreeNames.{names_of}
-use Rattle.go_tree.specs.ScopeNames.Means.{Environment, means}
-use Rattle.go_tree.specs.ScopeNames.Scopes.{not_blank, param_names}
-use Rattle.go_tree.specs.GoTypes.Answers.{given, otherwise, is_among}
-use Rattle.go_tree.specs.GoTypes.Collect.{env_of}
-use Rattle.go_tree.specs.GoTypes.Entities.{Binds, extend, in_block}
-use Rattle.go_tree.specs.GoTypes.Programs.{a_func, Headed}
-use Rattle.go_tree.specs.GoTypes.Statements.{body_binds}
-use Rattle.go_tree.specs.GoTypes.TypeNames.{func_type}
-use Rattle.go_tree.specs.GoTypes.Types.{FuncType}
-use Rattle.go_tree.specs.GoTypes.WellTyped.{receiver_of, body_env}
+use Rattle.go_rules.specs.ScopeNames.FreeNames.{names_of}
+use Rattle.go_rules.specs.ScopeNames.Means.{Environment, means}
+use Rattle.go_rules.specs.ScopeNames.Scopes.{not_blank, param_names}
+use Rattle.go_rules.specs.GoTypes.Answers.{given, otherwise, is_among}
+use Rattle.go_rules.specs.GoTypes.Collect.{env_of}
+use Rattle.go_rules.specs.GoTypes.Entities.{Binds, extend, in_block}
+use Rattle.go_rules.specs.GoTypes.Programs.{a_func, Headed}
+use Rattle.go_rules.specs.GoTypes.Statements.{body_binds}
+use Rattle.go_rules.specs.GoTypes.TypeNames.{func_type}
+use Rattle.go_rules.specs.GoTypes.Types.{FuncType}
+use Rattle.go_rules.specs.GoTypes.WellTyped.{receiver_of, body_env}
 use Rattle.pkg_graph.specs.Package.{Package}
 use Rattle.go_kernel.specs.Kernel.{ImportPath, named_result}
 use Rattle.go_translation.specs.Here.{Location, located_names, name_options}

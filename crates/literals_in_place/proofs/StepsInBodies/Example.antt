@@ -4,8 +4,8 @@ use Rattle.std.proofs.lemmas.Slice.Eq.{bytes_eq-Decides}
 use Rattle.std.specs.Prelude.{codes}
 use Rattle.go_tree.specs.declared.spans.Span.{Span}
 use Rattle.go_tree.specs.Tree.{Expr, ident, selector}
-use Rattle.go_tree.specs.GoTypes.Answers.{is_among}
-use Rattle.go_tree.specs.GoTypes.Typing.{used}
+use Rattle.go_rules.specs.GoTypes.Answers.{is_among}
+use Rattle.go_rules.specs.GoTypes.Typing.{used}
 use Rattle.imported_typing.proofs.ProgramsAlike.{nat_itself}
 use Rattle.go_translation.specs.Calls.{function_named}
 use Rattle.go_translation.specs.Packages.{paths_in}

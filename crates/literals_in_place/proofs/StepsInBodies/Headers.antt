@@ -4,12 +4,12 @@ use Rattle.std.specs.List.{list_all}
 use Rattle.std.specs.Prelude.{slice_get}
 use Rattle.std.proofs.lemmas.Option.{same_Some}
 use Rattle.go_tree.specs.File.{Func as Function, Decl, func}
-use Rattle.go_tree.specs.ScopeNames.Means.{Environment, is_blank}
+use Rattle.go_rules.specs.ScopeNames.Means.{Environment, is_blank}
 use Rattle.go_tree.specs.Tree.{Stmts}
-use Rattle.go_tree.specs.GoTypes.Answers.{is_among}
-use Rattle.go_tree.specs.GoTypes.Entities.{Entity, World}
-use Rattle.go_tree.specs.GoTypes.Programs.{Header, a_func, Headed, SourceFile, SourcePackage, headed_package, headed_files, headed_file, headers, all_headers, header_names, names_in, block_names, file_block, is_main, is_init, header_sound}
-use Rattle.go_tree.specs.GoTypes.Statements.{names_once}
+use Rattle.go_rules.specs.GoTypes.Answers.{is_among}
+use Rattle.go_rules.specs.GoTypes.Entities.{Entity, World}
+use Rattle.go_rules.specs.GoTypes.Programs.{Header, a_func, Headed, SourceFile, SourcePackage, headed_package, headed_files, headed_file, headers, all_headers, header_names, names_in, block_names, file_block, is_main, is_init, header_sound}
+use Rattle.go_rules.specs.GoTypes.Statements.{names_once}
 use Rattle.go_kernel.specs.Kernel.{ImportPath, FuncName}
 use Rattle.go_translation.specs.Here.{Here}
 use Rattle.typed_in_place.proofs.ProgramsReplaced.{append_one}

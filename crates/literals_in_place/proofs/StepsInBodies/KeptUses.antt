@@ -5,14 +5,14 @@ use Rattle.std.specs.Prelude.{nat_eq, slice_get}
 use Rattle.std.proofs.lemmas.Bool.{eq-eqb}
 use Rattle.std.proofs.lemmas.Option.{same_Some}
 use Rattle.go_tree.specs.File.{Decl}
-use Rattle.go_tree.specs.ScopeNames.FreeNames.{names_of}
+use Rattle.go_rules.specs.ScopeNames.FreeNames.{names_of}
 use Rattle.go_tree.specs.Tree.{Expr, Stmts}
-use Rattle.go_tree.specs.GoTypes.Answers.{is_among}
-use Rattle.go_tree.specs.GoTypes.Collect.{collected}
-use Rattle.go_tree.specs.GoTypes.Entities.{World, Env}
-use Rattle.go_tree.specs.GoTypes.Programs.{SourcePackage, Headed, headed, block_names}
-use Rattle.go_tree.specs.GoTypes.Typing.{used_stmts}
-use Rattle.go_tree.specs.GoTypes.WellTyped.{is_used_in}
+use Rattle.go_rules.specs.GoTypes.Answers.{is_among}
+use Rattle.go_rules.specs.GoTypes.Collect.{collected}
+use Rattle.go_rules.specs.GoTypes.Entities.{World, Env}
+use Rattle.go_rules.specs.GoTypes.Programs.{SourcePackage, Headed, headed, block_names}
+use Rattle.go_rules.specs.GoTypes.Typing.{used_stmts}
+use Rattle.go_rules.specs.GoTypes.WellTyped.{is_used_in}
 use Rattle.pkg_graph.specs.Package.{Package}
 use Rattle.go_kernel.specs.Kernel.{FuncName}
 use Rattle.go_translation.specs.Here.{Here}

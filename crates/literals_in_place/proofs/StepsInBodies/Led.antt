@@ -6,13 +6,13 @@ use Rattle.go_tree.specs.declared.exprs.Rest.TheVariants.{Plain}
 use Rattle.go_tree.specs.declared.spans.Span.{Span}
 use Rattle.go_tree.specs.File.{Receiver, Func, Decl, func}
 use Rattle.go_tree.specs.Tree.{Expr, ident, selector, call}
-use Rattle.go_tree.specs.ScopeNames.Means.{means, is_blank}
-use Rattle.go_tree.specs.GoTypes.Answers.{given, meets, is_among}
-use Rattle.go_tree.specs.GoTypes.Collect.{types_declared, valued_world}
-use Rattle.go_tree.specs.GoTypes.Programs.{SourcePackage, headed, headed_package, is_main}
-use Rattle.go_tree.specs.GoTypes.Programs as source
-use Rattle.go_tree.specs.GoTypes.MethodDeclarations.{receiver_type}
-use Rattle.go_tree.proofs.GoTypes.Agreeing.{from_given, some_same}
+use Rattle.go_rules.specs.ScopeNames.Means.{means, is_blank}
+use Rattle.go_rules.specs.GoTypes.Answers.{given, meets, is_among}
+use Rattle.go_rules.specs.GoTypes.Collect.{types_declared, valued_world}
+use Rattle.go_rules.specs.GoTypes.Programs.{SourcePackage, headed, headed_package, is_main}
+use Rattle.go_rules.specs.GoTypes.Programs as source
+use Rattle.go_rules.specs.GoTypes.MethodDeclarations.{receiver_type}
+use Rattle.go_rules.proofs.GoTypes.Agreeing.{from_given, some_same}
 use Rattle.go_kernel.specs.Kernel.{FuncName}
 use Rattle.go_translation.specs.Calls.{function_named, method_named}
 use Rattle.go_translation.specs.Packages as translated

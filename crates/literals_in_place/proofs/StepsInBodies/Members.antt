@@ -6,14 +6,14 @@ use Rattle.std.proofs.lemmas.Option.{same_Some}
 use Rattle.std.proofs.lemmas.Slice.Eq.{bytes_eq-Decides}
 use Rattle.go_tree.specs.File.{Receiver, Func, Decl, func}
 use Rattle.go_tree.specs.Tree.{NameAt}
-use Rattle.go_tree.specs.ScopeNames.FreeNames.{names_of}
-use Rattle.go_tree.specs.ScopeNames.Means.{Environment, means, is_blank, binding, or_else}
-use Rattle.go_tree.specs.GoTypes.Answers.{is_among, only_if}
-use Rattle.go_tree.specs.GoTypes.Collect.{DeclaredTypes}
-use Rattle.go_tree.specs.GoTypes.Declarations.{names_once}
-use Rattle.go_tree.specs.GoTypes.Entities.{Entity, World}
-use Rattle.go_tree.specs.GoTypes.Programs.{Header, a_func, Headed, SourceFile, headers, all_headers, header_names, header_sound, names_in, headed_file, headed_files, file_block, is_init}
-use Rattle.go_tree.specs.GoTypes.Programs as source
+use Rattle.go_rules.specs.ScopeNames.FreeNames.{names_of}
+use Rattle.go_rules.specs.ScopeNames.Means.{Environment, means, is_blank, binding, or_else}
+use Rattle.go_rules.specs.GoTypes.Answers.{is_among, only_if}
+use Rattle.go_rules.specs.GoTypes.Collect.{DeclaredTypes}
+use Rattle.go_rules.specs.GoTypes.Declarations.{names_once}
+use Rattle.go_rules.specs.GoTypes.Entities.{Entity, World}
+use Rattle.go_rules.specs.GoTypes.Programs.{Header, a_func, Headed, SourceFile, headers, all_headers, header_names, header_sound, names_in, headed_file, headed_files, file_block, is_init}
+use Rattle.go_rules.specs.GoTypes.Programs as source
 use Rattle.pkg_graph.specs.Members.{Target, member, block_names, unless_method, items_from, decls_from}
 use Rattle.constant_steps.proofs.FirstNames.{other_name}
 use Rattle.constant_steps.proofs.FormImports.Kept.{neither}

@@ -2,17 +2,17 @@
 use Rattle.std.proofs.Common.{◌≡◌, refl, ℕ, Bool, true, false, not, ◌||◌, List, [], ◌∷◌, ◌++◌, Option, Some, None, if◌then◌else◌, map, bytes_eq, append_assoc, ap, sym, ◌∙◌, subst, arith}
 use Rattle.std.proofs.lemmas.Slice.Eq.{bytes_eq-Decides}
 use Rattle.go_tree.specs.Tree.{NameAt, Param, Sig, Expr, Stmt, const_decl, var_decl, empty, eval, step, assign, define, return_, break_, continue_, inner, if_, for_, range_, switch, defer, label, Stmts, StmtOption, no_stmt, some_stmt, RangeLeft, ValueSpecs, no_specs, spec}
-use Rattle.go_tree.specs.ScopeNames.FreeNames.{names_of, sig_names}
-use Rattle.go_tree.specs.ScopeNames.Means.{Environment, means, is_blank}
-use Rattle.go_tree.specs.ScopeNames.Scopes as scopes
-use Rattle.go_tree.specs.ScopeNames.Scopes.{not_blank, with_name, param_names, specs_declare, sig_declares}
-use Rattle.go_tree.specs.GoTypes.Answers.{given, is_among}
-use Rattle.go_tree.specs.GoTypes.Bodies.{literal_env}
-use Rattle.go_tree.specs.GoTypes.Declarations.{binds_or}
-use Rattle.go_tree.specs.GoTypes.Entities.{Env, Binds, extend, in_block}
-use Rattle.go_tree.specs.GoTypes.Statements.{bound_names, body_binds}
-use Rattle.go_tree.specs.GoTypes.TypeNames.{func_type}
-use Rattle.go_tree.specs.GoTypes.Types.{FuncType}
+use Rattle.go_rules.specs.ScopeNames.FreeNames.{names_of, sig_names}
+use Rattle.go_rules.specs.ScopeNames.Means.{Environment, means, is_blank}
+use Rattle.go_rules.specs.ScopeNames.Scopes as scopes
+use Rattle.go_rules.specs.ScopeNames.Scopes.{not_blank, with_name, param_names, specs_declare, sig_declares}
+use Rattle.go_rules.specs.GoTypes.Answers.{given, is_among}
+use Rattle.go_rules.specs.GoTypes.Bodies.{literal_env}
+use Rattle.go_rules.specs.GoTypes.Declarations.{binds_or}
+use Rattle.go_rules.specs.GoTypes.Entities.{Env, Binds, extend, in_block}
+use Rattle.go_rules.specs.GoTypes.Statements.{bound_names, body_binds}
+use Rattle.go_rules.specs.GoTypes.TypeNames.{func_type}
+use Rattle.go_rules.specs.GoTypes.Types.{FuncType}
 use Rattle.go_kernel.specs.Kernel.{Name, ImportPath, named_result}
 use Rattle.go_translation.specs.Facts.{binds_after, binds_first, spec_binds, literal_names, following, after}
 use Rattle.go_translation.specs.Here.{Here, in_inner, Location, location_at, entity_location, located, declaring, located_names, name_option, name_options, param_locals, result_locals, at_body}

@@ -1,7 +1,7 @@
 -- A free function has a lower rank than a function that leads to it, where that is marked.
 use Rattle.std.proofs.Common.{◌≡◌, ◌<◌, ◌≤◌, refl, ℕ, suc, Bool, true, false, not, List, length, Option, Some, None, if◌then◌else◌, ap, sym, subst, arith}
 use Rattle.pkg_graph.specs.Package.{Package}
-use Rattle.go_tree.specs.GoTypes.Answers.{meets}
+use Rattle.go_rules.specs.GoTypes.Answers.{meets}
 use Rattle.go_kernel.specs.Kernel.{FuncName}
 use Rattle.go_translation.specs.Packages as translated
 use Rattle.go_translation.specs.Packages.{paths_in}

@@ -1,18 +1,18 @@
 -- A name that a body uses is used in the body in which another part stands for one, where the other uses it if the one does.
 use Rattle.std.proofs.Common.{◌≡◌, refl, sym, ap, ◌∙◌, subst, arith, ℕ, zero, suc, Bool, true, false, not, ◌&&◌, ◌||◌, List, [], ◌∷◌, ◌++◌, Option, Some, if◌then◌else◌}
 use Rattle.go_tree.specs.Tree.{Sig, Expr, ident, int_lit, rune_lit, str_lit, func_lit, Exprs, no_exprs, expr_and, some_expr, Elems, Value, Stmt, Stmts, StmtOption, BlockOption, Arms, Cases}
-use Rattle.go_tree.specs.ScopeNames.FreeNames.{sig_names, declared, declared_option, defined}
-use Rattle.go_tree.specs.ScopeNames.Means.{is_blank}
-use Rattle.go_tree.specs.GoTypes.Answers.{given, meets, is_among, without}
-use Rattle.go_tree.specs.GoTypes.Declarations.{beyond, binds_of}
-use Rattle.go_tree.specs.GoTypes.Defined.{under}
-use Rattle.go_tree.specs.GoTypes.Entities.{Env, Binds, defined_in, extend, in_block}
-use Rattle.go_tree.specs.GoTypes.Literals.{is_struct, inner_type, key_type, literal_type}
-use Rattle.go_tree.specs.GoTypes.Operands.{Operand}
-use Rattle.go_tree.specs.GoTypes.Statements.{bound_names, body_binds}
-use Rattle.go_tree.specs.GoTypes.TypeNames.{type_meant, func_type}
-use Rattle.go_tree.specs.GoTypes.Types.{GoType, FuncType}
-use Rattle.go_tree.specs.GoTypes.Typing.{used, used_all, used_option, used_elems, used_value, used_left, used_stmt, used_stmts, used_first, used_block, used_arms, used_cases, range_declares}
+use Rattle.go_rules.specs.ScopeNames.FreeNames.{sig_names, declared, declared_option, defined}
+use Rattle.go_rules.specs.ScopeNames.Means.{is_blank}
+use Rattle.go_rules.specs.GoTypes.Answers.{given, meets, is_among, without}
+use Rattle.go_rules.specs.GoTypes.Declarations.{beyond, binds_of}
+use Rattle.go_rules.specs.GoTypes.Defined.{under}
+use Rattle.go_rules.specs.GoTypes.Entities.{Env, Binds, defined_in, extend, in_block}
+use Rattle.go_rules.specs.GoTypes.Literals.{is_struct, inner_type, key_type, literal_type}
+use Rattle.go_rules.specs.GoTypes.Operands.{Operand}
+use Rattle.go_rules.specs.GoTypes.Statements.{bound_names, body_binds}
+use Rattle.go_rules.specs.GoTypes.TypeNames.{type_meant, func_type}
+use Rattle.go_rules.specs.GoTypes.Types.{GoType, FuncType}
+use Rattle.go_rules.specs.GoTypes.Typing.{used, used_all, used_option, used_elems, used_value, used_left, used_stmt, used_stmts, used_first, used_block, used_arms, used_cases, range_declares}
 use Rattle.form_meaning.proofs.FormInPlace.Uses.{among_append, among_without}
 use Rattle.go_translation.specs.Facts.{binds_after, binds_first, literal_names, after}
 use Rattle.go_translation.specs.Here.{Here, in_inner, at_body}

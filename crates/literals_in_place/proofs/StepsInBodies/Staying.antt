@@ -2,16 +2,16 @@
 use Rattle.std.proofs.Common.{◌≡◌, refl, sym, ap, ◌∙◌, ℕ, Bool, true, false, not, ◌||◌, List, [], ◌∷◌, ◌++◌, Option, Some, None, if◌then◌else◌, bytes_eq, arith}
 use Rattle.std.proofs.lemmas.Slice.Eq.{bytes_eq-Decides}
 use Rattle.go_tree.specs.Tree.{NameAt, Param, Sig, TypeExpr, Expr, call, no_exprs, expr_and, ExprOption, no_expr, some_expr, Elems, no_elems, elem, Value, plain, braced, ValueOption, no_value, some_value, Stmt, const_decl, var_decl, empty, eval, step, assign, define, return_, break_, continue_, inner, if_, for_, range_, switch, defer, label, StmtOption, no_stmt, some_stmt, BlockOption, no_block, some_block, RangeLeft, nothing, assigns, defines, Arms, no_arms, arm, Cases, no_cases, case, ValueSpecs, no_specs, spec}
-use Rattle.go_tree.specs.ScopeNames.FreeNames.{names_of, sig_names, params_names, specs_names, declared, declared_option, defined}
-use Rattle.go_tree.specs.ScopeNames.Means.{is_blank}
-use Rattle.go_tree.specs.ScopeNames.Scopes as scopes
-use Rattle.go_tree.specs.ScopeNames.Scopes.{not_blank, new_names, with_name, param_names, specs_declare, sig_declares}
-use Rattle.go_tree.specs.GoTypes.Answers.{given, meets, is_among}
-use Rattle.go_tree.specs.GoTypes.Defined.{under}
-use Rattle.go_tree.specs.GoTypes.Entities.{Env, defined_in, in_block}
-use Rattle.go_tree.specs.GoTypes.Literals.{is_struct, inner_type, key_type, literal_type}
-use Rattle.go_tree.specs.GoTypes.Types.{GoType}
-use Rattle.go_tree.specs.GoTypes.Typing.{used, used_left}
+use Rattle.go_rules.specs.ScopeNames.FreeNames.{names_of, sig_names, params_names, specs_names, declared, declared_option, defined}
+use Rattle.go_rules.specs.ScopeNames.Means.{is_blank}
+use Rattle.go_rules.specs.ScopeNames.Scopes as scopes
+use Rattle.go_rules.specs.ScopeNames.Scopes.{not_blank, new_names, with_name, param_names, specs_declare, sig_declares}
+use Rattle.go_rules.specs.GoTypes.Answers.{given, meets, is_among}
+use Rattle.go_rules.specs.GoTypes.Defined.{under}
+use Rattle.go_rules.specs.GoTypes.Entities.{Env, defined_in, in_block}
+use Rattle.go_rules.specs.GoTypes.Literals.{is_struct, inner_type, key_type, literal_type}
+use Rattle.go_rules.specs.GoTypes.Types.{GoType}
+use Rattle.go_rules.specs.GoTypes.Typing.{used, used_left}
 use Rattle.typed_in_place.specs.SameFacts.{SameOperand}
 use Rattle.typed_in_place.specs.Replaced as replaced
 use Rattle.typed_in_place.specs.Replaced.{same_type, TypeOptionReplaced, no_type, some_type, SameName, no_name, one_name, ParamsReplaced, no_params, in_param, SigReplaced, ExprReplaced, same_operand, ExprsReplaced, in_exprs, ExprOptionReplaced, no_expr_here, in_expr_option, ElemsReplaced, no_more_elems, in_elems, ValueReplaced, in_plain, in_braces, KeyReplaced, no_key, same_field, in_key, StmtReplaced, same_statement, StmtsReplaced, in_stmts, FirstReplaced, no_first, BlockReplaced, no_last, in_last, LeftReplaced, no_left, in_defines, ArmsReplaced, no_more_arms, in_arms, CasesReplaced, no_more_cases, in_cases, VariablesReplaced, no_more_variables, in_variables}

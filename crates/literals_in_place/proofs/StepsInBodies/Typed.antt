@@ -1,19 +1,19 @@
 -- A body in which a part stands for another with the same facts is one with a part replaced, as the rules of typing have it.
 use Rattle.std.proofs.Common.{◌≡◌, refl, sym, ap, ◌∙◌, subst, ℕ, zero, suc, Bool, true, false, List, [], ◌∷◌, ◌++◌, Option, Some, map}
 use Rattle.go_tree.specs.Tree.{NameAt, Sig, Expr, func_lit, Exprs, some_expr, Elems, Value, some_value, Stmt, Stmts, StmtOption, no_stmt, some_stmt, BlockOption, RangeLeft, Arms, Cases}
-use Rattle.go_tree.specs.ScopeNames.FreeNames.{names_of, sig_names, declared, declared_option, defined}
-use Rattle.go_tree.specs.ScopeNames.Means.{is_blank}
-use Rattle.go_tree.specs.ScopeNames.Scopes as scopes
-use Rattle.go_tree.specs.ScopeNames.Scopes.{not_blank, new_names, with_name, param_names, specs_declare, sig_declares}
-use Rattle.go_tree.specs.GoTypes.Answers.{given, meets, is_among}
-use Rattle.go_tree.specs.GoTypes.Declarations.{binds_or}
-use Rattle.go_tree.specs.GoTypes.Defined.{under}
-use Rattle.go_tree.specs.GoTypes.Entities.{Env, Binds, defined_in, extend, in_block}
-use Rattle.go_tree.specs.GoTypes.Literals.{field_key, is_struct, inner_type, key_type, literal_type}
-use Rattle.go_tree.specs.GoTypes.Statements.{bound_names, body_binds}
-use Rattle.go_tree.specs.GoTypes.TypeNames.{type_meant, func_type}
-use Rattle.go_tree.specs.GoTypes.Types.{GoType, FuncType}
-use Rattle.go_tree.specs.GoTypes.Typing.{parts}
+use Rattle.go_rules.specs.ScopeNames.FreeNames.{names_of, sig_names, declared, declared_option, defined}
+use Rattle.go_rules.specs.ScopeNames.Means.{is_blank}
+use Rattle.go_rules.specs.ScopeNames.Scopes as scopes
+use Rattle.go_rules.specs.ScopeNames.Scopes.{not_blank, new_names, with_name, param_names, specs_declare, sig_declares}
+use Rattle.go_rules.specs.GoTypes.Answers.{given, meets, is_among}
+use Rattle.go_rules.specs.GoTypes.Declarations.{binds_or}
+use Rattle.go_rules.specs.GoTypes.Defined.{under}
+use Rattle.go_rules.specs.GoTypes.Entities.{Env, Binds, defined_in, extend, in_block}
+use Rattle.go_rules.specs.GoTypes.Literals.{field_key, is_struct, inner_type, key_type, literal_type}
+use Rattle.go_rules.specs.GoTypes.Statements.{bound_names, body_binds}
+use Rattle.go_rules.specs.GoTypes.TypeNames.{type_meant, func_type}
+use Rattle.go_rules.specs.GoTypes.Types.{GoType, FuncType}
+use Rattle.go_rules.specs.GoTypes.Typing.{parts}
 use Rattle.go_translation.specs.Facts.{binds_after, binds_first, literal_names, after}
 use Rattle.go_translation.specs.Here.{Here, in_inner, name_options, at_body}
 use Rattle.go_translation.specs.Mentions.{Mention, mentions_stmts}

@@ -1,17 +1,17 @@
 -- Packages with a form in the place of a call that has the same facts: each body is typed as before.
 use Rattle.std.proofs.Common.{◌≡◌, ◌≤◌, refl, sym, ap, ◌∙◌, subst, ℕ, suc, Bool, true, false, ◌&&◌, ◌||◌, List, [], Option, Some, None, bytes_eq}
 use Rattle.go_tree.specs.File.{Func}
-use Rattle.go_tree.specs.ScopeNames.FreeNames.{names_of}
+use Rattle.go_rules.specs.ScopeNames.FreeNames.{names_of}
 use Rattle.go_tree.specs.Tree.{Expr, Stmts}
-use Rattle.go_tree.specs.GoTypes.Answers.{given, meets, otherwise, is_among, is_empty, distinct_by}
-use Rattle.go_tree.specs.GoTypes.Bodies.{body_ctx}
-use Rattle.go_tree.specs.GoTypes.Collect.{env_of, collected}
-use Rattle.go_tree.specs.GoTypes.Entities.{World, Env, Binds, extend, in_block}
-use Rattle.go_tree.specs.GoTypes.Programs.{a_func, Headed, headed}
-use Rattle.go_tree.specs.GoTypes.Statements.{body_binds}
-use Rattle.go_tree.specs.GoTypes.TypeNames.{func_type}
-use Rattle.go_tree.specs.GoTypes.Types.{FuncType}
-use Rattle.go_tree.specs.GoTypes.WellTyped.{receiver_of, body_env, body_ok}
+use Rattle.go_rules.specs.GoTypes.Answers.{given, meets, otherwise, is_among, is_empty, distinct_by}
+use Rattle.go_rules.specs.GoTypes.Bodies.{body_ctx}
+use Rattle.go_rules.specs.GoTypes.Collect.{env_of, collected}
+use Rattle.go_rules.specs.GoTypes.Entities.{World, Env, Binds, extend, in_block}
+use Rattle.go_rules.specs.GoTypes.Programs.{a_func, Headed, headed}
+use Rattle.go_rules.specs.GoTypes.Statements.{body_binds}
+use Rattle.go_rules.specs.GoTypes.TypeNames.{func_type}
+use Rattle.go_rules.specs.GoTypes.Types.{FuncType}
+use Rattle.go_rules.specs.GoTypes.WellTyped.{receiver_of, body_env, body_ok}
 use Rattle.pkg_graph.specs.Package.{Package}
 use Rattle.go_kernel.specs.Kernel.{ImportPath, FuncName}
 use Rattle.go_translation.specs.Here.{Here}

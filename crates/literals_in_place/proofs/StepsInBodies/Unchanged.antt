@@ -2,7 +2,7 @@
 use Rattle.std.specs.Prelude.{◌≡◌, refl, ℕ, Bool, false, List, [], ◌∷◌, Option, Some, None, if◌then◌else◌}
 use mathlib.Core.Path.{ap, sym, ◌∙◌}
 use Rattle.go_tree.specs.Tree.{TypeExpr, Sig, Expr, func_lit, type_operand, ExprOption, no_expr, some_expr, Elems, no_elems, elem, Value, plain, braced, ValueOption, Stmt, if_, range_, switch, Stmts, no_stmts, stmt_and, StmtOption, no_stmt, some_stmt, BlockOption, no_block, RangeLeft, Arms, no_arms, Cases}
-use Rattle.go_tree.specs.GoTypes.Types.{GoType}
+use Rattle.go_rules.specs.GoTypes.Types.{GoType}
 use Rattle.run_rules.proofs.WalksAlike.{elems-alike, key-alike, value-alike, stmt-alike, stmts-alike, block-alike, left-alike, arms-alike, cases-alike}
 use Rattle.run_rules.specs.FormTrees.{keep_span}
 use Rattle.run_rules.specs.Places.{option_seen, elems_seen, key_seen, value_seen, stmt_seen, stmts_seen, first_seen, block_seen, left_seen, arms_seen, cases_seen}

@@ -3,17 +3,17 @@ use Rattle.std.proofs.Common.{◌≡◌, refl, subst, inl, inr, ℕ, Bool, true,
 use Rattle.std.specs.Prelude.{slice_get}
 use Rattle.go_tree.specs.File.{Receiver, Func, func}
 use Rattle.go_tree.specs.Tree.{Expr}
-use Rattle.go_tree.specs.GoTypes.Answers.{is_empty, distinct_by}
-use Rattle.go_tree.specs.GoTypes.Bodies.{body_ctx, is_body}
-use Rattle.go_tree.specs.GoTypes.Collect.{DeclaredTypes, types_declared}
-use Rattle.go_tree.specs.GoTypes.Entities.{Env}
-use Rattle.go_tree.specs.GoTypes.Jumps.{labels_in}
-use Rattle.go_tree.specs.GoTypes.MethodDeclarations.{receiver_type}
-use Rattle.go_tree.specs.GoTypes.Programs.{SourcePackage, headed, block_names, is_main, file_env}
-use Rattle.go_tree.specs.GoTypes.TypeNames.{func_type}
-use Rattle.go_tree.specs.GoTypes.Types.{FuncType}
-use Rattle.go_tree.specs.GoTypes.Typing.{stmts}
-use Rattle.go_tree.specs.GoTypes.WellTyped.{well_typed}
+use Rattle.go_rules.specs.GoTypes.Answers.{is_empty, distinct_by}
+use Rattle.go_rules.specs.GoTypes.Bodies.{body_ctx, is_body}
+use Rattle.go_rules.specs.GoTypes.Collect.{DeclaredTypes, types_declared}
+use Rattle.go_rules.specs.GoTypes.Entities.{Env}
+use Rattle.go_rules.specs.GoTypes.Jumps.{labels_in}
+use Rattle.go_rules.specs.GoTypes.MethodDeclarations.{receiver_type}
+use Rattle.go_rules.specs.GoTypes.Programs.{SourcePackage, headed, block_names, is_main, file_env}
+use Rattle.go_rules.specs.GoTypes.TypeNames.{func_type}
+use Rattle.go_rules.specs.GoTypes.Types.{FuncType}
+use Rattle.go_rules.specs.GoTypes.Typing.{stmts}
+use Rattle.go_rules.specs.GoTypes.WellTyped.{well_typed}
 use Rattle.go_kernel.specs.Kernel.{FuncName}
 use Rattle.go_translation.specs.Calls.{function_named, method_named}
 use Rattle.go_translation.specs.Packages as translated

@@ -1,16 +1,16 @@
 -- In a typed group of constants nothing calls a function.
 use Rattle.std.proofs.Common.{◌≡◌, refl, sym, ap, ◌∙◌, subst, ℕ, suc, ◌+◌, true, List, [], ◌∷◌, ◌++◌, Option, Some, None, arith}
 use Rattle.go_tree.specs.Tree.{TypeExpr, Exprs, no_exprs, expr_and, ValueSpecs, no_specs, spec}
-use Rattle.go_tree.specs.ScopeNames.FreeNames.{names_of}
-use Rattle.go_tree.specs.ScopeNames.Means.{binding}
-use Rattle.go_tree.specs.GoTypes.Answers.{given, both, meets}
-use Rattle.go_tree.specs.GoTypes.Types.{GoType}
-use Rattle.go_tree.specs.GoTypes.Entities.{run, exact, shift, Entity, Env, Binds, defined_in, extend}
-use Rattle.go_tree.specs.GoTypes.TypeNames.{written_type}
-use Rattle.go_tree.specs.GoTypes.Operands.{Operand, Typed, typed, all_typed}
-use Rattle.go_tree.specs.GoTypes.Declarations.{Declared, Repeated, bind_all, constant_entity, constants_declared, may_declare, new_constants, binds_of, and_then}
-use Rattle.go_tree.specs.GoTypes.Typing.{parts, all_parts, declares_constants}
-use Rattle.go_tree.proofs.GoTypes.Agreeing.{from_given, from_both, from_only, some_same}
+use Rattle.go_rules.specs.ScopeNames.FreeNames.{names_of}
+use Rattle.go_rules.specs.ScopeNames.Means.{binding}
+use Rattle.go_rules.specs.GoTypes.Answers.{given, both, meets}
+use Rattle.go_rules.specs.GoTypes.Types.{GoType}
+use Rattle.go_rules.specs.GoTypes.Entities.{run, exact, shift, Entity, Env, Binds, defined_in, extend}
+use Rattle.go_rules.specs.GoTypes.TypeNames.{written_type}
+use Rattle.go_rules.specs.GoTypes.Operands.{Operand, Typed, typed, all_typed}
+use Rattle.go_rules.specs.GoTypes.Declarations.{Declared, Repeated, bind_all, constant_entity, constants_declared, may_declare, new_constants, binds_of, and_then}
+use Rattle.go_rules.specs.GoTypes.Typing.{parts, all_parts, declares_constants}
+use Rattle.go_rules.proofs.GoTypes.Agreeing.{from_given, from_both, from_only, some_same}
 use Rattle.run_rules.specs.Places.{written_seen, all_seen, constants_seen}
 use Rattle.run_rules.specs.Surroundings.{Use, Place, alike, value_use, repeated_by, in_constant, after_constants, before_repeats}
 use Rattle.value_calls.specs.Calls.{CallNoFunction}

@@ -6,24 +6,24 @@ use Rattle.go_tree.specs.declared.operators.UnOp.{UnOp}
 use Rattle.go_tree.specs.declared.operators.UnOp.TheVariants.{Plus, Minus, Not, Flip, Address}
 use Rattle.go_tree.specs.declared.operators.BinOp.{BinOp}
 use Rattle.go_tree.specs.declared.operators.BinOp.TheVariants as op
-use Rattle.go_tree.specs.declared.const_eval.consts.Const.{Const}
-use Rattle.go_tree.specs.declared.const_eval.consts.Const.TheVariants.{Whole, Truth, Bytes}
-use Rattle.go_tree.specs.declared.const_eval.kinds.Kind.{Kind}
-use Rattle.go_tree.specs.declared.const_eval.kinds.Kind.TheVariants as kind
-use Rattle.go_tree.specs.ConstEval.Conditions.{unary_applies, binary_applies, is_number_kind}
-use Rattle.go_tree.specs.ConstEval.Exact.{Exact, number, is_text_kind, represents}
-use Rattle.go_tree.specs.ConstEval.Operators.{is_comparison, binary_value, unary_value}
-use Rattle.go_tree.specs.GoTypes.Answers.{given, both, only_if, unless_missing}
-use Rattle.go_tree.specs.GoTypes.Types.{GoType, basic, named_type, pointer_to, slice_of, map_of, struct_of, tuple_of, untyped, untyped_nil, FuncType, is_nil, base_of, element_of, map_parts, basic_kind}
-use Rattle.go_tree.specs.GoTypes.Defined.{Defined, under}
-use Rattle.go_tree.specs.GoTypes.Entities.{Builtin, Append, Cap, Copy, Delete, Len, Make, New, Panic, Print, Println, Recover, Content, run, exact, shift, Env, Place, defined_in}
-use Rattle.go_tree.specs.GoTypes.Literals.{literal_takes, built}
-use Rattle.go_tree.specs.GoTypes.Operands.{Operand, value, several, a_type, a_function, a_builtin, recovered, Typed, typed, all_typed, with_value, plain_value, constant_at, constant_value, leaves, kind_of, kind_passes, fits, spread, takes_all, settled, results_operand}
-use Rattle.go_tree.specs.GoTypes.Operators.{a_comparison, divides_by_zero, has_address, common_type, joins, compared_at, joins_comparison, comparison_applies, is_count, is_equality, address_of, not_constant, calculated_operand, arithmetic, truth_operand, logic, comparison, shifted_operand, shifting, binary_value_operand, recover_compared, binary_of, changed_operand, unary_value_operand, unary_of, star_of}
-use Rattle.go_tree.specs.GoTypes.Primary.{is_index, lies_in, string_element, index_of, is_bound, rise, sliced_type, sliced, converted_constant, converted, conversion, nothing_back, append_call, cap_call, length_of, has_length, len_call, copies_from, copy_call, delete_call, panic_call, is_printed, print_call, recover_call, make_sizes, make_call, new_call, on_values, builtin_call, call_of}
-use Rattle.go_tree.specs.GoTypes.Relations.{convertible}
-use Rattle.go_tree.specs.GoTypes.TypeNames.{type_meant}
-use Rattle.go_tree.specs.GoTypes.Typing.{parts, all_parts, elements, bound, place}
+use Rattle.go_rules.specs.declared.const_eval.consts.Const.{Const}
+use Rattle.go_rules.specs.declared.const_eval.consts.Const.TheVariants.{Whole, Truth, Bytes}
+use Rattle.go_rules.specs.declared.const_eval.kinds.Kind.{Kind}
+use Rattle.go_rules.specs.declared.const_eval.kinds.Kind.TheVariants as kind
+use Rattle.go_rules.specs.ConstEval.Conditions.{unary_applies, binary_applies, is_number_kind}
+use Rattle.go_rules.specs.ConstEval.Exact.{Exact, number, is_text_kind, represents}
+use Rattle.go_rules.specs.ConstEval.Operators.{is_comparison, binary_value, unary_value}
+use Rattle.go_rules.specs.GoTypes.Answers.{given, both, only_if, unless_missing}
+use Rattle.go_rules.specs.GoTypes.Types.{GoType, basic, named_type, pointer_to, slice_of, map_of, struct_of, tuple_of, untyped, untyped_nil, FuncType, is_nil, base_of, element_of, map_parts, basic_kind}
+use Rattle.go_rules.specs.GoTypes.Defined.{Defined, under}
+use Rattle.go_rules.specs.GoTypes.Entities.{Builtin, Append, Cap, Copy, Delete, Len, Make, New, Panic, Print, Println, Recover, Content, run, exact, shift, Env, Place, defined_in}
+use Rattle.go_rules.specs.GoTypes.Literals.{literal_takes, built}
+use Rattle.go_rules.specs.GoTypes.Operands.{Operand, value, several, a_type, a_function, a_builtin, recovered, Typed, typed, all_typed, with_value, plain_value, constant_at, constant_value, leaves, kind_of, kind_passes, fits, spread, takes_all, settled, results_operand}
+use Rattle.go_rules.specs.GoTypes.Operators.{a_comparison, divides_by_zero, has_address, common_type, joins, compared_at, joins_comparison, comparison_applies, is_count, is_equality, address_of, not_constant, calculated_operand, arithmetic, truth_operand, logic, comparison, shifted_operand, shifting, binary_value_operand, recover_compared, binary_of, changed_operand, unary_value_operand, unary_of, star_of}
+use Rattle.go_rules.specs.GoTypes.Primary.{is_index, lies_in, string_element, index_of, is_bound, rise, sliced_type, sliced, converted_constant, converted, conversion, nothing_back, append_call, cap_call, length_of, has_length, len_call, copies_from, copy_call, delete_call, panic_call, is_printed, print_call, recover_call, make_sizes, make_call, new_call, on_values, builtin_call, call_of}
+use Rattle.go_rules.specs.GoTypes.Relations.{convertible}
+use Rattle.go_rules.specs.GoTypes.TypeNames.{type_meant}
+use Rattle.go_rules.specs.GoTypes.Typing.{parts, all_parts, elements, bound, place}
 use Rattle.go_tree.specs.Tree.{TypeExpr, Expr, composite, index, slice, call, type_operand, unary, binary, star, ExprOption, Elems, Exprs}
 
 -- no function that is declared, nor a literal of one

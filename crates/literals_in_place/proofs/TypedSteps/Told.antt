@@ -2,12 +2,12 @@
 use Rattle.std.proofs.Common.{◌≡◌, refl, sym, ap, ◌∙◌, subst, ◌⊎◌, inl, inr, Bool, true, false, List, [], ◌∷◌, ◌++◌, Option, Some, arith}
 use Rattle.go_tree.specs.declared.exprs.Rest.{Rest}
 use Rattle.go_tree.specs.Tree.{Expr, ident, int_lit, rune_lit, str_lit, composite, selector, index, slice, call, func_lit, type_operand, unary, binary, star, Exprs}
-use Rattle.go_tree.specs.GoTypes.Answers.{meets}
-use Rattle.go_tree.specs.GoTypes.Entities.{defined_in}
-use Rattle.go_tree.specs.GoTypes.Operands.{Operand, value, several, a_type, a_function, a_builtin, recovered}
-use Rattle.go_tree.specs.GoTypes.Primary.{call_of}
-use Rattle.go_tree.specs.GoTypes.Types.{FuncType}
-use Rattle.go_tree.specs.GoTypes.Typing.{parts}
+use Rattle.go_rules.specs.GoTypes.Answers.{meets}
+use Rattle.go_rules.specs.GoTypes.Entities.{defined_in}
+use Rattle.go_rules.specs.GoTypes.Operands.{Operand, value, several, a_type, a_function, a_builtin, recovered}
+use Rattle.go_rules.specs.GoTypes.Primary.{call_of}
+use Rattle.go_rules.specs.GoTypes.Types.{FuncType}
+use Rattle.go_rules.specs.GoTypes.Typing.{parts}
 use Rattle.run_rules.specs.Forms.{is_at}
 use Rattle.run_rules.specs.Places.{expr_seen}
 use Rattle.run_rules.specs.Sites.{Site, part_span}

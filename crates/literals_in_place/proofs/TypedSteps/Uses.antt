@@ -4,14 +4,14 @@ use Rattle.go_tree.specs.declared.exprs.Rest.TheVariants.{Plain}
 use Rattle.go_tree.specs.declared.spans.Span.{Span}
 use Rattle.go_tree.specs.File.{Func}
 use Rattle.go_tree.specs.Tree.{Expr, call, defer}
-use Rattle.go_tree.specs.ScopeNames.Scopes.{expr_span}
-use Rattle.go_tree.specs.GoTypes.Answers.{given}
-use Rattle.go_tree.specs.GoTypes.Bodies.{body_ctx}
-use Rattle.go_tree.specs.GoTypes.Entities.{Entity, variable, constant, stand_in, type_name, function, package_name, builtin, nil_name, iota_name, refused, Env, meaning, exported, package_of, defined_in}
-use Rattle.go_tree.specs.GoTypes.Operands.{Operand, a_function, with_value, named_operand, named_place}
-use Rattle.go_tree.specs.GoTypes.Primary.{selected}
-use Rattle.go_tree.specs.GoTypes.Types.{FuncType}
-use Rattle.go_tree.specs.GoTypes.Typing.{parts}
+use Rattle.go_rules.specs.ScopeNames.Scopes.{expr_span}
+use Rattle.go_rules.specs.GoTypes.Answers.{given}
+use Rattle.go_rules.specs.GoTypes.Bodies.{body_ctx}
+use Rattle.go_rules.specs.GoTypes.Entities.{Entity, variable, constant, stand_in, type_name, function, package_name, builtin, nil_name, iota_name, refused, Env, meaning, exported, package_of, defined_in}
+use Rattle.go_rules.specs.GoTypes.Operands.{Operand, a_function, with_value, named_operand, named_place}
+use Rattle.go_rules.specs.GoTypes.Primary.{selected}
+use Rattle.go_rules.specs.GoTypes.Types.{FuncType}
+use Rattle.go_rules.specs.GoTypes.Typing.{parts}
 use Rattle.go_kernel.specs.Kernel.{FuncName}
 use Rattle.go_translation.specs.Here.{Here}
 use Rattle.go_translation.specs.Packages as translated

@@ -2,17 +2,17 @@
 -- with a form in the use's place (Go specification, Function declarations; Method declarations; Packages).
 use Rattle.std.specs.Prelude.{◌≡◌, ◌≤◌, ℕ, suc, Bool, true, List, [], Some, slice_get}
 use Rattle.go_tree.specs.File.{Func, func}
-use Rattle.go_tree.specs.ScopeNames.FreeNames.{names_of}
-use Rattle.go_tree.specs.ScopeNames.Means.{is_blank}
+use Rattle.go_rules.specs.ScopeNames.FreeNames.{names_of}
+use Rattle.go_rules.specs.ScopeNames.Means.{is_blank}
 use Rattle.go_tree.specs.Tree.{NameAt, Expr, ident, selector, Stmts}
-use Rattle.go_tree.specs.GoTypes.Answers.{is_among}
-use Rattle.go_tree.specs.GoTypes.Collect.{collected}
-use Rattle.go_tree.specs.GoTypes.Entities.{Env}
-use Rattle.go_tree.specs.GoTypes.Programs.{headed}
-use Rattle.go_tree.specs.GoTypes.TypeNames.{func_type}
-use Rattle.go_tree.specs.GoTypes.Types.{FuncType}
-use Rattle.go_tree.specs.GoTypes.Typing.{used}
-use Rattle.go_tree.specs.GoTypes.WellTyped.{is_used_in}
+use Rattle.go_rules.specs.GoTypes.Answers.{is_among}
+use Rattle.go_rules.specs.GoTypes.Collect.{collected}
+use Rattle.go_rules.specs.GoTypes.Entities.{Env}
+use Rattle.go_rules.specs.GoTypes.Programs.{headed}
+use Rattle.go_rules.specs.GoTypes.TypeNames.{func_type}
+use Rattle.go_rules.specs.GoTypes.Types.{FuncType}
+use Rattle.go_rules.specs.GoTypes.Typing.{used}
+use Rattle.go_rules.specs.GoTypes.WellTyped.{is_used_in}
 use Rattle.pkg_graph.specs.Package.{Package}
 use Rattle.go_kernel.specs.Kernel.{ImportPath, FuncName}
 use Rattle.go_translation.specs.Here.{Here}

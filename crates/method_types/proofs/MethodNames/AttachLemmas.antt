@@ -4,12 +4,12 @@ use Rattle.std.specs.Prelude.{slice_get}
 use Rattle.go_tree.specs.declared.spans.Span.{Span}
 use Rattle.go_tree.specs.File.{Receiver, Func}
 use Rattle.go_tree.specs.FileView.{func_of, receiver_of}
-use Rattle.go_tree.specs.declared.const_eval.consts.Const.{Const}
-use Rattle.go_tree.specs.GoTypes.Answers.{given, only_if, and_also}
-use Rattle.go_tree.specs.GoTypes.Entities.{World, meaning, type_of_name}
-use Rattle.go_tree.specs.GoTypes.Programs as go
-use Rattle.go_tree.specs.GoTypes.Programs.{Header, Headed, env_of}
-use Rattle.go_tree.specs.GoTypes.MethodDeclarations.{MethodName, declared_on, is_new_method, receiver_type}
+use Rattle.go_rules.specs.declared.const_eval.consts.Const.{Const}
+use Rattle.go_rules.specs.GoTypes.Answers.{given, only_if, and_also}
+use Rattle.go_rules.specs.GoTypes.Entities.{World, meaning, type_of_name}
+use Rattle.go_rules.specs.GoTypes.Programs as go
+use Rattle.go_rules.specs.GoTypes.Programs.{Header, Headed, env_of}
+use Rattle.go_rules.specs.GoTypes.MethodDeclarations.{MethodName, declared_on, is_new_method, receiver_type}
 use Rattle.type_table.specs.TypeRelations.Environment.{Environment, IsEnvironment, defined_types}
 use Rattle.type_table.specs.declared.nodes.TypeId.{TypeId}
 use Rattle.typed_names.specs.declared.scopes.Scope.{Scope}

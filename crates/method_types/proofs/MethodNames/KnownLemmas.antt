@@ -2,12 +2,12 @@
 use Rattle.std.proofs.Common.{◌≡◌, ◌∙◌, ◌<◌, ◌&&◌, ◌||◌, not, ℕ, nat_eq, Bool, true, false, cond, List, [], ◌∷◌, Option, Some, None, refl, sym, subst, ap, ap₂, length, bytes_eq, arith}
 use Rattle.std.specs.List.{list_any}
 use Rattle.std.proofs.lemmas.Slice.Eq.{bytes_eq-Decides}
-use Rattle.go_tree.specs.ScopeNames.Means.{is_blank}
-use Rattle.go_tree.specs.GoTypes.Answers.{is_among, only_if}
-use Rattle.go_tree.specs.GoTypes.Types.{GoType, named_type}
-use Rattle.go_tree.specs.GoTypes.Defined.{under}
-use Rattle.go_tree.specs.GoTypes.Identical.{identical}
-use Rattle.go_tree.specs.GoTypes.MethodDeclarations.{MethodName, fields_under, has_method_name, is_new_method}
+use Rattle.go_rules.specs.ScopeNames.Means.{is_blank}
+use Rattle.go_rules.specs.GoTypes.Answers.{is_among, only_if}
+use Rattle.go_rules.specs.GoTypes.Types.{GoType, named_type}
+use Rattle.go_rules.specs.GoTypes.Defined.{under}
+use Rattle.go_rules.specs.GoTypes.Identical.{identical}
+use Rattle.go_rules.specs.GoTypes.MethodDeclarations.{MethodName, fields_under, has_method_name, is_new_method}
 use Rattle.type_table.proofs.TypesAtLaws.{identical_at}
 use Rattle.type_table.specs.TypeRelations.Environment.{Environment, IsEnvironment, defined_types, env_type}
 use Rattle.type_table.specs.declared.nodes.TypeId.{TypeId}

@@ -3,17 +3,17 @@ use Rattle.std.proofs.Common.{◌≡◌, ◌∙◌, ◌<◌, ◌&&◌, ◌++◌,
 use Rattle.std.proofs.lemmas.Slice.Eq.{bytes_eq-Decides}
 use Rattle.go_tree.specs.declared.spans.Span.{Span}
 use Rattle.go_tree.specs.File.{Receiver, Func}
-use Rattle.go_tree.specs.GoTypes.Answers.{given, both, only_if, and_also}
-use Rattle.go_tree.specs.GoTypes.Types.{GoType, FuncType, named_type}
-use Rattle.go_tree.specs.GoTypes.Defined as go
-use Rattle.go_tree.specs.GoTypes.Entities.{World}
-use Rattle.go_tree.specs.GoTypes.Identical.{identical}
-use Rattle.go_tree.specs.GoTypes.Programs as programs
-use Rattle.go_tree.specs.GoTypes.Programs.{Headed, env_of}
-use Rattle.go_tree.specs.GoTypes.TypeNames.{func_type}
-use Rattle.go_tree.specs.GoTypes.Bodies.{body_binds}
-use Rattle.go_tree.specs.GoTypes.MethodDeclarations.{DeclaredMethod, MethodName, declared_on, is_new_method, method_declared, method_header, methods_from, receiver_binds, receiver_type}
-use Rattle.go_tree.specs.GoTypes.Table.{TypeNode}
+use Rattle.go_rules.specs.GoTypes.Answers.{given, both, only_if, and_also}
+use Rattle.go_rules.specs.GoTypes.Types.{GoType, FuncType, named_type}
+use Rattle.go_rules.specs.GoTypes.Defined as go
+use Rattle.go_rules.specs.GoTypes.Entities.{World}
+use Rattle.go_rules.specs.GoTypes.Identical.{identical}
+use Rattle.go_rules.specs.GoTypes.Programs as programs
+use Rattle.go_rules.specs.GoTypes.Programs.{Headed, env_of}
+use Rattle.go_rules.specs.GoTypes.TypeNames.{func_type}
+use Rattle.go_rules.specs.GoTypes.Bodies.{body_binds}
+use Rattle.go_rules.specs.GoTypes.MethodDeclarations.{DeclaredMethod, MethodName, declared_on, is_new_method, method_declared, method_header, methods_from, receiver_binds, receiver_type}
+use Rattle.go_rules.specs.GoTypes.Table.{TypeNode}
 use Rattle.type_table.specs.TypesAt.{type_at}
 use Rattle.type_table.specs.declared.nodes.TypeId.{TypeId}
 use Rattle.type_table.proofs.TypesAtLaws.{identical_at}

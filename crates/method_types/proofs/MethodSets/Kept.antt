@@ -1,7 +1,7 @@
 -- What is known of types stays known where methods are declared.
 use Rattle.std.proofs.Common.{◌≡◌, ◌∙◌, ◌<◌, ◌≤◌, ◌&&◌, ℕ, zero, suc, nat_eq, Bool, true, false, List, [], ◌∷◌, Some, refl, sym, subst, ap, ap₂, map, length, bytes_eq, if◌then◌else◌}
-use Rattle.go_tree.specs.GoTypes.Types.{GoType, basic, named_type, pointer_to, slice_of, map_of, struct_of, tuple_of, untyped, untyped_nil, GoFields, no_go_fields, go_field, is_untyped}
-use Rattle.go_tree.specs.GoTypes.Defined.{Defined, find_defined, under_of, under, comparable_by, comparable_within, comparable, has_keys, fields_have_keys}
+use Rattle.go_rules.specs.GoTypes.Types.{GoType, basic, named_type, pointer_to, slice_of, map_of, struct_of, tuple_of, untyped, untyped_nil, GoFields, no_go_fields, go_field, is_untyped}
+use Rattle.go_rules.specs.GoTypes.Defined.{Defined, find_defined, under_of, under, comparable_by, comparable_within, comparable, has_keys, fields_have_keys}
 use Rattle.type_table.specs.TypeRelations.Environment.{Definition, Environment, defined_at, defined_types, env_type}
 use Rattle.type_table.specs.TypesAt.{type_at}
 use Rattle.type_flags.specs.declared.grown.TypeFlags.{TypeFlags}

@@ -2,10 +2,10 @@
 -- other than `_` stands once on its type, among methods and fields.
 use Rattle.std.specs.Prelude.{ℕ, List, [], ◌∷◌, Option, Some}
 use Rattle.go_tree.specs.declared.spans.Span.{Span}
-use Rattle.go_tree.specs.GoTypes.Answers.{given, only_if, and_also}
-use Rattle.go_tree.specs.GoTypes.Entities.{World}
-use Rattle.go_tree.specs.GoTypes.Programs.{Headed}
-use Rattle.go_tree.specs.GoTypes.MethodDeclarations.{MethodName, declared_on, is_new_method}
+use Rattle.go_rules.specs.GoTypes.Answers.{given, only_if, and_also}
+use Rattle.go_rules.specs.GoTypes.Entities.{World}
+use Rattle.go_rules.specs.GoTypes.Programs.{Headed}
+use Rattle.go_rules.specs.GoTypes.MethodDeclarations.{MethodName, declared_on, is_new_method}
 use Rattle.type_table.specs.TypeRelations.Environment.{Environment}
 use Rattle.type_table.specs.declared.nodes.TypeId.{TypeId}
 use Rattle.method_headers.specs.Methods.{GivesReceiver}

@@ -6,15 +6,15 @@ use Rattle.std.specs.List.{list_any}
 use Rattle.go_tree.specs.declared.spans.Span.{Span}
 use Rattle.go_tree.specs.File.{Receiver, Func}
 use Rattle.go_tree.specs.FileView.{func_of, receiver_of}
-use Rattle.go_tree.specs.declared.const_eval.consts.Const.{Const}
-use Rattle.go_tree.specs.ScopeNames.Means.{is_blank, means}
-use Rattle.go_tree.specs.GoTypes.Answers.{given, is_among, and_also}
-use Rattle.go_tree.specs.GoTypes.Types.{GoType, named_type, fields_of, field_names}
-use Rattle.go_tree.specs.GoTypes.Defined.{under}
-use Rattle.go_tree.specs.GoTypes.Entities.{World}
-use Rattle.go_tree.specs.GoTypes.Programs as go
-use Rattle.go_tree.specs.GoTypes.Programs.{Header, Headed}
-use Rattle.go_tree.specs.GoTypes.MethodDeclarations.{MethodName, declared_on, has_method_name}
+use Rattle.go_rules.specs.declared.const_eval.consts.Const.{Const}
+use Rattle.go_rules.specs.ScopeNames.Means.{is_blank, means}
+use Rattle.go_rules.specs.GoTypes.Answers.{given, is_among, and_also}
+use Rattle.go_rules.specs.GoTypes.Types.{GoType, named_type, fields_of, field_names}
+use Rattle.go_rules.specs.GoTypes.Defined.{under}
+use Rattle.go_rules.specs.GoTypes.Entities.{World}
+use Rattle.go_rules.specs.GoTypes.Programs as go
+use Rattle.go_rules.specs.GoTypes.Programs.{Header, Headed}
+use Rattle.go_rules.specs.GoTypes.MethodDeclarations.{MethodName, declared_on, has_method_name}
 use Rattle.type_table.specs.TypeRelations.Environment.{Environment, defined_types, env_type}
 use Rattle.type_table.specs.declared.nodes.TypeId.{TypeId}
 use Rattle.typed_names.specs.declared.scopes.Scope.{Scope}

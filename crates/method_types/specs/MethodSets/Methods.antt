@@ -1,10 +1,10 @@
 -- The methods of the types of a table (Go specification, Method declarations; Method sets; Selectors).
 use Rattle.std.specs.Prelude.{◌≡◌, ℕ, ◌<◌, true, false, List, [], length}
 use Rattle.go_tree.specs.declared.spans.Span.{Span}
-use Rattle.go_tree.specs.GoTypes.Types.{named_type}
-use Rattle.go_tree.specs.GoTypes.Entities.{World}
-use Rattle.go_tree.specs.GoTypes.Programs.{Headed}
-use Rattle.go_tree.specs.GoTypes.MethodDeclarations.{methods_from}
+use Rattle.go_rules.specs.GoTypes.Types.{named_type}
+use Rattle.go_rules.specs.GoTypes.Entities.{World}
+use Rattle.go_rules.specs.GoTypes.Programs.{Headed}
+use Rattle.go_rules.specs.GoTypes.MethodDeclarations.{methods_from}
 use Rattle.type_table.specs.TypeRelations.Environment.{Environment, env_type, has_methods, is_defined, methods_in}
 use Rattle.type_table.specs.TypeRelations.Methods.{declared_method}
 use Rattle.method_headers.specs.Laws.{find_declared}

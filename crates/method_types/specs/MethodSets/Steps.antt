@@ -3,7 +3,7 @@ use Rattle.std.specs.Prelude.{ℕ, zero, suc, not, ◌&&◌, List, [], ◌∷◌
 use Rattle.std.specs.Prelude.{if◌then◌else◌}
 use Rattle.go_tree.specs.declared.spans.Span.{Span}
 use Rattle.go_tree.specs.File.{Receiver, Func}
-use Rattle.go_tree.specs.GoTypes.Table.{TypeNode}
+use Rattle.go_rules.specs.GoTypes.Table.{TypeNode}
 use Rattle.type_table.specs.TypeRelations.Environment.{Environment, MethodRow, MethodsWithin, has_methods, is_defined}
 use Rattle.type_table.specs.TypeRelations.Environment.{with_methods}
 use Rattle.type_table.specs.TypeRelations.Methods.{found_row, method_row}

@@ -2,9 +2,9 @@
 
 ghost use Rattle.std.specs.Prelude.{◌≡◌, ◌<◌, [], List, length, map, slice_get, Some, IfOk, IfSome, OnOk};
 ghost use Rattle.go_tree.specs.declared.spans.Span.{Span};
-ghost use Rattle.go_tree.specs.declared.const_eval.consts.Const.{Const};
+ghost use Rattle.go_rules.specs.declared.const_eval.consts.Const.{Const};
 ghost use Rattle.go_tree.specs.FileView.{receiver_of};
-ghost use Rattle.go_tree.specs.GoTypes.Programs.{Headed};
+ghost use Rattle.go_rules.specs.GoTypes.Programs.{Headed};
 ghost use Rattle.typed_names.specs.declared.scopes.Scope.{Scope};
 ghost use Rattle.typed_names.specs.Meanings.{world_at};
 ghost use Rattle.typed_names.specs.Scopes.{env_at};

@@ -3,8 +3,8 @@
 
 ghost use Rattle.std.specs.Prelude.{◌≡◌, ◌<◌, ◌&&◌, ◌||◌, [], ◌∷◌, ℕ, List, length, map};
 ghost use Rattle.std.specs.Prelude.{nat_eq, if◌then◌else◌, None, Some, IfOk, OnOk};
-ghost use Rattle.go_tree.specs.GoTypes.Answers.{is_among};
-ghost use Rattle.go_tree.specs.ScopeNames.Means.{is_blank};
+ghost use Rattle.go_rules.specs.GoTypes.Answers.{is_among};
+ghost use Rattle.go_rules.specs.ScopeNames.Means.{is_blank};
 ghost use Rattle.type_table.specs.TypeRelations.Environment.{env_type};
 ghost use Rattle.method_types.specs.MethodNames.Known.{AreFields, AreMethods, Attaches, has_name, type_fields};
 

@@ -2,8 +2,8 @@
 
 ghost use Rattle.std.specs.Prelude.{◌≡◌, [], List, length, map, OnOk, if◌then◌else◌};
 ghost use Rattle.go_tree.specs.declared.spans.Span.{Span};
-ghost use Rattle.go_tree.specs.GoTypes.Entities.{World};
-ghost use Rattle.go_tree.specs.GoTypes.Programs.{Headed};
+ghost use Rattle.go_rules.specs.GoTypes.Entities.{World};
+ghost use Rattle.go_rules.specs.GoTypes.Programs.{Headed};
 ghost use Rattle.type_flags.specs.declared.grown.TypeFlags.{TypeFlags};
 ghost use Rattle.type_flags.specs.Grown.{AreFlagsSoFar};
 ghost use Rattle.type_table.specs.TypeRelations.Environment.{Environment, MethodsWithin, has_methods, with_methods};

@@ -6,14 +6,14 @@ use Rattle.std.proofs.lemmas.List.Folds.{list_any-append}
 use Rattle.go_tree.specs.declared.spans.Span.{Span}
 use Rattle.go_tree.specs.Tree.{TypeExpr, Exprs, no_exprs, const_decl, var_decl, empty, eval, step, assign, define, return_, break_, continue_, inner, if_, for_, range_, switch, defer, label, Stmt, ValueSpecs, no_specs, spec}
 use Rattle.go_tree.specs.File.{TypeSpec, Func, Decl, values, types, func}
-use Rattle.go_tree.specs.ScopeNames.Means.{is_blank}
-use Rattle.go_tree.specs.ScopeNames.FreeNames.{sig_names, free_type, free_type_option, free_params}
-use Rattle.go_tree.specs.GoTypes.Answers.{is_among, without}
-use Rattle.go_tree.specs.GoTypes.Entities.{World, Env, in_block}
-use Rattle.go_tree.specs.GoTypes.Bodies.{no_values}
-use Rattle.go_tree.specs.GoTypes.Typing.{used_all, used_stmts}
-use Rattle.go_tree.specs.GoTypes.Programs.{Header, constants, variables, a_type_spec, a_func, Headed, headers, all_headers, constant_headers, variable_headers, at_member, env_of}
-use Rattle.go_tree.specs.GoTypes.WellTyped.{receiver_names, body_env, function_uses, header_uses}
+use Rattle.go_rules.specs.ScopeNames.Means.{is_blank}
+use Rattle.go_rules.specs.ScopeNames.FreeNames.{sig_names, free_type, free_type_option, free_params}
+use Rattle.go_rules.specs.GoTypes.Answers.{is_among, without}
+use Rattle.go_rules.specs.GoTypes.Entities.{World, Env, in_block}
+use Rattle.go_rules.specs.GoTypes.Bodies.{no_values}
+use Rattle.go_rules.specs.GoTypes.Typing.{used_all, used_stmts}
+use Rattle.go_rules.specs.GoTypes.Programs.{Header, constants, variables, a_type_spec, a_func, Headed, headers, all_headers, constant_headers, variable_headers, at_member, env_of}
+use Rattle.go_rules.specs.GoTypes.WellTyped.{receiver_names, body_env, function_uses, header_uses}
 use Rattle.used_names.specs.Uses.{Uses, is_local, hides, with_locals, end_function, start}
 use Rattle.used_names.specs.Walks.{after_type, after_type_option, after_params, after_sig, after_exprs, after_stmts}
 use Rattle.used_names.specs.Stands.{Stands}

@@ -3,11 +3,11 @@ use Rattle.std.specs.Prelude.{◌≡◌, ℕ, true, false, List, [], Option, Som
 use Rattle.std.specs.List.{list_any}
 use Rattle.std.proofs.Common.{sym, ap, ◌∙◌, subst}
 use Rattle.go_tree.specs.declared.spans.Span.{Span}
-use Rattle.go_tree.specs.GoTypes.Types.{GoType}
-use Rattle.go_tree.specs.GoTypes.Entities.{Entity, variable, constant, stand_in, type_name, function, package_name, builtin, nil_name, iota_name, refused, World, Env, meaning, exported, package_of, is_declared_here, defined_in}
-use Rattle.go_tree.specs.GoTypes.Defined.{under}
-use Rattle.go_tree.specs.GoTypes.Programs.{Headed, Program, headed, env_of}
-use Rattle.go_tree.specs.GoTypes.Collect.{valued_world, world_of}
+use Rattle.go_rules.specs.GoTypes.Types.{GoType}
+use Rattle.go_rules.specs.GoTypes.Entities.{Entity, variable, constant, stand_in, type_name, function, package_name, builtin, nil_name, iota_name, refused, World, Env, meaning, exported, package_of, is_declared_here, defined_in}
+use Rattle.go_rules.specs.GoTypes.Defined.{under}
+use Rattle.go_rules.specs.GoTypes.Programs.{Headed, Program, headed, env_of}
+use Rattle.go_rules.specs.GoTypes.Collect.{valued_world, world_of}
 use Rattle.type_table.specs.TypeRelations.Environment.{Environment}
 use Rattle.typed_names.specs.declared.scopes.Scope.{Scope}
 use Rattle.typed_names.specs.Meanings.{Names, world_at, names_at}

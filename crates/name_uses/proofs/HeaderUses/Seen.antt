@@ -5,18 +5,18 @@ use Rattle.std.proofs.lemmas.List.{map-append}
 use Rattle.go_tree.specs.declared.spans.Span.{Span}
 use Rattle.go_tree.specs.Tree.{NameAt, Param, Sig, TypeExpr, named, pointer, slice_type, map_type, struct_type, Fields, no_fields, field}
 use Rattle.go_tree.specs.File.{Receiver, Func}
-use Rattle.go_tree.specs.ScopeNames.Means.{is_blank, binding}
-use Rattle.go_tree.specs.ScopeNames.FreeNames.{name_then, params_names, sig_names}
-use Rattle.go_tree.specs.GoTypes.Answers.{given, both, only_if, otherwise, distinct_by, is_among}
-use Rattle.go_tree.specs.GoTypes.Types.{GoType, FuncType, named_type, pointer_to, type_name_of, base_of}
-use Rattle.go_tree.specs.GoTypes.Entities.{World, Env, Binds, variable, in_block}
-use Rattle.go_tree.specs.GoTypes.TypeNames.{func_type, params_meant, type_meant}
-use Rattle.go_tree.specs.GoTypes.Declarations.{bound_names, names_once, not_blank}
-use Rattle.go_tree.specs.GoTypes.Bodies.{body_binds, param_binding, param_binds}
-use Rattle.go_tree.specs.GoTypes.Programs.{Headed, env_of}
-use Rattle.go_tree.specs.GoTypes.MethodDeclarations.{receiver_type, receiver_binds}
-use Rattle.go_tree.specs.GoTypes.WellTyped.{receiver_of}
-use Rattle.go_tree.proofs.GoTypes.Agreeing.{Bound, binds, later, Covers}
+use Rattle.go_rules.specs.ScopeNames.Means.{is_blank, binding}
+use Rattle.go_rules.specs.ScopeNames.FreeNames.{name_then, params_names, sig_names}
+use Rattle.go_rules.specs.GoTypes.Answers.{given, both, only_if, otherwise, distinct_by, is_among}
+use Rattle.go_rules.specs.GoTypes.Types.{GoType, FuncType, named_type, pointer_to, type_name_of, base_of}
+use Rattle.go_rules.specs.GoTypes.Entities.{World, Env, Binds, variable, in_block}
+use Rattle.go_rules.specs.GoTypes.TypeNames.{func_type, params_meant, type_meant}
+use Rattle.go_rules.specs.GoTypes.Declarations.{bound_names, names_once, not_blank}
+use Rattle.go_rules.specs.GoTypes.Bodies.{body_binds, param_binding, param_binds}
+use Rattle.go_rules.specs.GoTypes.Programs.{Headed, env_of}
+use Rattle.go_rules.specs.GoTypes.MethodDeclarations.{receiver_type, receiver_binds}
+use Rattle.go_rules.specs.GoTypes.WellTyped.{receiver_of}
+use Rattle.go_rules.proofs.GoTypes.Agreeing.{Bound, binds, later, Covers}
 use Rattle.package_blocks.proofs.FuncHeaders.Signatures.{blank_append, params_bound, then_bound}
 use Rattle.method_headers.specs.Methods.{receiver_at}
 use Rattle.used_names.specs.Uses.{has_local, fields_have_local}

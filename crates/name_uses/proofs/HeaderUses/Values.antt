@@ -3,7 +3,7 @@ use Rattle.std.proofs.Common.{◌≡◌, ◌==◌, false, List, [], ◌∷◌, m
 use Rattle.go_tree.specs.declared.exprs.Expr.{Expr}
 use Rattle.go_tree.specs.View.{expr_of}
 use Rattle.go_tree.specs.Lists.{exprs_from}
-use Rattle.go_tree.specs.GoTypes.Bodies.{no_values}
+use Rattle.go_rules.specs.GoTypes.Bodies.{no_values}
 
 -- there are none
 pub none_there : (xs : List Expr) → (length xs == 0) ≡ no_values (exprs_from (map expr_of xs))

@@ -1,13 +1,13 @@
 -- The types of methods in a table of types of values.
 use Rattle.std.specs.Prelude.{◌≡◌, ℕ, Bool, true, false, not, ◌&&◌, ◌||◌, List, [], ◌∷◌, map, length, Option, Some, None, nat_eq, bytes_eq, if◌then◌else◌, refl}
 use mathlib.Core.Path.{subst}
-use Rattle.go_tree.specs.ScopeNames.Means.{is_blank}
-use Rattle.go_tree.specs.GoTypes.Answers.{given, only_if}
-use Rattle.go_tree.specs.GoTypes.Types.{GoType, basic, named_type, pointer_to, slice_of, map_of, struct_of, tuple_of, untyped, untyped_nil, FuncType, base_of}
-use Rattle.go_tree.specs.GoTypes.Defined.{Defined, Method, declared_methods, find_defined, methods}
-use Rattle.go_tree.specs.GoTypes.Entities.{Place, is_exported}
-use Rattle.go_tree.specs.GoTypes.Operands.{a_function, Typed, plain_value}
-use Rattle.go_tree.specs.GoTypes.Primary.{field_type, find_method, home_of, is_addressable, method_of, method_value, sees, selected}
+use Rattle.go_rules.specs.ScopeNames.Means.{is_blank}
+use Rattle.go_rules.specs.GoTypes.Answers.{given, only_if}
+use Rattle.go_rules.specs.GoTypes.Types.{GoType, basic, named_type, pointer_to, slice_of, map_of, struct_of, tuple_of, untyped, untyped_nil, FuncType, base_of}
+use Rattle.go_rules.specs.GoTypes.Defined.{Defined, Method, declared_methods, find_defined, methods}
+use Rattle.go_rules.specs.GoTypes.Entities.{Place, is_exported}
+use Rattle.go_rules.specs.GoTypes.Operands.{a_function, Typed, plain_value}
+use Rattle.go_rules.specs.GoTypes.Primary.{field_type, find_method, home_of, is_addressable, method_of, method_value, sees, selected}
 use Rattle.type_table.specs.TypesAt.{type_at}
 use Rattle.type_table.specs.TypeRelations.Environment.{Definition, Environment, IsEnvironment, MethodRow, MethodsWithin, NumbersBelow, SetsWithin, defined_at, defined_types, env_type, method_at, methods_in}
 use Rattle.type_table.specs.ValueTypes.ValueTypes.{HasValueTypes}

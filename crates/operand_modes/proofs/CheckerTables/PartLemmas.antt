@@ -1,7 +1,7 @@
 -- The parts of types in a table of types of values.
 use Rattle.std.specs.Prelude.{◌≡◌, ℕ, zero, suc, ◌<◌, List, [], ◌∷◌, map, length, Some, slice_get}
 use Rattle.std.proofs.Common.{arith}
-use Rattle.go_tree.specs.GoTypes.Table.{NodeField, TypeNode, basic_node, named_node, pointer_node, slice_node, map_node, struct_node, tuple_node, untyped_node, nil_node, AllBelow, none_above, below_and, node_parts}
+use Rattle.go_rules.specs.GoTypes.Table.{NodeField, TypeNode, basic_node, named_node, pointer_node, slice_node, map_node, struct_node, tuple_node, untyped_node, nil_node, AllBelow, none_above, below_and, node_parts}
 use Rattle.type_table.specs.TypeRelations.Environment.{Environment}
 use Rattle.operator_rules.specs.Parts.{AreParts, FieldParts, IsPart, RowParts}
 use Rattle.type_table.specs.ValueTypes.ValueTypes.{HasValueTypes}

@@ -1,7 +1,7 @@
 -- Tables to which a type is added.
 use Rattle.std.proofs.Common.{◌≡◌, ◌<◌, ℕ, false, refl, length}
-use Rattle.go_tree.specs.GoTypes.Types.{GoType, is_untyped}
-use Rattle.go_tree.specs.GoTypes.Table.{TypeNode}
+use Rattle.go_rules.specs.GoTypes.Types.{GoType, is_untyped}
+use Rattle.go_rules.specs.GoTypes.Table.{TypeNode}
 use Rattle.type_table.specs.TypesAt.{type_by}
 use Rattle.type_table.specs.TypeRelations.Environment.{Environment, defined_types, env_type, with_type}
 use Rattle.typed_names.specs.TypeExprs.Grown.{TypesGrown}

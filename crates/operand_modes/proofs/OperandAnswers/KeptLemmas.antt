@@ -1,13 +1,13 @@
 -- What is known of operands and of names stays known while types and constants are added.
 use Rattle.std.proofs.Common.{◌≡◌, ◌∙◌, ◌<◌, ℕ, suc, List, [], ◌∷◌, Option, Result, Ok, Err, refl, sym, ap, ap₂, subst, length, arith}
-use Rattle.go_tree.specs.declared.const_eval.consts.Const.{Const}
-use Rattle.go_tree.specs.ConstEval.Exact.{represents}
-use Rattle.go_tree.specs.GoTypes.Types.{GoType, is_untyped}
-use Rattle.go_tree.specs.GoTypes.Entities as go_entity
-use Rattle.go_tree.specs.GoTypes.Entities.{exact, extend}
-use Rattle.go_tree.specs.GoTypes.Operands as go
-use Rattle.go_tree.specs.GoTypes.Operands.{Typed, kind_passes, value, several, a_type, a_function}
-use Rattle.go_tree.specs.GoTypes.Programs.{file_env}
+use Rattle.go_rules.specs.declared.const_eval.consts.Const.{Const}
+use Rattle.go_rules.specs.ConstEval.Exact.{represents}
+use Rattle.go_rules.specs.GoTypes.Types.{GoType, is_untyped}
+use Rattle.go_rules.specs.GoTypes.Entities as go_entity
+use Rattle.go_rules.specs.GoTypes.Entities.{exact, extend}
+use Rattle.go_rules.specs.GoTypes.Operands as go
+use Rattle.go_rules.specs.GoTypes.Operands.{Typed, kind_passes, value, several, a_type, a_function}
+use Rattle.go_rules.specs.GoTypes.Programs.{file_env}
 use Rattle.type_table.specs.TypeRelations.Environment.{Environment, defined_types}
 use Rattle.type_table.specs.declared.operand_rules.values.ValueType.{ValueType}
 use Rattle.type_table.specs.declared.operand_rules.values.ValueType.TheVariants as variant

@@ -1,11 +1,11 @@
 -- Values of the parts of types: their types are in the table.
 use Rattle.std.proofs.Common.{◌≡◌, ◌∙◌, ◌<◌, ℕ, true, false, List, Option, Some, None, refl, sym, ap, subst, length}
-use Rattle.go_tree.specs.declared.const_eval.consts.Const.{Const}
-use Rattle.go_tree.specs.GoTypes.Types.{GoType, base_of, element_of, is_untyped, map_parts}
-use Rattle.go_tree.specs.GoTypes.Defined.{under}
-use Rattle.go_tree.specs.GoTypes.Entities.{run}
-use Rattle.go_tree.specs.GoTypes.Operands.{value}
-use Rattle.go_tree.specs.GoTypes.Table.{TypeNode, basic_node, named_node, pointer_node, slice_node, map_node, struct_node, tuple_node, untyped_node, nil_node}
+use Rattle.go_rules.specs.declared.const_eval.consts.Const.{Const}
+use Rattle.go_rules.specs.GoTypes.Types.{GoType, base_of, element_of, is_untyped, map_parts}
+use Rattle.go_rules.specs.GoTypes.Defined.{under}
+use Rattle.go_rules.specs.GoTypes.Entities.{run}
+use Rattle.go_rules.specs.GoTypes.Operands.{value}
+use Rattle.go_rules.specs.GoTypes.Table.{TypeNode, basic_node, named_node, pointer_node, slice_node, map_node, struct_node, tuple_node, untyped_node, nil_node}
 use Rattle.type_table.specs.TypesAt.{type_by}
 use Rattle.type_table.proofs.TypesAtLaws.{get_within, type_at_row}
 use Rattle.type_table.specs.TypeRelations.Environment.{Environment, IsEnvironment, defined_types, definition_in, env_type, under_by}

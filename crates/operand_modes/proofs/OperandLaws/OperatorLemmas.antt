@@ -4,18 +4,18 @@ use Rattle.std.specs.List.{list_all}
 use mathlib.Core.Path.{ap, ap₂, sym, ◌∙◌, subst}
 use Rattle.go_tree.specs.declared.operators.BinOp.{BinOp}
 use Rattle.go_tree.specs.declared.operators.BinOp.TheVariants.{Mul, Div, Rem, Shl, Shr, And, AndNot, Add, Sub, Or, Xor, Eq, Ne, Lt, Le, Gt, Ge, LogAnd, LogOr}
-use Rattle.go_tree.specs.declared.const_eval.kinds.Kind.{Kind}
-use Rattle.go_tree.specs.declared.const_eval.kinds.Kind.TheVariants as kind
-use Rattle.go_tree.specs.declared.const_eval.consts.Const.{Const}
-use Rattle.go_tree.specs.ConstEval.Conditions.{unary_applies, binary_applies, is_number_kind}
-use Rattle.go_tree.specs.ConstEval.Exact.{represents}
-use Rattle.go_tree.specs.GoTypes.Answers.{given, only_if}
-use Rattle.go_tree.specs.GoTypes.Types.{GoType, basic, named_type, pointer_to, slice_of, map_of, struct_of, tuple_of, untyped, untyped_nil, is_nil, is_untyped}
-use Rattle.go_tree.specs.GoTypes.Defined.{Defined}
-use Rattle.go_tree.specs.GoTypes.Entities.{Content, run, exact, shift}
-use Rattle.go_tree.specs.GoTypes.Operands.{value, default_type, is_shift, kind_of, kind_passes, leaves}
-use Rattle.go_tree.specs.GoTypes.Relations.{assignable}
-use Rattle.go_tree.specs.GoTypes.Operators.{arithmetic, binary_value_operand, calculated_operand, changed_operand, common_type, compared_at, comparison, comparison_applies, divides_by_zero, is_count, joins, joins_comparison, logic, not_constant, shifted_operand, shifting, truth_operand}
+use Rattle.go_rules.specs.declared.const_eval.kinds.Kind.{Kind}
+use Rattle.go_rules.specs.declared.const_eval.kinds.Kind.TheVariants as kind
+use Rattle.go_rules.specs.declared.const_eval.consts.Const.{Const}
+use Rattle.go_rules.specs.ConstEval.Conditions.{unary_applies, binary_applies, is_number_kind}
+use Rattle.go_rules.specs.ConstEval.Exact.{represents}
+use Rattle.go_rules.specs.GoTypes.Answers.{given, only_if}
+use Rattle.go_rules.specs.GoTypes.Types.{GoType, basic, named_type, pointer_to, slice_of, map_of, struct_of, tuple_of, untyped, untyped_nil, is_nil, is_untyped}
+use Rattle.go_rules.specs.GoTypes.Defined.{Defined}
+use Rattle.go_rules.specs.GoTypes.Entities.{Content, run, exact, shift}
+use Rattle.go_rules.specs.GoTypes.Operands.{value, default_type, is_shift, kind_of, kind_passes, leaves}
+use Rattle.go_rules.specs.GoTypes.Relations.{assignable}
+use Rattle.go_rules.specs.GoTypes.Operators.{arithmetic, binary_value_operand, calculated_operand, changed_operand, common_type, compared_at, comparison, comparison_applies, divides_by_zero, is_count, joins, joins_comparison, logic, not_constant, shifted_operand, shifting, truth_operand}
 use Rattle.type_table.specs.OperandRules.Values.{SameContent}
 use Rattle.operand_modes.specs.OperandLaws.Alike.{SameAnswer}
 use Rattle.operand_modes.specs.OperandLaws.Laws.{BinarySeesAlike, UnarySeesAlike}

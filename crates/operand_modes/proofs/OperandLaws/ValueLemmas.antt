@@ -2,18 +2,18 @@
 use Rattle.std.specs.Prelude.{◌≡◌, true, ◌&&◌, List, Option, Some, None, pos, negsuc, refl}
 use Rattle.std.specs.List.{list_all}
 use mathlib.Core.Path.{ap, ap₂, sym, ◌∙◌}
-use Rattle.go_tree.specs.declared.const_eval.kinds.Kind.{Kind}
-use Rattle.go_tree.specs.declared.const_eval.kinds.Kind.TheVariants as kind
-use Rattle.go_tree.specs.declared.const_eval.consts.Const.{Const}
-use Rattle.go_tree.specs.declared.const_eval.consts.Const.TheVariants.{Whole, Truth, Bytes}
-use Rattle.go_tree.specs.ConstEval.Conditions.{is_number_kind}
-use Rattle.go_tree.specs.ConstEval.Exact.{represents, is_text_kind}
-use Rattle.go_tree.specs.GoTypes.Answers.{given, meets, only_if}
-use Rattle.go_tree.specs.GoTypes.Types.{GoType, basic, basic_kind, element_of, map_parts}
-use Rattle.go_tree.specs.GoTypes.Defined.{Defined, under}
-use Rattle.go_tree.specs.GoTypes.Entities.{Content, run, exact, shift}
-use Rattle.go_tree.specs.GoTypes.Operands.{Operand, Typed, fits, kind_passes, plain_value}
-use Rattle.go_tree.specs.GoTypes.Primary.{converted, is_bound, is_index, lies_in, rise, sliced_type, string_element}
+use Rattle.go_rules.specs.declared.const_eval.kinds.Kind.{Kind}
+use Rattle.go_rules.specs.declared.const_eval.kinds.Kind.TheVariants as kind
+use Rattle.go_rules.specs.declared.const_eval.consts.Const.{Const}
+use Rattle.go_rules.specs.declared.const_eval.consts.Const.TheVariants.{Whole, Truth, Bytes}
+use Rattle.go_rules.specs.ConstEval.Conditions.{is_number_kind}
+use Rattle.go_rules.specs.ConstEval.Exact.{represents, is_text_kind}
+use Rattle.go_rules.specs.GoTypes.Answers.{given, meets, only_if}
+use Rattle.go_rules.specs.GoTypes.Types.{GoType, basic, basic_kind, element_of, map_parts}
+use Rattle.go_rules.specs.GoTypes.Defined.{Defined, under}
+use Rattle.go_rules.specs.GoTypes.Entities.{Content, run, exact, shift}
+use Rattle.go_rules.specs.GoTypes.Operands.{Operand, Typed, fits, kind_passes, plain_value}
+use Rattle.go_rules.specs.GoTypes.Primary.{converted, is_bound, is_index, lies_in, rise, sliced_type, string_element}
 use Rattle.type_table.specs.OperandRules.Values.{SameContent}
 use Rattle.operand_modes.specs.OperandLaws.Alike.{SameBound}
 use Rattle.operand_modes.specs.OperandLaws.Laws.{ConversionSeesAlike, FittingSeesAlike, IndexSeesAlike, SliceSeesAlike}

@@ -1,10 +1,10 @@
 -- The laws of tables that are ready. Each is a clause of a function of this crate.
 use Rattle.std.specs.Prelude.{◌≡◌, ℕ, List, Some}
-use Rattle.go_tree.specs.GoTypes.Types.{FuncType}
-use Rattle.go_tree.specs.GoTypes.Defined.{Method}
-use Rattle.go_tree.specs.GoTypes.Entities.{Place}
-use Rattle.go_tree.specs.GoTypes.Operands.{Typed, a_function}
-use Rattle.go_tree.specs.GoTypes.Primary.{selected}
+use Rattle.go_rules.specs.GoTypes.Types.{FuncType}
+use Rattle.go_rules.specs.GoTypes.Defined.{Method}
+use Rattle.go_rules.specs.GoTypes.Entities.{Place}
+use Rattle.go_rules.specs.GoTypes.Operands.{Typed, a_function}
+use Rattle.go_rules.specs.GoTypes.Primary.{selected}
 use Rattle.type_table.specs.TypeRelations.Environment.{Environment, IsEnvironment, defined_types}
 use Rattle.type_table.specs.TypeRelations.Methods.{declared_method}
 use Rattle.type_flags.specs.declared.grown.TypeFlags.{TypeFlags}

@@ -1,7 +1,7 @@
 -- Tables from which what the rules ask follows, and what a step leaves as it is (Go specification, Types; Constants;
 -- Comparison operators).
 use Rattle.std.specs.Prelude.{◌≡◌, false, length, List, [], ◌∷◌}
-use Rattle.go_tree.specs.GoTypes.Types.{GoType, FuncType, is_untyped}
+use Rattle.go_rules.specs.GoTypes.Types.{GoType, FuncType, is_untyped}
 use Rattle.type_table.specs.TypeRelations.Environment.{Environment}
 use Rattle.type_flags.specs.declared.grown.TypeFlags.{TypeFlags}
 use Rattle.type_flags.specs.Grown.{AreFlagsSoFar, DefinedBelow}

@@ -1,6 +1,6 @@
 -- Names whose types and constants are in the tables (Go specification, Declarations and scope; Constants).
 use Rattle.std.specs.Prelude.{List, [], ◌∷◌}
-use Rattle.go_tree.specs.declared.const_eval.consts.Const.{Const}
+use Rattle.go_rules.specs.declared.const_eval.consts.Const.{Const}
 use Rattle.type_table.specs.TypeRelations.Environment.{Environment}
 use Rattle.type_table.specs.declared.operand_rules.values.Content.TheVariants.{Exact}
 use Rattle.type_table.specs.OperandRules.Values.{IsContent}

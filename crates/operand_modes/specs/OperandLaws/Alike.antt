@@ -1,7 +1,7 @@
 -- Operands that rules see alike: untyped shifts of which the same kinds represent all constants (Go specification,
 -- Operators; Constant expressions).
 use Rattle.std.specs.Prelude.{◌≡◌, Option, Some, None, List, [], ◌∷◌}
-use Rattle.go_tree.specs.GoTypes.Operands.{Operand, Typed}
+use Rattle.go_rules.specs.GoTypes.Operands.{Operand, Typed}
 use Rattle.type_table.specs.OperandRules.Values.{SameContent}
 use Rattle.operand_modes.specs.Operands.{SameOperand}
 

@@ -2,13 +2,13 @@
 use Rattle.std.specs.Prelude.{◌≡◌, List, Option, Result}
 use Rattle.go_tree.specs.declared.operators.BinOp.{BinOp}
 use Rattle.go_tree.specs.declared.operators.UnOp.{UnOp}
-use Rattle.go_tree.specs.declared.const_eval.consts.Const.{Const}
-use Rattle.go_tree.specs.GoTypes.Types.{GoType}
-use Rattle.go_tree.specs.GoTypes.Defined.{Defined}
-use Rattle.go_tree.specs.GoTypes.Entities.{Content}
-use Rattle.go_tree.specs.GoTypes.Operands.{Operand, Typed, fits}
-use Rattle.go_tree.specs.GoTypes.Operators.{binary_value_operand, unary_value_operand}
-use Rattle.go_tree.specs.GoTypes.Primary.{converted, index_of, sliced}
+use Rattle.go_rules.specs.declared.const_eval.consts.Const.{Const}
+use Rattle.go_rules.specs.GoTypes.Types.{GoType}
+use Rattle.go_rules.specs.GoTypes.Defined.{Defined}
+use Rattle.go_rules.specs.GoTypes.Entities.{Content}
+use Rattle.go_rules.specs.GoTypes.Operands.{Operand, Typed, fits}
+use Rattle.go_rules.specs.GoTypes.Operators.{binary_value_operand, unary_value_operand}
+use Rattle.go_rules.specs.GoTypes.Primary.{converted, index_of, sliced}
 use Rattle.type_table.specs.TypeRelations.Environment.{Environment}
 use Rattle.type_table.specs.declared.operand_rules.values.Value.{Value}
 use Rattle.type_table.specs.declared.operand_rules.values.Refusal.{Refusal}

@@ -1,7 +1,7 @@
 //! Types that a step adds to the tables (Go specification, Types).
 
 ghost use Rattle.std.specs.Prelude.{◌≡◌, ℕ, length, false, Some};
-ghost use Rattle.go_tree.specs.GoTypes.Types.{GoType, is_untyped};
+ghost use Rattle.go_rules.specs.GoTypes.Types.{GoType, is_untyped};
 ghost use Rattle.type_table.specs.Rows.{PartsBelow, row_of};
 ghost use Rattle.type_table.specs.TypesAt.{type_by};
 ghost use Rattle.type_table.specs.TypeRelations.Environment.{env_type};

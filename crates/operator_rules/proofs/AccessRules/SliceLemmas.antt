@@ -1,12 +1,12 @@
 -- Slice expressions whose bounds hold.
 use Rattle.std.specs.Prelude.{◌≡◌, true, ◌&&◌, List, Option, Some, None}
 use mathlib.Core.Path.{ap, sym, ◌∙◌}
-use Rattle.go_tree.specs.GoTypes.Answers.{given, only_if}
-use Rattle.go_tree.specs.GoTypes.Types.{GoType}
-use Rattle.go_tree.specs.GoTypes.Defined.{Defined}
-use Rattle.go_tree.specs.GoTypes.Entities.{run}
-use Rattle.go_tree.specs.GoTypes.Operands.{Typed, value, plain_value}
-use Rattle.go_tree.specs.GoTypes.Primary.{is_bound, rise, sliced, sliced_type}
+use Rattle.go_rules.specs.GoTypes.Answers.{given, only_if}
+use Rattle.go_rules.specs.GoTypes.Types.{GoType}
+use Rattle.go_rules.specs.GoTypes.Defined.{Defined}
+use Rattle.go_rules.specs.GoTypes.Entities.{run}
+use Rattle.go_rules.specs.GoTypes.Operands.{Typed, value, plain_value}
+use Rattle.go_rules.specs.GoTypes.Primary.{is_bound, rise, sliced, sliced_type}
 
 module _ (ds : List Defined) (v : Typed) (i j : Option Typed)
     (holds : (is_bound ds i && (is_bound ds j && rise ds i j)) ≡ true) where

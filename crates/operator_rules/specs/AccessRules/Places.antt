@@ -1,6 +1,6 @@
 -- Places by the code's names (Go specification, Address operators; Assignment statements).
-use Rattle.go_tree.specs.GoTypes.Entities as go
-use Rattle.go_tree.specs.GoTypes.Entities.{addressable, map_element, literal, elsewhere}
+use Rattle.go_rules.specs.GoTypes.Entities as go
+use Rattle.go_rules.specs.GoTypes.Entities.{addressable, map_element, literal, elsewhere}
 use Rattle.operator_rules.specs.declared.access_rules.places.Place.{Place}
 use Rattle.operator_rules.specs.declared.access_rules.places.Place.TheVariants.{Addressable, MapElement, Literal}
 use Rattle.operator_rules.specs.declared.access_rules.places.Place.TheVariants.{Elsewhere}

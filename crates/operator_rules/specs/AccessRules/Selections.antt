@@ -1,7 +1,7 @@
 -- What a selector gives (Go specification, Selectors).
 use Rattle.std.specs.Prelude.{Option, Some, None}
-use Rattle.go_tree.specs.GoTypes.Entities.{run}
-use Rattle.go_tree.specs.GoTypes.Operands.{Operand, value, a_function}
+use Rattle.go_rules.specs.GoTypes.Entities.{run}
+use Rattle.go_rules.specs.GoTypes.Operands.{Operand, value, a_function}
 use Rattle.type_table.specs.TypeRelations.Environment.{Environment, env_type}
 use Rattle.type_table.specs.declared.operand_rules.values.ValueType.TheVariants.{Typed}
 use Rattle.type_table.specs.OperandRules.Values.{IsType}

@@ -1,9 +1,9 @@
 //! Calls of functions (Go specification, Calls; Assignability).
 
 ghost use Rattle.std.specs.Prelude.{◌≡◌, ◌<◌, [], ◌∷◌, length, Some};
-ghost use Rattle.go_tree.specs.GoTypes.Answers.{only_if};
-ghost use Rattle.go_tree.specs.GoTypes.Operands.{a_function, results_operand, several, takes_all};
-ghost use Rattle.go_tree.specs.GoTypes.Primary.{call_of};
+ghost use Rattle.go_rules.specs.GoTypes.Answers.{only_if};
+ghost use Rattle.go_rules.specs.GoTypes.Operands.{a_function, results_operand, several, takes_all};
+ghost use Rattle.go_rules.specs.GoTypes.Primary.{call_of};
 ghost use Rattle.type_table.specs.TypeRelations.Environment.{defined_types};
 ghost use Rattle.operator_rules.specs.AccessRules.Functions.{AreTypes, AreValues, function_of, operands_of, results_of};
 ghost use Rattle.operator_rules.specs.AccessRules.Functions.{types_at};

@@ -1,10 +1,10 @@
 //! Fields that a selector names (Go specification, Selectors; Struct types; Exported identifiers).
 
 ghost use Rattle.std.specs.Prelude.{◌≡◌, ◌&&◌, bytes_eq, map, IfSome};
-ghost use Rattle.go_tree.specs.ScopeNames.Means.{is_blank};
-ghost use Rattle.go_tree.specs.GoTypes.Answers.{given};
-ghost use Rattle.go_tree.specs.GoTypes.Types.{fields_of};
-ghost use Rattle.go_tree.specs.GoTypes.Primary as go;
+ghost use Rattle.go_rules.specs.ScopeNames.Means.{is_blank};
+ghost use Rattle.go_rules.specs.GoTypes.Answers.{given};
+ghost use Rattle.go_rules.specs.GoTypes.Types.{fields_of};
+ghost use Rattle.go_rules.specs.GoTypes.Primary as go;
 ghost use Rattle.type_table.specs.Rows.{field_of, row_of};
 ghost use Rattle.type_table.specs.TypesAt.{fields_by, type_by};
 ghost use Rattle.type_table.specs.TypeRelations.Environment.{defined_types, env_type};

@@ -1,7 +1,7 @@
 //! What a type is, by the form of its underlying type (Go specification, Types; Underlying types).
 
 ghost use Rattle.std.specs.Prelude.{◌≡◌, ◌<◌, length};
-ghost use Rattle.go_tree.specs.GoTypes.Defined.{under};
+ghost use Rattle.go_rules.specs.GoTypes.Defined.{under};
 ghost use Rattle.type_table.specs.Rows.{row_of};
 ghost use Rattle.type_table.specs.TypesAt.{type_by};
 ghost use Rattle.type_table.specs.TypeRelations.Environment.{defined_types, env_type};

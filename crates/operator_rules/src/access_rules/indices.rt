@@ -1,10 +1,10 @@
 //! Index expressions (Go specification, Index expressions).
 
 ghost use Rattle.std.specs.Prelude.{◌≡◌, ◌&&◌, ◌<◌, true};
-ghost use Rattle.go_tree.specs.ConstEval.Exact.{is_text_kind};
-ghost use Rattle.go_tree.specs.GoTypes.Entities as go_entity;
-ghost use Rattle.go_tree.specs.GoTypes.Operands.{kind_passes};
-ghost use Rattle.go_tree.specs.GoTypes.Primary as go;
+ghost use Rattle.go_rules.specs.ConstEval.Exact.{is_text_kind};
+ghost use Rattle.go_rules.specs.GoTypes.Entities as go_entity;
+ghost use Rattle.go_rules.specs.GoTypes.Operands.{kind_passes};
+ghost use Rattle.go_rules.specs.GoTypes.Primary as go;
 ghost use Rattle.type_table.specs.TypeRelations.Environment.{defined_types};
 ghost use Rattle.type_table.specs.OperandRules.Values.{Gives, IsKept, IsType, IsValue, content_of, type_of, typed_of};
 ghost use Rattle.operator_rules.specs.BasicTypes.{AreBasic};
@@ -14,7 +14,7 @@ ghost use Rattle.operator_rules.specs.AccessRules.Places.{place_of};
 use crate::BasicTypes;
 use crate::access_rules::forms::form;
 use crate::access_rules::places::Place;
-use go_tree::const_eval::{Const, Kind, represent};
+use go_rules::const_eval::{Const, Kind, represent};
 use type_table::TypeNode;
 use type_table::operand_rules::{
     ConstTable, Content, Refusal, Value, ValueType, fits, is_text_kind, is_whole_number, kind_of,

@@ -1,7 +1,7 @@
 //! Methods that a selector names (Go specification, Selectors; Method sets; Exported identifiers).
 
 ghost use Rattle.std.specs.Prelude.{◌≡◌, ◌<◌, length};
-ghost use Rattle.go_tree.specs.GoTypes.Primary as go;
+ghost use Rattle.go_rules.specs.GoTypes.Primary as go;
 ghost use Rattle.type_table.specs.TypeRelations.Environment.{defined_types, env_type};
 ghost use Rattle.type_table.specs.OperandRules.Values.{IsType, type_of};
 ghost use Rattle.operator_rules.specs.AccessRules.Functions.{function_option};

@@ -1,10 +1,10 @@
 //! Dereferences and addresses (Go specification, Address operators).
 
 ghost use Rattle.std.specs.Prelude.{◌≡◌, List};
-ghost use Rattle.go_tree.specs.declared.const_eval.consts.Const.{Const};
-ghost use Rattle.go_tree.specs.GoTypes.Entities as go_entity;
-ghost use Rattle.go_tree.specs.GoTypes.Operands.{value};
-ghost use Rattle.go_tree.specs.GoTypes.Operators as go;
+ghost use Rattle.go_rules.specs.declared.const_eval.consts.Const.{Const};
+ghost use Rattle.go_rules.specs.GoTypes.Entities as go_entity;
+ghost use Rattle.go_rules.specs.GoTypes.Operands.{value};
+ghost use Rattle.go_rules.specs.GoTypes.Operators as go;
 ghost use Rattle.type_table.specs.TypeRelations.Environment.{defined_types, env_type};
 ghost use Rattle.type_table.specs.declared.operand_rules.values.ValueType.TheVariants.{Typed};
 ghost use Rattle.type_table.specs.OperandRules.Values.{Gives, IsType, type_of};

@@ -1,8 +1,8 @@
 //! Slice expressions (Go specification, Slice expressions).
 
 ghost use Rattle.std.specs.Prelude.{◌≡◌, ◌&&◌, Some, IfSome};
-ghost use Rattle.go_tree.specs.GoTypes.Entities as go_entity;
-ghost use Rattle.go_tree.specs.GoTypes.Primary as go;
+ghost use Rattle.go_rules.specs.GoTypes.Entities as go_entity;
+ghost use Rattle.go_rules.specs.GoTypes.Primary as go;
 ghost use Rattle.type_table.specs.TypeRelations.Environment.{defined_types};
 ghost use Rattle.type_table.specs.declared.operand_rules.values.ValueType.TheVariants.{Typed};
 ghost use Rattle.type_table.specs.OperandRules.Values.{Gives, IsType, IsValue, type_of, typed_of};
@@ -14,7 +14,7 @@ ghost use Rattle.operator_rules.specs.AccessRules.Slices.{IsBoundValue, bound_of
 use crate::access_rules::forms::form;
 use crate::access_rules::indices::{is_index, is_text};
 use crate::{BasicTypes, default_type};
-use go_tree::const_eval::Const;
+use go_rules::const_eval::Const;
 use type_table::operand_rules::{ConstTable, Content, Refusal, Value, ValueType};
 use type_table::type_relations::Env;
 use type_table::{TypeId, TypeNode};

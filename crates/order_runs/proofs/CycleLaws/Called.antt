@@ -1,24 +1,24 @@
 -- The marked functions that a part of a program calls, by names and types alone: the walk that lists finds the same.
 use Rattle.std.proofs.Common.{ℕ, suc, Bool, List, [], ◌∷◌, ◌++◌, length, Option, Some, None, if◌then◌else◌}
 use Rattle.go_tree.specs.Tree.{NameAt, Sig, TypeExpr, Expr, ident, int_lit, rune_lit, str_lit, composite, selector, index, slice, call, func_lit, type_operand, unary, binary, star, Exprs, no_exprs, expr_and, ExprOption, no_expr, some_expr, Elems, no_elems, elem, Value, plain, braced, ValueOption, no_value, some_value, Stmt, const_decl, var_decl, empty, eval, step, assign, define, return_, break_, continue_, inner, if_, for_, range_, switch, defer, label, Stmts, no_stmts, stmt_and, StmtOption, no_stmt, some_stmt, BlockOption, no_block, some_block, RangeLeft, nothing, assigns, defines, Arms, no_arms, arm, Cases, no_cases, case, ValueSpecs, no_specs, spec}
-use Rattle.go_tree.specs.ScopeNames.FreeNames.{names_of, declared, declared_option, defined}
-use Rattle.go_tree.specs.ScopeNames.Scopes as scopes
-use Rattle.go_tree.specs.ScopeNames.Scopes.{not_blank, sig_declares}
+use Rattle.go_rules.specs.ScopeNames.FreeNames.{names_of, declared, declared_option, defined}
+use Rattle.go_rules.specs.ScopeNames.Scopes as scopes
+use Rattle.go_rules.specs.ScopeNames.Scopes.{not_blank, sig_declares}
 use Rattle.pkg_graph.specs.Members.{Target}
-use Rattle.go_tree.specs.GoTypes.Answers.{given, meets, is_among, otherwise}
-use Rattle.go_tree.specs.GoTypes.Types.{GoType, base_of, type_name_of}
-use Rattle.go_tree.specs.GoTypes.Defined.{under}
-use Rattle.go_tree.specs.GoTypes.Entities.{Env, defined_in, extend, in_block}
-use Rattle.go_tree.specs.GoTypes.TypeNames.{type_meant, func_type, written_type}
-use Rattle.go_tree.specs.GoTypes.Literals.{is_struct, literal_type}
-use Rattle.go_tree.specs.GoTypes.Statements.{right_values}
-use Rattle.go_tree.specs.GoTypes.Typing.{parts, all_parts, places, declares, declares_first, range_declares, binds_of}
-use Rattle.go_tree.specs.GoTypes.Bodies.{no_values, literal_env}
-use Rattle.go_tree.specs.GoTypes.Declarations.{Repeated, nothing_to_repeat, new_constants, new_variables}
+use Rattle.go_rules.specs.GoTypes.Answers.{given, meets, is_among, otherwise}
+use Rattle.go_rules.specs.GoTypes.Types.{GoType, base_of, type_name_of}
+use Rattle.go_rules.specs.GoTypes.Defined.{under}
+use Rattle.go_rules.specs.GoTypes.Entities.{Env, defined_in, extend, in_block}
+use Rattle.go_rules.specs.GoTypes.TypeNames.{type_meant, func_type, written_type}
+use Rattle.go_rules.specs.GoTypes.Literals.{is_struct, literal_type}
+use Rattle.go_rules.specs.GoTypes.Statements.{right_values}
+use Rattle.go_rules.specs.GoTypes.Typing.{parts, all_parts, places, declares, declares_first, range_declares, binds_of}
+use Rattle.go_rules.specs.GoTypes.Bodies.{no_values, literal_env}
+use Rattle.go_rules.specs.GoTypes.Declarations.{Repeated, nothing_to_repeat, new_constants, new_variables}
 use Rattle.run_rules.specs.Surroundings.{Use, into_type, elem_use, key_use, repeated_by, first_declares, left_declares}
 use Rattle.run_rules.specs.Sites.{MarkRef}
 use Rattle.run_rules.specs.Classes.{type_at}
-use Rattle.go_tree.specs.GoTypes.Primary.{field_type}
+use Rattle.go_rules.specs.GoTypes.Primary.{field_type}
 use Rattle.std.specs.Prelude.{is_some}
 
 -- what a file's names and the marks say of calls, whatever the spans are

@@ -1,27 +1,27 @@
 -- What a part of a program calls needs no spans: one line a clause of the walk.
 use Rattle.std.proofs.Common.{◌≡◌, refl, sym, ap, ◌∙◌, ℕ, suc, Bool, true, false, not, ◌||◌, List, [], ◌∷◌, ◌++◌, map, filter, Option, Some, None, if◌then◌else◌}
 use Rattle.go_tree.specs.Tree.{NameAt, Param, Sig, Expr, ident, int_lit, rune_lit, str_lit, composite, selector, index, slice, call, func_lit, type_operand, unary, binary, star, Exprs, no_exprs, expr_and, ExprOption, no_expr, some_expr, Elems, no_elems, elem, Value, plain, braced, ValueOption, no_value, some_value, Stmt, const_decl, var_decl, empty, eval, step, assign, define, return_, break_, continue_, inner, if_, for_, range_, switch, defer, label, Stmts, no_stmts, stmt_and, StmtOption, no_stmt, some_stmt, BlockOption, no_block, some_block, RangeLeft, nothing, assigns, defines, Arms, no_arms, arm, Cases, no_cases, case, ValueSpecs, no_specs, spec}
-use Rattle.go_tree.specs.ScopeNames.FreeNames.{names_of}
-use Rattle.go_tree.specs.ScopeNames.Means.{is_blank}
-use Rattle.go_tree.specs.ScopeNames.Scopes as scopes
-use Rattle.go_tree.specs.ScopeNames.Scopes.{not_blank, sig_declares}
-use Rattle.go_tree.specs.GoTypes.Answers.{given, meets, otherwise}
-use Rattle.go_tree.specs.GoTypes.Types.{GoType, GoFields, fields_of, base_of, type_name_of}
-use Rattle.go_tree.specs.GoTypes.Defined.{under}
-use Rattle.go_tree.specs.GoTypes.Entities.{Env, defined_in, extend, in_block}
-use Rattle.go_tree.specs.GoTypes.Literals.{is_struct, literal_type, inner_type}
-use Rattle.go_tree.specs.GoTypes.Statements.{right_values}
-use Rattle.go_tree.specs.GoTypes.Typing.{binds_of}
-use Rattle.go_tree.specs.GoTypes.Declarations.{Repeated, nothing_to_repeat, new_constants, new_variables}
+use Rattle.go_rules.specs.ScopeNames.FreeNames.{names_of}
+use Rattle.go_rules.specs.ScopeNames.Means.{is_blank}
+use Rattle.go_rules.specs.ScopeNames.Scopes as scopes
+use Rattle.go_rules.specs.ScopeNames.Scopes.{not_blank, sig_declares}
+use Rattle.go_rules.specs.GoTypes.Answers.{given, meets, otherwise}
+use Rattle.go_rules.specs.GoTypes.Types.{GoType, GoFields, fields_of, base_of, type_name_of}
+use Rattle.go_rules.specs.GoTypes.Defined.{under}
+use Rattle.go_rules.specs.GoTypes.Entities.{Env, defined_in, extend, in_block}
+use Rattle.go_rules.specs.GoTypes.Literals.{is_struct, literal_type, inner_type}
+use Rattle.go_rules.specs.GoTypes.Statements.{right_values}
+use Rattle.go_rules.specs.GoTypes.Typing.{binds_of}
+use Rattle.go_rules.specs.GoTypes.Declarations.{Repeated, nothing_to_repeat, new_constants, new_variables}
 use Rattle.run_rules.specs.Surroundings.{Use, into_type, elem_use, key_use, first_declares, left_declares, into_or, field_set}
 use Rattle.go_tree.specs.Bare.{bare_name, bare_param, bare_sig, bare_expr, bare_exprs, bare_expr_option, bare_elems, bare_value, bare_value_option, bare_stmt, bare_stmts, bare_stmt_option, bare_block_option, bare_range_left, bare_arms, bare_cases, bare_value_specs}
 use Rattle.go_tree.specs.GoWords.Tokens.Pieces as tokens
 use Rattle.std.specs.Option.{option_map}
 use Rattle.std.specs.Prelude.{is_some}
-use Rattle.go_tree.proofs.ScopeNames.FreeNamesBare.{names_of-bare, declared-bare, declared_option-bare, defined-bare}
-use Rattle.go_tree.specs.GoTypes.Operands.{typed}
-use Rattle.go_tree.specs.GoTypes.Primary.{find_field, field_type}
-use Rattle.go_tree.proofs.GoTypes.TypingBare.{type_meant-bare, written_type-bare, func_type-bare, parts-bare, all_parts-bare, places-bare, declares-bare, declares_first-bare, range_declares-bare, field_key-bare}
+use Rattle.go_rules.proofs.ScopeNames.FreeNamesBare.{names_of-bare, declared-bare, declared_option-bare, defined-bare}
+use Rattle.go_rules.specs.GoTypes.Operands.{typed}
+use Rattle.go_rules.specs.GoTypes.Primary.{find_field, field_type}
+use Rattle.go_rules.proofs.GoTypes.TypingBare.{type_meant-bare, written_type-bare, func_type-bare, parts-bare, all_parts-bare, places-bare, declares-bare, declares_first-bare, range_declares-bare, field_key-bare}
 use Rattle.order_runs.proofs.CycleLaws.SmallBare.{length-bare, literal_env-bare, no_values-bare}
 use Rattle.run_rules.specs.Sites.{MarkRef}
 use Rattle.order_runs.proofs.CycleLaws.Called.{Callees, at_member, called_by, callee, calls_expr, calls_all, calls_option, calls_elems, calls_key, calls_value, calls_stmt, calls_stmts, calls_first, calls_block, calls_left, calls_arms, calls_cases, calls_constants, calls_variables}

@@ -7,20 +7,20 @@ use Rattle.go_tree.specs.Tree.{NameAt, named, Param, const_decl, var_decl, empty
 use Rattle.go_tree.specs.File.{TypeSpec, Receiver, Func, Decl, values, types, func, File}
 use Rattle.go_tree.specs.Bare.{bare_name, bare_param, bare_sig, bare_value_specs}
 use Rattle.go_tree.specs.FileBare.{bare_receiver, bare_func, bare_decl}
-use Rattle.go_tree.specs.ScopeNames.FreeNames.{names_of}
-use Rattle.go_tree.specs.ScopeNames.Means.{Environment, is_blank}
-use Rattle.go_tree.specs.ScopeNames.Scopes.{not_blank, param_names, with_name}
+use Rattle.go_rules.specs.ScopeNames.FreeNames.{names_of}
+use Rattle.go_rules.specs.ScopeNames.Means.{Environment, is_blank}
+use Rattle.go_rules.specs.ScopeNames.Scopes.{not_blank, param_names, with_name}
 use Rattle.pkg_graph.specs.Package.{Package}
-use Rattle.go_tree.specs.GoTypes.Answers.{given, otherwise, only_if}
-use Rattle.go_tree.specs.GoTypes.Types.{named_type, type_name_of, base_of}
-use Rattle.go_tree.specs.GoTypes.Defined.{under}
-use Rattle.go_tree.specs.GoTypes.Entities.{Entity, Env, World, Binds, extend, meaning, type_of_name}
-use Rattle.go_tree.specs.GoTypes.Programs.{file_env}
-use Rattle.go_tree.specs.GoTypes.TypeNames.{func_type}
-use Rattle.go_tree.specs.GoTypes.Bodies.{body_binds}
-use Rattle.go_tree.specs.GoTypes.MethodDeclarations.{receiver_binds}
-use Rattle.go_tree.specs.GoTypes.WellTyped.{receiver_of}
-use Rattle.go_tree.proofs.GoTypes.TypingBare.{func_type-bare}
+use Rattle.go_rules.specs.GoTypes.Answers.{given, otherwise, only_if}
+use Rattle.go_rules.specs.GoTypes.Types.{named_type, type_name_of, base_of}
+use Rattle.go_rules.specs.GoTypes.Defined.{under}
+use Rattle.go_rules.specs.GoTypes.Entities.{Entity, Env, World, Binds, extend, meaning, type_of_name}
+use Rattle.go_rules.specs.GoTypes.Programs.{file_env}
+use Rattle.go_rules.specs.GoTypes.TypeNames.{func_type}
+use Rattle.go_rules.specs.GoTypes.Bodies.{body_binds}
+use Rattle.go_rules.specs.GoTypes.MethodDeclarations.{receiver_binds}
+use Rattle.go_rules.specs.GoTypes.WellTyped.{receiver_of}
+use Rattle.go_rules.proofs.GoTypes.TypingBare.{func_type-bare}
 use Rattle.order_runs.proofs.CycleLaws.SmallBare.{body_binds-bare}
 use Rattle.run_rules.specs.Surroundings.{Seen, seen_type, value_use, alike, in_constant, Place}
 use Rattle.run_rules.specs.Places.{written_seen, sig_seen, all_seen, stmts_seen}

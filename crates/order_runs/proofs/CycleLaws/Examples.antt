@@ -1,9 +1,9 @@
 -- An example: every program declares what it declares, and its names mean what they mean, so it reads calls alike.
 use Rattle.std.proofs.Common.{◌≡◌, refl, sym, ap, ◌∙◌, List, Some}
 use Rattle.std.proofs.lemmas.Option.{same_Some}
-use Rattle.go_tree.specs.ScopeNames.Means.{means}
+use Rattle.go_rules.specs.ScopeNames.Means.{means}
 use Rattle.pkg_graph.specs.Package.{Package}
-use Rattle.go_tree.specs.GoTypes.Answers.{given}
+use Rattle.go_rules.specs.GoTypes.Answers.{given}
 use Rattle.run_rules.specs.Programs.{imports_mean}
 use Rattle.run_rules.specs.Sites.{MarkRef, Where, where_is, imported_by, outer, import_number}
 use Rattle.run_rules.specs.Steps.{At}

@@ -2,7 +2,7 @@
 -- and types alone, which stay.
 use Rattle.std.proofs.Common.{ℕ, List, refl, sym}
 use Rattle.go_tree.specs.Tree.{Expr, Stmts}
-use Rattle.go_tree.specs.ScopeNames.FreeNames.{names_of}
+use Rattle.go_rules.specs.ScopeNames.FreeNames.{names_of}
 use Rattle.pkg_graph.specs.Package.{Package}
 use Rattle.constant_steps.specs.StepLaws.Stands.{ExprStands, StmtsStands}
 use Rattle.run_rules.specs.Surroundings.{Use, Place}

@@ -4,13 +4,13 @@ use mathlib.Core.Path.{ap, ap₂}
 use Rattle.std.specs.Option.{option_map}
 use Rattle.go_tree.specs.Tree.{NameAt, Param, Sig, Exprs, no_exprs, expr_and}
 use Rattle.go_tree.specs.Bare.{bare_name, bare_param, bare_sig, bare_exprs}
-use Rattle.go_tree.proofs.ScopeNames.FreeNamesBare.{sig_names-bare}
-use Rattle.go_tree.specs.GoTypes.Answers.{given, only_if, distinct_by}
-use Rattle.go_tree.specs.GoTypes.Types.{GoType, FuncType}
-use Rattle.go_tree.specs.GoTypes.Entities.{Env, Binds, extend, in_block}
-use Rattle.go_tree.specs.GoTypes.Statements.{bound_names, param_binding, param_binds, body_binds, no_values}
-use Rattle.go_tree.specs.GoTypes.Typing.{binds_or, literal_env}
-use Rattle.go_tree.proofs.GoTypes.TypingBare.{func_type-bare}
+use Rattle.go_rules.proofs.ScopeNames.FreeNamesBare.{sig_names-bare}
+use Rattle.go_rules.specs.GoTypes.Answers.{given, only_if, distinct_by}
+use Rattle.go_rules.specs.GoTypes.Types.{GoType, FuncType}
+use Rattle.go_rules.specs.GoTypes.Entities.{Env, Binds, extend, in_block}
+use Rattle.go_rules.specs.GoTypes.Statements.{bound_names, param_binding, param_binds, body_binds, no_values}
+use Rattle.go_rules.specs.GoTypes.Typing.{binds_or, literal_env}
+use Rattle.go_rules.proofs.GoTypes.TypingBare.{func_type-bare}
 
 module _ {S : Type 0} where
   pub length-bare : (ns : List (NameAt S)) → length (map bare_name ns) ≡ length ns

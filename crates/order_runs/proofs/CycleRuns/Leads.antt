@@ -7,7 +7,7 @@ use Rattle.go_tree.specs.declared.spans.Span.{Span}
 use Rattle.go_tree.specs.Tree.{Expr}
 use Rattle.go_tree.specs.File.{Decl}
 use Rattle.pkg_graph.specs.Package.{SourceTree, Package}
-use Rattle.go_tree.specs.GoTypes.Answers.{given}
+use Rattle.go_rules.specs.GoTypes.Answers.{given}
 use Rattle.run_rules.specs.Surroundings.{Seen, seen, seen_type, seen_stmt}
 use Rattle.run_rules.specs.Programs.{decl_seen}
 use Rattle.run_rules.specs.Respanned.{decl_with, decls_with}

@@ -5,21 +5,21 @@ use Rattle.std.proofs.lemmas.Option.{same_Some}
 use Rattle.std.proofs.lemmas.Slice.Eq.{bytes_eq-Decides}
 use Rattle.go_tree.specs.Tree.{NameAt, Sig}
 use Rattle.go_tree.specs.File.{Receiver, Func}
-use Rattle.go_tree.specs.ScopeNames.FreeNames.{name_then, sig_names, free_stmts}
-use Rattle.go_tree.specs.ScopeNames.Means.{Environment, means, is_blank, binding}
-use Rattle.go_tree.specs.GoTypes.Agreement.{Agrees, On}
-use Rattle.go_tree.specs.GoTypes.Answers.{given, meets, only_if, otherwise, is_among, distinct_by}
-use Rattle.go_tree.specs.GoTypes.Bodies.{param_binds, body_binds}
-use Rattle.go_tree.specs.GoTypes.Collect.{DeclaredTypes, good_entity, env_of, may_be_main, function_declared}
-use Rattle.go_tree.specs.GoTypes.Declarations.{bound_names}
-use Rattle.go_tree.specs.GoTypes.Defined.{Method}
-use Rattle.go_tree.specs.GoTypes.Entities.{Entity, World, Env, Binds, variable, function, extend}
-use Rattle.go_tree.specs.GoTypes.MethodDeclarations.{MethodName, is_new_method, receiver_type, receiver_binds, method_declared}
-use Rattle.go_tree.specs.GoTypes.Programs.{Header, a_func, Headed}
-use Rattle.go_tree.specs.GoTypes.TypeNames.{func_type}
-use Rattle.go_tree.specs.GoTypes.Types.{GoType, FuncType, named_type, pointer_to}
-use Rattle.go_tree.specs.GoTypes.WellTyped.{receiver_names, receiver_of, is_method}
-use Rattle.go_tree.proofs.GoTypes.Agreeing.{agrees_after, under_same, literal_cover}
+use Rattle.go_rules.specs.ScopeNames.FreeNames.{name_then, sig_names, free_stmts}
+use Rattle.go_rules.specs.ScopeNames.Means.{Environment, means, is_blank, binding}
+use Rattle.go_rules.specs.GoTypes.Agreement.{Agrees, On}
+use Rattle.go_rules.specs.GoTypes.Answers.{given, meets, only_if, otherwise, is_among, distinct_by}
+use Rattle.go_rules.specs.GoTypes.Bodies.{param_binds, body_binds}
+use Rattle.go_rules.specs.GoTypes.Collect.{DeclaredTypes, good_entity, env_of, may_be_main, function_declared}
+use Rattle.go_rules.specs.GoTypes.Declarations.{bound_names}
+use Rattle.go_rules.specs.GoTypes.Defined.{Method}
+use Rattle.go_rules.specs.GoTypes.Entities.{Entity, World, Env, Binds, variable, function, extend}
+use Rattle.go_rules.specs.GoTypes.MethodDeclarations.{MethodName, is_new_method, receiver_type, receiver_binds, method_declared}
+use Rattle.go_rules.specs.GoTypes.Programs.{Header, a_func, Headed}
+use Rattle.go_rules.specs.GoTypes.TypeNames.{func_type}
+use Rattle.go_rules.specs.GoTypes.Types.{GoType, FuncType, named_type, pointer_to}
+use Rattle.go_rules.specs.GoTypes.WellTyped.{receiver_names, receiver_of, is_method}
+use Rattle.go_rules.proofs.GoTypes.Agreeing.{agrees_after, under_same, literal_cover}
 use Rattle.constant_steps.proofs.StepLaws.OutsideHolds.{of_either, no_name}
 use Rattle.typed_in_place.proofs.Headers.{method_in, declared_in}
 use Rattle.typed_in_place.proofs.Rising.{and_second}

@@ -5,8 +5,8 @@ use Rattle.std.specs.Prelude.{codes, slice_get, is_some}
 use Rattle.std.proofs.lemmas.Option.{same_Some}
 use Rattle.go_tree.specs.Tree.{NameAt, Expr, ident, int_lit, selector, no_exprs, expr_and, const_decl, no_specs, spec}
 use Rattle.go_tree.specs.File.{Decl, values}
-use Rattle.go_tree.specs.GoTypes.Agreement.{In, head, tail}
-use Rattle.go_tree.specs.GoTypes.Programs.{Import, SourceFile}
+use Rattle.go_rules.specs.GoTypes.Agreement.{In, head, tail}
+use Rattle.go_rules.specs.GoTypes.Programs.{Import, SourceFile}
 use Rattle.go_translation.specs.Packages.{Package, codes_of}
 use Rattle.typed_in_place.specs.ProgramsAlike.{no_more, and_more}
 use Rattle.order_runs.specs.CycleRuns.ImportCycles.LookedUp.{decl_looked_up}

@@ -4,19 +4,19 @@ use mathlib.Core.Path.{ap, sym, ◌∙◌, subst}
 use Rattle.std.proofs.Common.{arith}
 use Rattle.go_tree.specs.Tree.{NameAt, TypeExpr, Exprs}
 use Rattle.go_tree.specs.File.{Receiver, Func as Function}
-use Rattle.go_tree.specs.ScopeNames.Means.{Environment}
-use Rattle.go_tree.specs.ScopeNames.FreeNames.{names_of, free_type_option, free_params, free_exprs, free_stmts}
-use Rattle.go_tree.specs.GoTypes.Answers.{given, only_if, otherwise}
-use Rattle.go_tree.specs.GoTypes.Types.{GoType, FuncType, named_type, type_name_of, base_of}
-use Rattle.go_tree.specs.GoTypes.Defined.{under}
-use Rattle.go_tree.specs.GoTypes.Entities.{Entity, World, type_of_name, Binds, extend, in_block}
-use Rattle.go_tree.specs.GoTypes.TypeNames.{func_type, written_type}
-use Rattle.go_tree.specs.GoTypes.Statements.{body_binds, no_values}
-use Rattle.go_tree.specs.GoTypes.Programs.{Header, constants, variables, a_type_spec, a_func, Headed}
-use Rattle.go_tree.specs.GoTypes.Collect.{env_of, receiver_type, receiver_binds}
-use Rattle.go_tree.specs.GoTypes.WellTyped.{receiver_of, body_env}
-use Rattle.go_tree.specs.GoTypes.Agreement.{Same, On, Agrees}
-use Rattle.go_tree.proofs.GoTypes.Agreeing.{agrees_after}
+use Rattle.go_rules.specs.ScopeNames.Means.{Environment}
+use Rattle.go_rules.specs.ScopeNames.FreeNames.{names_of, free_type_option, free_params, free_exprs, free_stmts}
+use Rattle.go_rules.specs.GoTypes.Answers.{given, only_if, otherwise}
+use Rattle.go_rules.specs.GoTypes.Types.{GoType, FuncType, named_type, type_name_of, base_of}
+use Rattle.go_rules.specs.GoTypes.Defined.{under}
+use Rattle.go_rules.specs.GoTypes.Entities.{Entity, World, type_of_name, Binds, extend, in_block}
+use Rattle.go_rules.specs.GoTypes.TypeNames.{func_type, written_type}
+use Rattle.go_rules.specs.GoTypes.Statements.{body_binds, no_values}
+use Rattle.go_rules.specs.GoTypes.Programs.{Header, constants, variables, a_type_spec, a_func, Headed}
+use Rattle.go_rules.specs.GoTypes.Collect.{env_of, receiver_type, receiver_binds}
+use Rattle.go_rules.specs.GoTypes.WellTyped.{receiver_of, body_env}
+use Rattle.go_rules.specs.GoTypes.Agreement.{Same, On, Agrees}
+use Rattle.go_rules.proofs.GoTypes.Agreeing.{agrees_after}
 use Rattle.typed_in_place.specs.ImportsMoved.{under_imports, file_names, MovedReceiver, nothing_received, received, MovedIn, moved_constants, moved_variables, moved_type, moved_func, Moved, MovedBody, moved_body}
 use Rattle.typed_in_place.proofs.ImportsMoved.{func_type-moved}
 use Rattle.go_kernel.specs.Kernel.{ImportPath, FuncName, Func, Term, Vals}

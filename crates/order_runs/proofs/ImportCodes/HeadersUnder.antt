@@ -3,18 +3,18 @@ use Rattle.std.proofs.Common.{◌≡◌, refl, sym, ◌∙◌, subst, ℕ, suc, 
 use Rattle.std.specs.Prelude.{slice_get, nat_eq, is_none, ◌&&◌}
 use Rattle.go_tree.specs.Tree.{TypeExpr, Exprs, no_exprs, const_decl, var_decl, empty, eval, step, assign, define, return_, break_, continue_, inner, if_, for_, range_, switch, defer, label, ValueSpecs, no_specs, spec}
 use Rattle.go_tree.specs.File.{TypeSpec, Receiver, Func, Decl, values, types, func}
-use Rattle.go_tree.specs.ScopeNames.FreeNames.{free_params, free_stmts}
-use Rattle.go_tree.specs.ScopeNames.Means.{Environment, means, is_blank}
-use Rattle.go_tree.specs.GoTypes.Answers.{given, only_if, otherwise}
-use Rattle.go_tree.specs.GoTypes.Types.{named_type, type_name_of, base_of}
-use Rattle.go_tree.specs.GoTypes.Defined.{under}
-use Rattle.go_tree.specs.GoTypes.Entities.{Entity, World, type_of_name, Binds, block_of, universe}
-use Rattle.go_tree.specs.GoTypes.Statements.{body_binds, no_values}
-use Rattle.go_tree.specs.GoTypes.MethodDeclarations.{MethodName}
-use Rattle.go_tree.specs.GoTypes.Programs.{Header, constants, variables, a_type_spec, a_func, Headed, at_member, constant_headers, variable_headers, headers, all_headers, header_names, header_sound, headed_file, file_env}
-use Rattle.go_tree.specs.GoTypes.Collect.{DeclaredTypes, env_of, receiver_binds}
-use Rattle.go_tree.specs.GoTypes.WellTyped.{receiver_of, body_env, header_ok}
-use Rattle.go_tree.specs.GoTypes.Agreement.{On, Agrees}
+use Rattle.go_rules.specs.ScopeNames.FreeNames.{free_params, free_stmts}
+use Rattle.go_rules.specs.ScopeNames.Means.{Environment, means, is_blank}
+use Rattle.go_rules.specs.GoTypes.Answers.{given, only_if, otherwise}
+use Rattle.go_rules.specs.GoTypes.Types.{named_type, type_name_of, base_of}
+use Rattle.go_rules.specs.GoTypes.Defined.{under}
+use Rattle.go_rules.specs.GoTypes.Entities.{Entity, World, type_of_name, Binds, block_of, universe}
+use Rattle.go_rules.specs.GoTypes.Statements.{body_binds, no_values}
+use Rattle.go_rules.specs.GoTypes.MethodDeclarations.{MethodName}
+use Rattle.go_rules.specs.GoTypes.Programs.{Header, constants, variables, a_type_spec, a_func, Headed, at_member, constant_headers, variable_headers, headers, all_headers, header_names, header_sound, headed_file, file_env}
+use Rattle.go_rules.specs.GoTypes.Collect.{DeclaredTypes, env_of, receiver_binds}
+use Rattle.go_rules.specs.GoTypes.WellTyped.{receiver_of, body_env, header_ok}
+use Rattle.go_rules.specs.GoTypes.Agreement.{On, Agrees}
 use Rattle.typed_in_place.specs.ProgramsAlike.{OneByOne, no_more, and_more}
 use Rattle.typed_in_place.specs.ProgramReplaced.{All, all_of_none, all_and}
 use Rattle.typed_in_place.specs.ImportsMoved.{under_imports, file_names, MovedReceiver, nothing_received, received, MovedIn, moved_func, Moved, MovedBody, moved_body, constants_moved, variables_moved, type_moved}

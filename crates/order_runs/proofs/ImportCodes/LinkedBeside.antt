@@ -2,7 +2,7 @@
 use Rattle.std.specs.Prelude.{◌≡◌, refl, ℕ, Bool, true, false, ◌&&◌, ◌||◌, List, [], ◌∷◌, ◌++◌}
 use Rattle.std.specs.List.{list_all, list_any}
 use mathlib.Core.Path.{ap, sym, ◌∙◌}
-use Rattle.go_tree.specs.GoTypes.Programs.{Import, SourceFile}
+use Rattle.go_rules.specs.GoTypes.Programs.{Import, SourceFile}
 use Rattle.typed_in_place.proofs.Rising.{and_second, both_true}
 use Rattle.go_translation.specs.Packages.{Package, has_number, imports_known, are_linked}
 

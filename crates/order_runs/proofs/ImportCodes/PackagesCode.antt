@@ -3,10 +3,10 @@ use Rattle.std.specs.Prelude.{◌≡◌, refl, ℕ, suc, Bool, true, false, not,
 use Rattle.std.specs.List.{list_any}
 use mathlib.Core.Path.{ap, ap₂, sym, ◌∙◌, subst}
 use Rattle.go_tree.specs.File.{Decl}
-use Rattle.go_tree.specs.GoTypes.Entities.{World, block_of, universe}
-use Rattle.go_tree.specs.GoTypes.Programs.{SourceFile, Program, all_headers, names_in, block_names, file_block, Headed, headed_file, headed_files, headed_package, headed}
-use Rattle.go_tree.specs.GoTypes.Collect.{DeclaredTypes, types_declared, aliased_world, typed_world, collected}
-use Rattle.go_tree.specs.GoTypes.WellTyped.{body_ok}
+use Rattle.go_rules.specs.GoTypes.Entities.{World, block_of, universe}
+use Rattle.go_rules.specs.GoTypes.Programs.{SourceFile, Program, all_headers, names_in, block_names, file_block, Headed, headed_file, headed_files, headed_package, headed}
+use Rattle.go_rules.specs.GoTypes.Collect.{DeclaredTypes, types_declared, aliased_world, typed_world, collected}
+use Rattle.go_rules.specs.GoTypes.WellTyped.{body_ok}
 use Rattle.typed_in_place.specs.ProgramsAlike.{OneByOne, no_more, and_more, AliasesStand, TypesStand, ValuesStand, DeclareAlike}
 use Rattle.typed_in_place.specs.ImportRule.{SamePackage, declarations_ok}
 use Rattle.typed_in_place.specs.ProgramReplaced.{All, all_of_none, all_and, InPlace}

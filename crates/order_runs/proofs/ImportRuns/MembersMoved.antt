@@ -4,7 +4,7 @@ use Rattle.std.specs.Prelude.{bytes_eq}
 use Rattle.go_tree.specs.File.{ImportSpec}
 use Rattle.pkg_graph.specs.Package.{SourceTree, Package, import_specs}
 use Rattle.pkg_graph.specs.Members.{import_name}
-use Rattle.go_tree.specs.GoTypes.Answers.{given}
+use Rattle.go_rules.specs.GoTypes.Answers.{given}
 use Rattle.go_translation.specs.Packages as translated
 use Rattle.run_rules.specs.Programs.{package_number, linked_import, linked_file, linked_package, dependency_order}
 use Rattle.typed_in_place.specs.ProgramsAlike.{OneByOne, no_more, and_more}

@@ -11,8 +11,8 @@ use Rattle.go_tree.specs.File.{Decl, values, ImportDecl}
 use Rattle.pkg_graph.specs.ModuleFiles.Internal.{passes}
 use Rattle.pkg_graph.specs.Package as run
 use Rattle.pkg_graph.specs.Package.{SourceTree}
-use Rattle.go_tree.specs.GoTypes.Agreement.{In, head, tail}
-use Rattle.go_tree.specs.GoTypes.Programs.{Import}
+use Rattle.go_rules.specs.GoTypes.Agreement.{In, head, tail}
+use Rattle.go_rules.specs.GoTypes.Programs.{Import}
 use Rattle.go_translation.specs.Packages.{Package, sources}
 use Rattle.go_translation.specs.SameMeaning.{Packages, SameMeaning}
 use Rattle.typed_in_place.specs.ProgramsAlike.{no_more, and_more}

@@ -4,12 +4,12 @@ use mathlib.Core.Path.{ap, ap₂, sym, ◌∙◌}
 use Rattle.std.proofs.Common.{arith}
 use Rattle.go_tree.specs.Tree.{NameAt, Expr, no_exprs, expr_and}
 use Rattle.pkg_graph.specs.Package.{Package}
-use Rattle.go_tree.specs.GoTypes.Answers.{given, both, only_if}
-use Rattle.go_tree.specs.GoTypes.Entities.{Entity, refused, World, Env, Binds}
-use Rattle.go_tree.specs.GoTypes.Operands.{Operand, all_typed, named_operand}
-use Rattle.go_tree.specs.GoTypes.Statements.{bind_all, constant_entity}
-use Rattle.go_tree.specs.GoTypes.Programs.{constants, Program, Headed, headed, is_init}
-use Rattle.go_tree.specs.GoTypes.Collect.{env_of, good_entity, declared_by, DeclaredTypes, types_declared, collected}
+use Rattle.go_rules.specs.GoTypes.Answers.{given, both, only_if}
+use Rattle.go_rules.specs.GoTypes.Entities.{Entity, refused, World, Env, Binds}
+use Rattle.go_rules.specs.GoTypes.Operands.{Operand, all_typed, named_operand}
+use Rattle.go_rules.specs.GoTypes.Statements.{bind_all, constant_entity}
+use Rattle.go_rules.specs.GoTypes.Programs.{constants, Program, Headed, headed, is_init}
+use Rattle.go_rules.specs.GoTypes.Collect.{env_of, good_entity, declared_by, DeclaredTypes, types_declared, collected}
 use Rattle.typed_in_place.specs.Declared.{NamesConstant, ConstantOrRefused, a_constant, refused_yet}
 use Rattle.typed_in_place.specs.Leaves.{Names, plain_name, qualified_name}
 use Rattle.typed_in_place.specs.ProgramReplaced.{ValuesEnd, All}

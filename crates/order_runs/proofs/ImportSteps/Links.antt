@@ -6,12 +6,12 @@ use mathlib.Core.Path.{ap, sym, ◌∙◌}
 use Rattle.go_tree.specs.Tree.{Expr}
 use Rattle.go_tree.specs.File.{File}
 use Rattle.pkg_graph.specs.Package as run
-use Rattle.go_tree.specs.ScopeNames.Means.{is_blank}
-use Rattle.go_tree.specs.GoTypes.Answers.{is_among, one_of}
-use Rattle.go_tree.specs.GoTypes.Entities.{World}
-use Rattle.go_tree.specs.GoTypes.Programs.{Import, SourceFile, SourcePackage, Program, Headed, headed, headed_package, block_names, import_sound}
-use Rattle.go_tree.specs.GoTypes.Collect.{aliased_world, typed_world, types_declared, collected}
-use Rattle.go_tree.specs.GoTypes.WellTyped.{refused_unless, header_uses, is_used_in, first_import, well_typed}
+use Rattle.go_rules.specs.ScopeNames.Means.{is_blank}
+use Rattle.go_rules.specs.GoTypes.Answers.{is_among, one_of}
+use Rattle.go_rules.specs.GoTypes.Entities.{World}
+use Rattle.go_rules.specs.GoTypes.Programs.{Import, SourceFile, SourcePackage, Program, Headed, headed, headed_package, block_names, import_sound}
+use Rattle.go_rules.specs.GoTypes.Collect.{aliased_world, typed_world, types_declared, collected}
+use Rattle.go_rules.specs.GoTypes.WellTyped.{refused_unless, header_uses, is_used_in, first_import, well_typed}
 use Rattle.typed_in_place.specs.ProgramsAlike.{OneByOne}
 use Rattle.typed_in_place.specs.ImportRule.{files_import, package_imports, imports_ok, declarations_ok, SamePackage}
 use Rattle.typed_in_place.specs.ProgramReplaced.{All, all_of_none, all_and, Apart, InPlace, InPlaceBeside}

@@ -5,10 +5,10 @@ use mathlib.Core.Path.{ap, sym, ◌∙◌, subst}
 use Rattle.go_tree.specs.Tree.{Expr}
 use Rattle.go_tree.specs.File.{Decl, File}
 use Rattle.pkg_graph.specs.Package.{Package}
-use Rattle.go_tree.specs.GoTypes.Entities.{World}
-use Rattle.go_tree.specs.GoTypes.Programs.{SourceFile, SourcePackage, Program, headed, file_block, is_init}
-use Rattle.go_tree.specs.GoTypes.Collect.{file_env, types_declared, collected}
-use Rattle.go_tree.proofs.GoTypes.Agreeing.{some_same}
+use Rattle.go_rules.specs.GoTypes.Entities.{World}
+use Rattle.go_rules.specs.GoTypes.Programs.{SourceFile, SourcePackage, Program, headed, file_block, is_init}
+use Rattle.go_rules.specs.GoTypes.Collect.{file_env, types_declared, collected}
+use Rattle.go_rules.proofs.GoTypes.Agreeing.{some_same}
 use Rattle.typed_in_place.specs.ProgramReplaced.{All, at_last}
 use Rattle.run_rules.specs.Programs.{linked_file, linked_imports, decl_seen}
 use Rattle.run_rules.specs.Sites.{MarkRef, Site, part_span}

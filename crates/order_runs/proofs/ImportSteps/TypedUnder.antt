@@ -1,13 +1,13 @@
 -- Under other imports each header is typed as before, where each name means what it meant.
 use Rattle.std.specs.Prelude.{◌≡◌, true, List, if◌then◌else◌, is_some}
 use mathlib.Core.Path.{sym, ◌∙◌, subst}
-use Rattle.go_tree.specs.ScopeNames.Means.{Environment}
-use Rattle.go_tree.specs.GoTypes.Answers.{meets}
-use Rattle.go_tree.specs.GoTypes.Entities.{Entity, World}
-use Rattle.go_tree.specs.GoTypes.Programs.{Headed, headed}
-use Rattle.go_tree.specs.GoTypes.Collect.{DeclaredTypes, types_declared, collected}
-use Rattle.go_tree.specs.GoTypes.MethodDeclarations.{MethodName, is_new_method}
-use Rattle.go_tree.specs.GoTypes.WellTyped.{is_method, header_ok, well_typed}
+use Rattle.go_rules.specs.ScopeNames.Means.{Environment}
+use Rattle.go_rules.specs.GoTypes.Answers.{meets}
+use Rattle.go_rules.specs.GoTypes.Entities.{Entity, World}
+use Rattle.go_rules.specs.GoTypes.Programs.{Headed, headed}
+use Rattle.go_rules.specs.GoTypes.Collect.{DeclaredTypes, types_declared, collected}
+use Rattle.go_rules.specs.GoTypes.MethodDeclarations.{MethodName, is_new_method}
+use Rattle.go_rules.specs.GoTypes.WellTyped.{is_method, header_ok, well_typed}
 use Rattle.typed_in_place.specs.ImportsMoved.{under_imports, Moved}
 use Rattle.typed_in_place.specs.ProgramsAlike.{OneByOne, no_more, and_more}
 use Rattle.typed_in_place.specs.ProgramReplaced.{All, all_of_none, all_and}

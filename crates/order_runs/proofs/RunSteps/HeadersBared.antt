@@ -6,13 +6,13 @@ use Rattle.go_tree.specs.Tree.{Exprs, TypeExpr, no_exprs, const_decl, var_decl, 
 use Rattle.go_tree.specs.File.{Receiver, TypeSpec, Decl, values, types, func}
 use Rattle.go_tree.specs.Bare.{bare_name, bare_type, bare_exprs, bare_value_specs}
 use Rattle.go_tree.specs.FileBare.{bare_type_spec, bare_receiver, bare_decl}
-use Rattle.go_tree.specs.ScopeNames.Means.{Environment, is_blank, binding}
-use Rattle.go_tree.proofs.ScopeNames.FreeNamesBare.{names_of-bare}
-use Rattle.go_tree.specs.GoTypes.Answers.{is_among}
-use Rattle.go_tree.specs.GoTypes.Entities.{Entity}
-use Rattle.go_tree.specs.GoTypes.Bodies.{no_values}
-use Rattle.go_tree.specs.GoTypes.Declarations.{names_once}
-use Rattle.go_tree.specs.GoTypes.Programs.{Header, constants, variables, a_type_spec, a_func, Headed, Import, SourceFile, SourcePackage, Program, headers, all_headers, header_names, header_sound, names_in, constant_headers, variable_headers, at_member, is_init, is_main, import_entity, import_sound, file_block, block_names, headed_file, headed_files, headed_package, headed}
+use Rattle.go_rules.specs.ScopeNames.Means.{Environment, is_blank, binding}
+use Rattle.go_rules.proofs.ScopeNames.FreeNamesBare.{names_of-bare}
+use Rattle.go_rules.specs.GoTypes.Answers.{is_among}
+use Rattle.go_rules.specs.GoTypes.Entities.{Entity}
+use Rattle.go_rules.specs.GoTypes.Bodies.{no_values}
+use Rattle.go_rules.specs.GoTypes.Declarations.{names_once}
+use Rattle.go_rules.specs.GoTypes.Programs.{Header, constants, variables, a_type_spec, a_func, Headed, Import, SourceFile, SourcePackage, Program, headers, all_headers, header_names, header_sound, names_in, constant_headers, variable_headers, at_member, is_init, is_main, import_entity, import_sound, file_block, block_names, headed_file, headed_files, headed_package, headed}
 use Rattle.go_translation.specs.SpansAside.{bare_header, bare_headed}
 use Rattle.order_runs.proofs.CycleLaws.SmallBare.{no_values-bare}
 use Rattle.order_runs.specs.RunSteps.Bared.{bare_import, bare_source, bare_package}

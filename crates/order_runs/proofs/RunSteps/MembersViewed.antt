@@ -8,8 +8,8 @@ use Rattle.pkg_graph.specs.Package as run
 use Rattle.pkg_graph.specs.Package.{SourceTree, import_specs}
 use Rattle.pkg_graph.specs.Members.{package_name, name_or}
 use Rattle.pkg_graph.specs.Graph.{files_import, imports_of}
-use Rattle.go_tree.specs.GoTypes.Answers.{given, otherwise}
-use Rattle.go_tree.specs.GoTypes.Programs.{Import, SourcePackage, Program}
+use Rattle.go_rules.specs.GoTypes.Answers.{given, otherwise}
+use Rattle.go_rules.specs.GoTypes.Programs.{Import, SourcePackage, Program}
 use Rattle.go_translation.specs.Packages.{Package, sources}
 use Rattle.run_rules.specs.Programs.{number_from, package_number, in_dependency_order, linked_import, linked_file, linked_package, linked_packages, linked}
 use Rattle.typed_in_place.specs.ProgramsAlike.{OneByOne, no_more, and_more}

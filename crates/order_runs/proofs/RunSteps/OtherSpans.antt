@@ -12,7 +12,7 @@ use Rattle.pkg_graph.specs.Package.{SourceTree, specs_in, import_specs}
 use Rattle.pkg_graph.specs.Members.{package_name, name_or}
 use Rattle.pkg_graph.specs.Graph.{files_import, imports_of}
 use Rattle.pkg_graph.specs.Order.{has_path, is_placed}
-use Rattle.go_tree.specs.GoTypes.Programs.{Import, SourceFile}
+use Rattle.go_rules.specs.GoTypes.Programs.{Import, SourceFile}
 use Rattle.go_translation.specs.Packages.{Package}
 use Rattle.run_rules.specs.Programs.{numbered, numbered_from, number_from, is_ready, lesser, least_ready, ordered_after, in_dependency_order, linked_import, linked_file, linked_package}
 use Rattle.run_rules.specs.Respanned.{name_with, import_spec_with, import_decl_with, decls_with, source_with, package_with, packages_with}

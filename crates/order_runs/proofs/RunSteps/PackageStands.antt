@@ -4,7 +4,7 @@ use Rattle.std.specs.Prelude.{slice_get}
 use Rattle.std.specs.List.{list_any}
 use Rattle.pkg_graph.specs.Package as run
 use Rattle.pkg_graph.specs.Package.{SourceTree}
-use Rattle.go_tree.specs.GoTypes.Programs.{SourcePackage, Program}
+use Rattle.go_rules.specs.GoTypes.Programs.{SourcePackage, Program}
 use Rattle.typed_in_place.proofs.Rising.{and_first, and_second}
 use Rattle.go_translation.specs.Packages.{Package, has_path, has_number, are_distinct}
 use Rattle.run_rules.specs.Programs.{linked_package, linked_packages}

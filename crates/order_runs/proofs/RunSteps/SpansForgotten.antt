@@ -1,10 +1,10 @@
 -- Packages that are equal but for spans are well typed alike, make the same kernel program, and mean the same.
 use Rattle.std.proofs.Common.{◌≡◌, refl, sym, ap₂, ◌∙◌, ℕ, suc, Bool, true, not, ◌&&◌, ◌||◌, List, [], ◌∷◌, ◌++◌, map}
 use Rattle.std.specs.List.{list_all, list_any}
-use Rattle.go_tree.specs.ScopeNames.Means.{is_blank}
-use Rattle.go_tree.specs.GoTypes.Entities.{World}
-use Rattle.go_tree.specs.GoTypes.Programs.{Import, SourceFile, SourcePackage, Program, Headed, headed, block_names, import_sound}
-use Rattle.go_tree.specs.GoTypes.Collect.{aliased_world, typed_world, collected}
+use Rattle.go_rules.specs.ScopeNames.Means.{is_blank}
+use Rattle.go_rules.specs.GoTypes.Entities.{World}
+use Rattle.go_rules.specs.GoTypes.Programs.{Import, SourceFile, SourcePackage, Program, Headed, headed, block_names, import_sound}
+use Rattle.go_rules.specs.GoTypes.Collect.{aliased_world, typed_world, collected}
 use Rattle.typed_in_place.specs.ProgramsAlike.{OneByOne, no_more, and_more}
 use Rattle.typed_in_place.specs.ImportRule.{imports_sound, imports_used, files_import, package_imports, imports_ok, SamePackage}
 use Rattle.typed_in_place.specs.ProgramReplaced.{InPlace}

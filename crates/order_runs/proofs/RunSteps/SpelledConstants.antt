@@ -17,7 +17,7 @@ use Rattle.go_read.specs.SpellsSpans.{span_to}
 use Rattle.go_read.specs.Spells.{const_rule}
 use Rattle.go_read.specs.SpellsFiles.{SpellsTop, SpellsTops, SpellsFront, top_const_rule, top_var_rule, top_type_rule, top_type_group_rule, top_func_rule, top_method_rule, no_tops_rule, more_tops_rule, front_rule}
 use Rattle.go_read.proofs.Suffixes.{Suffix, whole, after, imports_suffix, top_suffix}
-use Rattle.go_tree.specs.GoTypes.Answers.{given}
+use Rattle.go_rules.specs.GoTypes.Answers.{given}
 use Rattle.go_layout.specs.LayoutLaws.Formed.{IsName, FormedExpr, FormedExprs, FormedSpecs}
 use Rattle.go_layout.specs.LayoutLaws.Real.{AreReal}
 use Rattle.go_layout.proofs.LayoutLaws.FormedTrees.{stmt_formed}

@@ -5,7 +5,7 @@ use Rattle.std.proofs.lemmas.Option.{same_Some}
 use Rattle.go_tree.specs.declared.spans.Span.{Span}
 use Rattle.go_tree.specs.Tree.{Expr, ident, int_lit, rune_lit, str_lit, composite, selector, index, slice, call, func_lit, type_operand, unary, binary, star}
 use Rattle.go_tree.specs.File.{Decl}
-use Rattle.go_tree.specs.ScopeNames.Scopes.{expr_span}
+use Rattle.go_rules.specs.ScopeNames.Scopes.{expr_span}
 use Rattle.run_rules.specs.ImportRules.Removed.{same_span}
 use Rattle.typed_in_place.proofs.Rising.{and_first, and_second}
 use Rattle.run_rules.specs.Surroundings.{Seen, seen, seen_type, seen_stmt}

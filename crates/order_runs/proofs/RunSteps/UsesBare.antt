@@ -6,19 +6,19 @@ use Rattle.go_tree.specs.Tree.{NameAt, Param, Sig}
 use Rattle.go_tree.specs.File.{Receiver, Func}
 use Rattle.go_tree.specs.Bare.{bare_name, bare_param, bare_sig}
 use Rattle.go_tree.specs.FileBare.{bare_receiver, bare_func}
-use Rattle.go_tree.specs.ScopeNames.Means.{binding}
-use Rattle.go_tree.specs.ScopeNames.FreeNames.{name_then, free_type, free_type_option}
-use Rattle.go_tree.proofs.ScopeNames.FreeNamesBare.{sig_names-bare, free_type-bare, free_type_option-bare, free_params-bare}
-use Rattle.go_tree.specs.GoTypes.Answers.{given, only_if, distinct_by, otherwise, is_among, without}
-use Rattle.go_tree.specs.GoTypes.Types.{GoType, FuncType, named_type, pointer_to}
-use Rattle.go_tree.specs.GoTypes.Entities.{variable, World, Env, Binds, extend, in_block}
-use Rattle.go_tree.specs.GoTypes.Declarations.{bound_names}
-use Rattle.go_tree.specs.GoTypes.Bodies.{param_binding, param_binds, body_binds}
-use Rattle.go_tree.specs.GoTypes.MethodDeclarations.{receiver_type, receiver_binds}
-use Rattle.go_tree.specs.GoTypes.Typing.{used_all, used_stmts}
-use Rattle.go_tree.specs.GoTypes.Programs.{Header, constants, variables, a_type_spec, a_func, Headed, env_of}
-use Rattle.go_tree.specs.GoTypes.WellTyped.{receiver_of, body_env, receiver_names, function_uses, header_uses, is_used_in}
-use Rattle.go_tree.proofs.GoTypes.TypingBare.{func_type-bare, used_all-bare, used_stmts-bare}
+use Rattle.go_rules.specs.ScopeNames.Means.{binding}
+use Rattle.go_rules.specs.ScopeNames.FreeNames.{name_then, free_type, free_type_option}
+use Rattle.go_rules.proofs.ScopeNames.FreeNamesBare.{sig_names-bare, free_type-bare, free_type_option-bare, free_params-bare}
+use Rattle.go_rules.specs.GoTypes.Answers.{given, only_if, distinct_by, otherwise, is_among, without}
+use Rattle.go_rules.specs.GoTypes.Types.{GoType, FuncType, named_type, pointer_to}
+use Rattle.go_rules.specs.GoTypes.Entities.{variable, World, Env, Binds, extend, in_block}
+use Rattle.go_rules.specs.GoTypes.Declarations.{bound_names}
+use Rattle.go_rules.specs.GoTypes.Bodies.{param_binding, param_binds, body_binds}
+use Rattle.go_rules.specs.GoTypes.MethodDeclarations.{receiver_type, receiver_binds}
+use Rattle.go_rules.specs.GoTypes.Typing.{used_all, used_stmts}
+use Rattle.go_rules.specs.GoTypes.Programs.{Header, constants, variables, a_type_spec, a_func, Headed, env_of}
+use Rattle.go_rules.specs.GoTypes.WellTyped.{receiver_of, body_env, receiver_names, function_uses, header_uses, is_used_in}
+use Rattle.go_rules.proofs.GoTypes.TypingBare.{func_type-bare, used_all-bare, used_stmts-bare}
 use Rattle.go_translation.specs.SpansAside.{bare_header, bare_headed}
 
 abbrev uses_of : {S : Type 0} → World → Headed S → Header S → List (List ℕ)

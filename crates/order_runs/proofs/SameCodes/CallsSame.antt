@@ -1,12 +1,12 @@
 -- Calls in worlds in which the same is found, and under import paths that are found the same.
 use Rattle.std.specs.Prelude.{ℕ, not, ◌&&◌, ◌||◌, List, [], ◌∷◌, length, Option, Some, None, if◌then◌else◌, is_some}
-use Rattle.go_tree.specs.declared.const_eval.kinds.Kind.TheVariants as kind
-use Rattle.go_tree.specs.GoTypes.Answers.{given, meets}
-use Rattle.go_tree.specs.GoTypes.Types.{GoType, basic, named_type, slice_of, map_of, struct_of, base_of, element_of, map_parts}
-use Rattle.go_tree.specs.GoTypes.Defined.{Method}
-use Rattle.go_tree.specs.GoTypes.Entities.{Builtin, Append, Cap, Copy, Delete, Len, Make, New, Panic, Print, Println, Recover}
-use Rattle.go_tree.specs.GoTypes.Operands.{Operand, Typed, typed}
-use Rattle.go_tree.specs.GoTypes.Primary.{find_method}
+use Rattle.go_rules.specs.declared.const_eval.kinds.Kind.TheVariants as kind
+use Rattle.go_rules.specs.GoTypes.Answers.{given, meets}
+use Rattle.go_rules.specs.GoTypes.Types.{GoType, basic, named_type, slice_of, map_of, struct_of, base_of, element_of, map_parts}
+use Rattle.go_rules.specs.GoTypes.Defined.{Method}
+use Rattle.go_rules.specs.GoTypes.Entities.{Builtin, Append, Cap, Copy, Delete, Len, Make, New, Panic, Print, Println, Recover}
+use Rattle.go_rules.specs.GoTypes.Operands.{Operand, Typed, typed}
+use Rattle.go_rules.specs.GoTypes.Primary.{find_method}
 use Rattle.go_kernel.specs.Kernel as k
 use Rattle.go_kernel.specs.Kernel.{Name, ImportPath, FuncName, Value, Checked, Op, Convert, BytesOfString, StringOfBytes, StructLit, SliceLit, MakeSlice, MapLit, MakeMap, MapLen, MapDelete, Emit, Fail, Alloc, Func, code, Term, Both, Prim, Let, Alone, Call, Defer, DeferLit}
 use Rattle.go_translation.specs.Values.{nothing, one_value, path_of}
@@ -15,7 +15,7 @@ use Rattle.go_translation.specs.Operators.{no_type, type_or, own_type}
 use Rattle.go_translation.specs.Calls.{field_number, fields_or_none, selected_field, is_pointer_value, literal_term, is_map, inner_literal, is_slice, conversion_op, is_untyped_constant, is_nil_value, conversion_term, method_named, receiver_type, receiver_term, method_on, method_callee, operand_types, operand_type, each_as, builtin_wants, callee_wants, first_operand, named_by, element_zero, make_op, make_term, new_term, length_op, fail_type, builtin_term, with_receiver, call_term, defer_term, Callee, to_function, to_literal, to_type, to_builtin, to_nothing}
 use Rattle.typed_in_place.specs.SameWorlds.SameWorlds.{SameWorld}
 use Rattle.std.specs.Prelude.{◌≡◌}
-use Rattle.go_tree.specs.GoTypes.Entities.{World}
+use Rattle.go_rules.specs.GoTypes.Entities.{World}
 use Rattle.order_runs.proofs.SameCodes.MentionsSame.{is_pointer-same}
 use Rattle.order_runs.proofs.SameCodes.ValuesSame.{kind_at-same, panic_type-same, zero_of-same}
 use Rattle.typed_in_place.proofs.SameWorlds.DefinedSame.{methods-same, under-same}

@@ -1,14 +1,14 @@
 -- What is read off trees in worlds in which the same is found, and under import paths that are found the same.
 use Rattle.std.specs.Prelude.{ℕ, suc, List, [], ◌∷◌, ◌++◌, length, Option, Some, None, if◌then◌else◌}
 use Rattle.go_tree.specs.Tree.{NameAt, TypeExpr, Expr, Exprs, no_exprs, expr_and, ExprOption, no_expr, some_expr, Elems, no_elems, elem, plain, braced, ValueOption, no_value, some_value, Stmt, Stmts, StmtOption, RangeLeft, assigns}
-use Rattle.go_tree.specs.ScopeNames.FreeNames.{names_of, declared, declared_option}
-use Rattle.go_tree.specs.GoTypes.Answers.{meets}
-use Rattle.go_tree.specs.GoTypes.Types.{GoType, is_untyped, GoFields, fields_of}
-use Rattle.go_tree.specs.GoTypes.Entities.{Env, extend}
-use Rattle.go_tree.specs.GoTypes.Operands.{Typed}
-use Rattle.go_tree.specs.GoTypes.Literals.{field_key}
-use Rattle.go_tree.specs.GoTypes.Statements.{no_values, is_blank_name}
-use Rattle.go_tree.specs.GoTypes.Typing.{binds_of}
+use Rattle.go_rules.specs.ScopeNames.FreeNames.{names_of, declared, declared_option}
+use Rattle.go_rules.specs.GoTypes.Answers.{meets}
+use Rattle.go_rules.specs.GoTypes.Types.{GoType, is_untyped, GoFields, fields_of}
+use Rattle.go_rules.specs.GoTypes.Entities.{Env, extend}
+use Rattle.go_rules.specs.GoTypes.Operands.{Typed}
+use Rattle.go_rules.specs.GoTypes.Literals.{field_key}
+use Rattle.go_rules.specs.GoTypes.Statements.{no_values, is_blank_name}
+use Rattle.go_rules.specs.GoTypes.Typing.{binds_of}
 use Rattle.go_translation.specs.Values.{typed_of}
 use Rattle.go_translation.specs.Here.{Here}
 use Rattle.go_translation.specs.Operators.{no_type, own_type, first_type, other_types}
@@ -18,7 +18,7 @@ use Rattle.go_translation.specs.Facts.{typed_at, typed_option, first_typed, valu
 use Rattle.typed_in_place.specs.SameWorlds.SameWorlds.{SameWorld, at as within}
 use Rattle.order_runs.specs.SameCodes.SamePaths.{hat}
 use Rattle.std.specs.Prelude.{◌≡◌}
-use Rattle.go_tree.specs.GoTypes.Entities.{World}
+use Rattle.go_rules.specs.GoTypes.Entities.{World}
 use Rattle.go_kernel.specs.Kernel.{ImportPath}
 use Rattle.go_translation.specs.Values.{path_of}
 use Rattle.order_runs.proofs.SameCodes.MentionsSame.{mentions_stmts-same, own_mentions-same}

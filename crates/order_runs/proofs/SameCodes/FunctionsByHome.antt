@@ -3,13 +3,13 @@ use Rattle.std.proofs.Common.{◌≡◌, refl, sym, ◌∙◌, ℕ, suc, Bool, t
 use Rattle.std.specs.List.{list_any}
 use Rattle.std.proofs.lemmas.Slice.Eq.{bytes_eq-Decides}
 use Rattle.go_tree.specs.File.{Receiver, Func as Function}
-use Rattle.go_tree.specs.GoTypes.Answers.{given}
-use Rattle.go_tree.specs.GoTypes.Entities.{World}
-use Rattle.go_tree.specs.ScopeNames.Means.{Environment}
-use Rattle.go_tree.specs.GoTypes.Entities.{Entity}
-use Rattle.go_tree.specs.GoTypes.Programs.{Header, constants, variables, a_type_spec, a_func, Headed, SourceFile, header_names, names_in, all_headers, block_names, file_block, is_main, headed_file, headed_files, headed_package, env_of}
-use Rattle.go_tree.specs.GoTypes.MethodDeclarations.{receiver_type}
-use Rattle.go_tree.specs.GoTypes.TypeNames.{func_type}
+use Rattle.go_rules.specs.GoTypes.Answers.{given}
+use Rattle.go_rules.specs.GoTypes.Entities.{World}
+use Rattle.go_rules.specs.ScopeNames.Means.{Environment}
+use Rattle.go_rules.specs.GoTypes.Entities.{Entity}
+use Rattle.go_rules.specs.GoTypes.Programs.{Header, constants, variables, a_type_spec, a_func, Headed, SourceFile, header_names, names_in, all_headers, block_names, file_block, is_main, headed_file, headed_files, headed_package, env_of}
+use Rattle.go_rules.specs.GoTypes.MethodDeclarations.{receiver_type}
+use Rattle.go_rules.specs.GoTypes.TypeNames.{func_type}
 use Rattle.go_kernel.specs.Kernel.{ImportPath, FuncName, Func, same_text, same_func, same_receiver, declared}
 use Rattle.go_translation.specs.Values.{path_of}
 use Rattle.go_translation.specs.Calls.{function_named, method_named}

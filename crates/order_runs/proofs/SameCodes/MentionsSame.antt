@@ -1,24 +1,24 @@
 -- Mentions of variables in worlds in which the same is found, and under import paths that are found the same.
 use Rattle.std.specs.Prelude.{ℕ, ◌&&◌, List, [], ◌∷◌, ◌++◌, length, Option, Some, None, if◌then◌else◌, is_some, is_none}
 use Rattle.go_tree.specs.Tree.{Expr, ident, int_lit, rune_lit, str_lit, composite, selector, index, slice, call, func_lit, type_operand, unary, binary, star, Exprs, no_exprs, expr_and, ExprOption, no_expr, some_expr, Elems, no_elems, elem, Value, plain, braced, ValueOption, no_value, some_value, Stmt, const_decl, var_decl, empty, eval, step, assign, define, return_, break_, continue_, inner, if_, for_, range_, switch, defer, label, Stmts, no_stmts, stmt_and, StmtOption, no_stmt, some_stmt, BlockOption, no_block, some_block, RangeLeft, nothing, assigns, defines, Arms, no_arms, arm, Cases, no_cases, case, ValueSpecs, no_specs, spec}
-use Rattle.go_tree.specs.ScopeNames.FreeNames.{names_of, sig_names, declared, declared_option, defined}
-use Rattle.go_tree.specs.GoTypes.Answers.{given, meets}
-use Rattle.go_tree.specs.GoTypes.Types.{GoType, base_of}
-use Rattle.go_tree.specs.GoTypes.Entities.{Env, meaning, Binds, extend, in_block, is_declared_here}
-use Rattle.go_tree.specs.GoTypes.Operands.{Typed}
-use Rattle.go_tree.specs.GoTypes.Primary.{find_method}
-use Rattle.go_tree.specs.GoTypes.Literals.{is_struct}
-use Rattle.go_tree.specs.GoTypes.Statements.{bound_names, no_values}
-use Rattle.go_tree.specs.GoTypes.Typing.{binds_of}
+use Rattle.go_rules.specs.ScopeNames.FreeNames.{names_of, sig_names, declared, declared_option, defined}
+use Rattle.go_rules.specs.GoTypes.Answers.{given, meets}
+use Rattle.go_rules.specs.GoTypes.Types.{GoType, base_of}
+use Rattle.go_rules.specs.GoTypes.Entities.{Env, meaning, Binds, extend, in_block, is_declared_here}
+use Rattle.go_rules.specs.GoTypes.Operands.{Typed}
+use Rattle.go_rules.specs.GoTypes.Primary.{find_method}
+use Rattle.go_rules.specs.GoTypes.Literals.{is_struct}
+use Rattle.go_rules.specs.GoTypes.Statements.{bound_names, no_values}
+use Rattle.go_rules.specs.GoTypes.Typing.{binds_of}
 use Rattle.go_translation.specs.Values.{typed_of}
 use Rattle.go_translation.specs.Mentions.{mention, variable_mention, callee_way, literal_mentions, is_pointer, takes_address, selected_way, operand_way, unary_way, beyond_names, beyond, within_names, stored_again, mentions, mentions_all, mentions_option, mentions_left, mentions_elems, mentions_key, mentions_value, mentions_stmt, mentions_stmts, mentions_first, mentions_block, mentions_range, mentions_arms, mentions_cases, mentions_specs, group_mentions, own_mentions, Way, Read, Stored, Addressed, Deferred, Mention}
 use Rattle.typed_in_place.specs.SameWorlds.SameWorlds.{SameWorld, at as within}
 use Rattle.std.specs.Prelude.{◌≡◌}
-use Rattle.go_tree.specs.GoTypes.Entities.{World}
+use Rattle.go_rules.specs.GoTypes.Entities.{World}
 use Rattle.go_kernel.specs.Kernel.{ImportPath}
 use Rattle.go_translation.specs.Values.{path_of}
-use Rattle.go_tree.specs.GoTypes.Declarations.{binds_or}
-use Rattle.go_tree.specs.GoTypes.Bodies.{body_binds}
+use Rattle.go_rules.specs.GoTypes.Declarations.{binds_or}
+use Rattle.go_rules.specs.GoTypes.Bodies.{body_binds}
 use Rattle.typed_in_place.proofs.SameWorlds.DeclarationsSame.{new_variables-same}
 use Rattle.typed_in_place.proofs.SameWorlds.DefinedSame.{methods-same, under-same}
 use Rattle.typed_in_place.proofs.SameWorlds.LiteralsSame.{inner_type-same, key_type-same, literal_type-same}

@@ -1,11 +1,11 @@
 -- Names in worlds in which the same is found, and under import paths that are found the same.
 use Rattle.std.specs.Prelude.{ℕ, List, Option, Some, None, if◌then◌else◌, pos}
-use Rattle.go_tree.specs.declared.const_eval.consts.Const.TheVariants.{Whole}
-use Rattle.go_tree.specs.ScopeNames.Means.{is_blank}
-use Rattle.go_tree.specs.GoTypes.Answers.{given, meets}
-use Rattle.go_tree.specs.GoTypes.Types.{GoType, map_parts}
-use Rattle.go_tree.specs.GoTypes.Entities.{Entity, variable, constant, stand_in, nil_name, iota_name, meaning}
-use Rattle.go_tree.specs.GoTypes.Operands.{Typed}
+use Rattle.go_rules.specs.declared.const_eval.consts.Const.TheVariants.{Whole}
+use Rattle.go_rules.specs.ScopeNames.Means.{is_blank}
+use Rattle.go_rules.specs.GoTypes.Answers.{given, meets}
+use Rattle.go_rules.specs.GoTypes.Types.{GoType, map_parts}
+use Rattle.go_rules.specs.GoTypes.Entities.{Entity, variable, constant, stand_in, nil_name, iota_name, meaning}
+use Rattle.go_rules.specs.GoTypes.Operands.{Typed}
 use Rattle.go_kernel.specs.Kernel.{ImportPath, Nil, Element, ByteAt, Prim}
 use Rattle.go_translation.specs.Values.{one_value, path_of, as_value, constant_term}
 use Rattle.go_translation.specs.Values as v
@@ -15,7 +15,7 @@ use Rattle.go_translation.specs.Names.{root_at, variable_root, entity_root, name
 use Rattle.typed_in_place.specs.SameWorlds.SameWorlds.{SameWorld}
 use Rattle.order_runs.specs.SameCodes.SamePaths.{hat}
 use Rattle.std.specs.Prelude.{◌≡◌}
-use Rattle.go_tree.specs.GoTypes.Entities.{World}
+use Rattle.go_rules.specs.GoTypes.Entities.{World}
 use Rattle.order_runs.proofs.SameCodes.CallsSame.{is_slice-same}
 use Rattle.order_runs.proofs.SameCodes.ValuesSame.{as_value-same, constant_term-same}
 use Rattle.typed_in_place.proofs.SameWorlds.DefinedSame.{under-same}

@@ -4,19 +4,19 @@ use Rattle.go_tree.specs.declared.operators.UnOp.{UnOp}
 use Rattle.go_tree.specs.declared.operators.UnOp.TheVariants as un
 use Rattle.go_tree.specs.declared.operators.BinOp.{BinOp}
 use Rattle.go_tree.specs.declared.operators.BinOp.TheVariants as bin
-use Rattle.go_tree.specs.declared.const_eval.kinds.Kind.TheVariants as kind
-use Rattle.go_tree.specs.ConstEval.Exact.{is_text_kind}
-use Rattle.go_tree.specs.GoTypes.Answers.{given, meets}
-use Rattle.go_tree.specs.GoTypes.Types.{GoType, basic, untyped, basic_kind}
-use Rattle.go_tree.specs.GoTypes.Entities.{run, exact}
-use Rattle.go_tree.specs.GoTypes.Operands.{Operand, value, Typed}
+use Rattle.go_rules.specs.declared.const_eval.kinds.Kind.TheVariants as kind
+use Rattle.go_rules.specs.ConstEval.Exact.{is_text_kind}
+use Rattle.go_rules.specs.GoTypes.Answers.{given, meets}
+use Rattle.go_rules.specs.GoTypes.Types.{GoType, basic, untyped, basic_kind}
+use Rattle.go_rules.specs.GoTypes.Entities.{run, exact}
+use Rattle.go_rules.specs.GoTypes.Operands.{Operand, value, Typed}
 use Rattle.go_kernel.specs.Kernel as k
 use Rattle.go_kernel.specs.Kernel.{Kind, Truth, Check, Checked, Unchecked, Op, Arith, Divide, Quotient, Remainder, Shift, Negate, Complement, Compare, Concat, Term, Both, Prim, If}
 use Rattle.go_translation.specs.Values.{one_value}
 use Rattle.go_translation.specs.Operators.{no_type, type_or, own_type, settled_types, settled_option, constant_or, folded, is_known_divisor, divisor_check, is_unsigned, is_sure_count, count_check, sum_op, is_text, operator_term, common_at, compared_type, is_compared, is_shift, left_type, right_type, unary_term}
 use Rattle.typed_in_place.specs.SameWorlds.SameWorlds.{SameWorld}
 use Rattle.std.specs.Prelude.{◌≡◌, ℕ}
-use Rattle.go_tree.specs.GoTypes.Entities.{World}
+use Rattle.go_rules.specs.GoTypes.Entities.{World}
 use Rattle.go_kernel.specs.Kernel.{ImportPath}
 use Rattle.go_translation.specs.Values.{path_of}
 use Rattle.order_runs.proofs.SameCodes.ValuesSame.{as_value-same, kind_at-same}

@@ -2,8 +2,8 @@
 use Rattle.std.proofs.Common.{◌≡◌, refl, sym, subst, ◌∙◌, ℕ, Bool, true, false, not, ◌||◌, List, [], ◌∷◌, map, if◌then◌else◌, arith}
 use Rattle.std.specs.Prelude.{nat_eq}
 use Rattle.std.specs.List.{list_any}
-use Rattle.go_tree.specs.GoTypes.Entities.{World}
-use Rattle.go_tree.specs.GoTypes.Collect.{collected}
+use Rattle.go_rules.specs.GoTypes.Entities.{World}
+use Rattle.go_rules.specs.GoTypes.Collect.{collected}
 use Rattle.go_kernel.specs.Kernel.{ImportPath, FuncName, Func, same_func, declared, shows}
 use Rattle.go_translation.specs.Values.{path_of}
 use Rattle.go_translation.specs.Packages.{Package, PackageCode, sources, paths_in, package_code, codes_of, inserted, in_path_order, one_by_one, initial_of, functions_of, program_of, main_of, has_number, has_path, are_distinct, shown_by}

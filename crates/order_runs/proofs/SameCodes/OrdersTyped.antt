@@ -3,18 +3,18 @@ use Rattle.std.proofs.Common.{refl, sym, ◌∙◌}
 use Rattle.std.specs.Prelude.{◌≡◌, ℕ, suc, Bool, true, false, not, ◌&&◌, ◌||◌, List, [], ◌∷◌, ◌++◌, length, Option, Some, None, if◌then◌else◌, bytes_eq, nat_eq, is_some, is_none, codes}
 use Rattle.std.specs.List.{list_any, list_all}
 use Rattle.go_tree.specs.File.{Receiver, Func}
-use Rattle.go_tree.specs.ScopeNames.FreeNames.{sig_names, free_type, free_type_option, free_params}
-use Rattle.go_tree.specs.ScopeNames.Means.{is_blank, means}
-use Rattle.go_tree.specs.GoTypes.Answers.{given, both, meets, otherwise, one_of, is_among, without, and_also, unless_missing}
-use Rattle.go_tree.specs.GoTypes.Types.{named_type, fields_of, field_names}
-use Rattle.go_tree.specs.GoTypes.Entities.{World, extend, in_block}
-use Rattle.go_tree.specs.GoTypes.TypeNames.{func_type}
-use Rattle.go_tree.specs.GoTypes.Bodies.{body_binds, body_ctx, is_body}
-use Rattle.go_tree.specs.GoTypes.Programs.{constants, variables, a_type_spec, a_func, func_of, Import, SourceFile, SourcePackage, Program, Headed, headed, block_names, import_sound, is_main, env_of}
-use Rattle.go_tree.specs.GoTypes.TypeDeclarations.{DeclaredTypes, declared_as}
-use Rattle.go_tree.specs.GoTypes.MethodDeclarations.{MethodName, fields_under, has_method_name, receiver_type, receiver_binds, method_declared, method_header, declared_on}
-use Rattle.go_tree.specs.GoTypes.Collect.{declared_types, declared_by, aliased_world, types_declared, collected}
-use Rattle.go_tree.specs.GoTypes.WellTyped.{refused_unless, means_function, receiver_of, is_method, header_ok, function_ok, body_ok, receiver_names, function_uses, header_uses, is_used_in, first_import, first_header, first_body, lacks_main, well_typed}
+use Rattle.go_rules.specs.ScopeNames.FreeNames.{sig_names, free_type, free_type_option, free_params}
+use Rattle.go_rules.specs.ScopeNames.Means.{is_blank, means}
+use Rattle.go_rules.specs.GoTypes.Answers.{given, both, meets, otherwise, one_of, is_among, without, and_also, unless_missing}
+use Rattle.go_rules.specs.GoTypes.Types.{named_type, fields_of, field_names}
+use Rattle.go_rules.specs.GoTypes.Entities.{World, extend, in_block}
+use Rattle.go_rules.specs.GoTypes.TypeNames.{func_type}
+use Rattle.go_rules.specs.GoTypes.Bodies.{body_binds, body_ctx, is_body}
+use Rattle.go_rules.specs.GoTypes.Programs.{constants, variables, a_type_spec, a_func, func_of, Import, SourceFile, SourcePackage, Program, Headed, headed, block_names, import_sound, is_main, env_of}
+use Rattle.go_rules.specs.GoTypes.TypeDeclarations.{DeclaredTypes, declared_as}
+use Rattle.go_rules.specs.GoTypes.MethodDeclarations.{MethodName, fields_under, has_method_name, receiver_type, receiver_binds, method_declared, method_header, declared_on}
+use Rattle.go_rules.specs.GoTypes.Collect.{declared_types, declared_by, aliased_world, types_declared, collected}
+use Rattle.go_rules.specs.GoTypes.WellTyped.{refused_unless, means_function, receiver_of, is_method, header_ok, function_ok, body_ok, receiver_names, function_uses, header_uses, is_used_in, first_import, first_header, first_body, lacks_main, well_typed}
 use Rattle.typed_in_place.specs.ImportRule.{files_import, files_declare, package_declares, package_imports, declarations_ok}
 use Rattle.typed_in_place.proofs.ImportRule.{well_typed_apart}
 use Rattle.typed_in_place.specs.SameWorlds.SameWorlds.{SameWorld, Reordered, no_packages, same_first, swapped, one_after_another}

@@ -2,13 +2,13 @@
 use Rattle.std.proofs.Common.{refl}
 use Rattle.std.specs.Prelude.{◌≡◌, ℕ, ◌&&◌, [], ◌++◌, Option, Some, None, nat_eq, is_none}
 use Rattle.go_tree.specs.File.{Receiver}
-use Rattle.go_tree.specs.ScopeNames.Means.{Environment}
-use Rattle.go_tree.specs.GoTypes.Answers.{given, only_if}
-use Rattle.go_tree.specs.GoTypes.Types.{named_type, type_name_of, base_of}
-use Rattle.go_tree.specs.GoTypes.Entities.{Entity, universe, World, Env, Binds, meaning, type_of_name}
-use Rattle.go_tree.specs.GoTypes.Programs.{Headed}
-use Rattle.go_tree.specs.GoTypes.MethodDeclarations.{receiver_type, receiver_binds}
-use Rattle.go_tree.specs.GoTypes.WellTyped.{receiver_of}
+use Rattle.go_rules.specs.ScopeNames.Means.{Environment}
+use Rattle.go_rules.specs.GoTypes.Answers.{given, only_if}
+use Rattle.go_rules.specs.GoTypes.Types.{named_type, type_name_of, base_of}
+use Rattle.go_rules.specs.GoTypes.Entities.{Entity, universe, World, Env, Binds, meaning, type_of_name}
+use Rattle.go_rules.specs.GoTypes.Programs.{Headed}
+use Rattle.go_rules.specs.GoTypes.MethodDeclarations.{receiver_type, receiver_binds}
+use Rattle.go_rules.specs.GoTypes.WellTyped.{receiver_of}
 use Rattle.typed_in_place.specs.SameWorlds.SameWorlds.{SameWorld}
 use Rattle.typed_in_place.proofs.SameWorlds.DefinedSame.{under-same}
 

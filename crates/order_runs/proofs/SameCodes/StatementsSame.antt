@@ -1,12 +1,12 @@
 -- Declarations and loops in worlds in which the same is found, and under import paths that are found the same.
 use Rattle.std.specs.Prelude.{ℕ, suc, not, ◌&&◌, List, [], ◌∷◌, Option, Some, None, if◌then◌else◌, is_some}
 use Rattle.go_tree.specs.declared.operators.BinOp.{BinOp}
-use Rattle.go_tree.specs.declared.const_eval.kinds.Kind.TheVariants as kind
-use Rattle.go_tree.specs.ScopeNames.Means.{is_blank}
-use Rattle.go_tree.specs.GoTypes.Answers.{meets}
-use Rattle.go_tree.specs.GoTypes.Types.{GoType, basic, fields_of}
-use Rattle.go_tree.specs.GoTypes.Entities.{run, Env, meaning, is_declared_here}
-use Rattle.go_tree.specs.GoTypes.Operands.{Typed}
+use Rattle.go_rules.specs.declared.const_eval.kinds.Kind.TheVariants as kind
+use Rattle.go_rules.specs.ScopeNames.Means.{is_blank}
+use Rattle.go_rules.specs.GoTypes.Answers.{meets}
+use Rattle.go_rules.specs.GoTypes.Types.{GoType, basic, fields_of}
+use Rattle.go_rules.specs.GoTypes.Entities.{run, Env, meaning, is_declared_here}
+use Rattle.go_rules.specs.GoTypes.Operands.{Typed}
 use Rattle.go_kernel.specs.Kernel.{temporary, Term, Local, Prim, Let}
 use Rattle.go_translation.specs.Values.{one_value, kind_at}
 use Rattle.go_translation.specs.Values as v
@@ -18,7 +18,7 @@ use Rattle.go_translation.specs.Statements.{range_form, is_new, new_names, old_s
 use Rattle.typed_in_place.specs.SameWorlds.SameWorlds.{SameWorld, at as within}
 use Rattle.order_runs.specs.SameCodes.SamePaths.{hat}
 use Rattle.std.specs.Prelude.{◌≡◌}
-use Rattle.go_tree.specs.GoTypes.Entities.{World}
+use Rattle.go_rules.specs.GoTypes.Entities.{World}
 use Rattle.go_kernel.specs.Kernel.{ImportPath}
 use Rattle.go_translation.specs.Values.{path_of}
 use Rattle.order_runs.proofs.SameCodes.CallsSame.{is_slice-same}

@@ -1,19 +1,19 @@
 -- Terms in worlds in which the same is found, and under import paths that are found the same.
 use Rattle.std.specs.Prelude.{ℕ, suc, true, false, ◌||◌, List, [], ◌∷◌, ◌++◌, length, Option, Some, None, if◌then◌else◌, pos}
 use Rattle.go_tree.specs.Tree.{Expr, ident, int_lit, rune_lit, str_lit, composite, selector, index, slice, call, func_lit, type_operand, unary, binary, star, Exprs, no_exprs, expr_and, ExprOption, no_expr, some_expr, Elems, no_elems, elem, Value, plain, braced, ValueOption, no_value, some_value, Stmt, const_decl, var_decl, empty, eval, step, assign, define, return_, break_, continue_, inner, if_, for_, range_, switch, defer, label, Stmts, no_stmts, stmt_and, StmtOption, no_stmt, some_stmt, BlockOption, no_block, some_block, RangeLeft, nothing, assigns, defines, Arms, no_arms, arm, Cases, no_cases, case, ValueSpecs, no_specs, spec}
-use Rattle.go_tree.specs.declared.const_eval.kinds.Kind.TheVariants as kind
-use Rattle.go_tree.specs.declared.const_eval.consts.Const.TheVariants.{Whole}
-use Rattle.go_tree.specs.ConstEval.Exact.{number, text}
-use Rattle.go_tree.specs.ConstEval.Literals.{integer_value, literal_value}
+use Rattle.go_rules.specs.declared.const_eval.kinds.Kind.TheVariants as kind
+use Rattle.go_rules.specs.declared.const_eval.consts.Const.TheVariants.{Whole}
+use Rattle.go_rules.specs.ConstEval.Exact.{number, text}
+use Rattle.go_rules.specs.ConstEval.Literals.{integer_value, literal_value}
 use Rattle.go_tree.specs.GoWords.Texts.{text_value}
-use Rattle.go_tree.specs.ScopeNames.FreeNames.{names_of, defined}
-use Rattle.go_tree.specs.GoTypes.Answers.{given}
-use Rattle.go_tree.specs.GoTypes.Types.{GoType, basic}
-use Rattle.go_tree.specs.GoTypes.Entities.{run, Env, meaning, Binds, extend, in_block}
-use Rattle.go_tree.specs.GoTypes.Operands.{Operand, a_type, literal_operand, spread}
-use Rattle.go_tree.specs.GoTypes.Jumps.{is_breakable}
-use Rattle.go_tree.specs.GoTypes.Statements.{body_binds, no_values}
-use Rattle.go_tree.specs.GoTypes.Typing.{binds_of, step_op}
+use Rattle.go_rules.specs.ScopeNames.FreeNames.{names_of, defined}
+use Rattle.go_rules.specs.GoTypes.Answers.{given}
+use Rattle.go_rules.specs.GoTypes.Types.{GoType, basic}
+use Rattle.go_rules.specs.GoTypes.Entities.{run, Env, meaning, Binds, extend, in_block}
+use Rattle.go_rules.specs.GoTypes.Operands.{Operand, a_type, literal_operand, spread}
+use Rattle.go_rules.specs.GoTypes.Jumps.{is_breakable}
+use Rattle.go_rules.specs.GoTypes.Statements.{body_binds, no_values}
+use Rattle.go_rules.specs.GoTypes.Typing.{binds_of, step_op}
 use Rattle.go_kernel.specs.Kernel as k
 use Rattle.go_kernel.specs.Kernel.{Name, Truth, Checked, Load, Alloc, Slicing, MapGet, MapTry, Compare, Equal, in_cells, temporary, return_label, break_label, continue_label, Term, Vals, Local, Both, Prim, If, Let, Leave, Catch}
 use Rattle.go_translation.specs.Values.{one_value, path_of, as_value, zero_of, typed_of}
@@ -30,7 +30,7 @@ use Rattle.go_translation.specs.Translation.{expr_term, args_term, values_term, 
 use Rattle.typed_in_place.specs.SameWorlds.SameWorlds.{SameWorld, at as within}
 use Rattle.order_runs.specs.SameCodes.SamePaths.{hat}
 use Rattle.std.specs.Prelude.{◌≡◌}
-use Rattle.go_tree.specs.GoTypes.Entities.{World}
+use Rattle.go_rules.specs.GoTypes.Entities.{World}
 use Rattle.go_kernel.specs.Kernel.{ImportPath}
 use Rattle.go_translation.specs.Here.{BodyNames, param_slots, result_slots, param_locals, result_locals, cells_in, slots_at}
 use Rattle.go_translation.specs.Mentions.{is_held}

@@ -1,13 +1,13 @@
 -- Values in worlds in which the same is found, and under import paths that are found the same.
 use Rattle.std.specs.Prelude.{ℕ, zero, suc, List, [], ◌∷◌, Option, Some, None}
-use Rattle.go_tree.specs.declared.const_eval.consts.Const.{Const}
-use Rattle.go_tree.specs.declared.const_eval.consts.Const.TheVariants as const
-use Rattle.go_tree.specs.GoTypes.Types.{GoType, basic, named_type, pointer_to, slice_of, map_of, struct_of, tuple_of, untyped, untyped_nil, GoFields, no_go_fields, go_field, basic_kind}
+use Rattle.go_rules.specs.declared.const_eval.consts.Const.{Const}
+use Rattle.go_rules.specs.declared.const_eval.consts.Const.TheVariants as const
+use Rattle.go_rules.specs.GoTypes.Types.{GoType, basic, named_type, pointer_to, slice_of, map_of, struct_of, tuple_of, untyped, untyped_nil, GoFields, no_go_fields, go_field, basic_kind}
 use Rattle.go_kernel.specs.Kernel.{ImportPath, Number, Truth, Str, Nil, BoolType, DefinedType, PointerType, SliceType, MapType, StructType, NoField, AndField}
 use Rattle.go_translation.specs.Values.{one_value, path_of, number_kind_or_int, kind_at, as_value, constant_term, zero_by, zero_within, zero_of, zeros_of, panic_kind, field_home, panic_type, panic_fields}
 use Rattle.typed_in_place.specs.SameWorlds.SameWorlds.{SameWorld}
 use Rattle.std.specs.Prelude.{◌≡◌}
-use Rattle.go_tree.specs.GoTypes.Entities.{World}
+use Rattle.go_rules.specs.GoTypes.Entities.{World}
 use Rattle.typed_in_place.proofs.SameWorlds.DefinedSame.{under-same}
 
 module _ (left right : World) (same : SameWorld left right) (pl pr : List (ℕ × ImportPath)) (alike : (p : ℕ) → path_of pl p ≡ path_of pr p) where

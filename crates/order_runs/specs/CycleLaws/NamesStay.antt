@@ -1,10 +1,10 @@
 -- Two programs that declare the same, and in whose files names mean the same (Go specification, Declarations and scope;
 -- Import declarations; Method declarations).
 use Rattle.std.specs.Prelude.{◌≡◌, ℕ, List, Option, Some}
-use Rattle.go_tree.specs.ScopeNames.Means.{means}
+use Rattle.go_rules.specs.ScopeNames.Means.{means}
 use Rattle.pkg_graph.specs.Package.{Package}
 use Rattle.pkg_graph.specs.Members.{Target}
-use Rattle.go_tree.specs.GoTypes.Answers.{given, meets}
+use Rattle.go_rules.specs.GoTypes.Answers.{given, meets}
 use Rattle.run_rules.specs.Programs.{world, imports_mean}
 use Rattle.run_rules.specs.Sites.{MarkRef, Where, mark_of, imported_by, where_is, inlinable, is_function}
 use Rattle.run_rules.specs.Sites.{is_free_function, outer, import_number, member_of, find_marked_method, marked}

@@ -3,8 +3,8 @@
 use Rattle.std.specs.Prelude.{◌≡◌, ℕ, ◌⊎◌, true, List, [], ◌∷◌, Some, is_some}
 use Rattle.go_tree.specs.Tree.{NameAt, Expr, selector, func_lit, Stmt, const_decl}
 use Rattle.pkg_graph.specs.Package.{Package}
-use Rattle.go_tree.specs.GoTypes.TypeNames.{func_type}
-use Rattle.go_tree.specs.GoTypes.Declarations.{nothing_to_repeat}
+use Rattle.go_rules.specs.GoTypes.TypeNames.{func_type}
+use Rattle.go_rules.specs.GoTypes.Declarations.{nothing_to_repeat}
 use Rattle.run_rules.specs.Surroundings.{other, Place, Seen, seen, seen_type, seen_stmt, plain_slot}
 use Rattle.run_rules.specs.Places.{expr_seen, constants_seen}
 use Rattle.run_rules.specs.Rewriting.{Changes, new_constants}

@@ -2,7 +2,7 @@
 -- some that nothing needs (Go specification, Constant declarations; Qualified identifiers; Import declarations).
 use Rattle.std.specs.Prelude.{◌≡◌, ℕ, Bool, true, List, [], map}
 use Rattle.pkg_graph.specs.Package as run
-use Rattle.go_tree.specs.GoTypes.Programs.{block_names}
+use Rattle.go_rules.specs.GoTypes.Programs.{block_names}
 use Rattle.go_translation.specs.Packages.{Package, sources}
 use Rattle.go_translation.specs.SameMeaning.{Packages, WellTyped, with_further}
 use Rattle.typed_in_place.specs.ImportRule.{imports_sound}

@@ -2,7 +2,7 @@
 -- Import declarations).
 use Rattle.std.specs.Prelude.{List, map}
 use Rattle.go_tree.specs.FileBare.{bare_decl}
-use Rattle.go_tree.specs.GoTypes.Programs.{Import, SourceFile, SourcePackage}
+use Rattle.go_rules.specs.GoTypes.Programs.{Import, SourceFile, SourcePackage}
 use Rattle.go_translation.specs.Packages.{Package}
 
 module _ {S : Type 0} where

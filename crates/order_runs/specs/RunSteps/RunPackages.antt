@@ -3,7 +3,7 @@
 use Rattle.std.specs.Prelude.{ℕ, List, [], ◌∷◌, ◌++◌, map}
 use Rattle.pkg_graph.specs.Package as run
 use Rattle.go_kernel.specs.Kernel.{FuncName}
-use Rattle.go_tree.specs.GoTypes.Programs.{SourcePackage}
+use Rattle.go_rules.specs.GoTypes.Programs.{SourcePackage}
 use Rattle.go_translation.specs.Packages.{Package}
 use Rattle.go_translation.specs.SameMeaning.{Packages}
 use Rattle.run_rules.specs.Programs.{in_dependency_order, linked_package}

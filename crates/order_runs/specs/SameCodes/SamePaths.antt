@@ -1,7 +1,7 @@
 -- Places at which the same is found, whatever the order in which packages stand (Go specification, Packages; Import
 -- declarations; Program initialization).
 use Rattle.std.specs.Prelude.{◌≡◌, ℕ, List}
-use Rattle.go_tree.specs.GoTypes.Entities.{World}
+use Rattle.go_rules.specs.GoTypes.Entities.{World}
 use Rattle.go_kernel.specs.Kernel.{ImportPath}
 use Rattle.go_translation.specs.Values.{path_of}
 use Rattle.go_translation.specs.Here.{Here}

@@ -4,10 +4,10 @@ use Rattle.std.specs.List.{list_all, list_any}
 use Rattle.std.proofs.lemmas.Slice.Eq.{bytes_eq-Decides}
 use Rattle.go_tree.specs.declared.spans.Span.{Span}
 use Rattle.go_tree.specs.Tree.{NameAt, Param}
-use Rattle.go_tree.specs.ScopeNames.Means.{is_blank, means}
-use Rattle.go_tree.specs.ScopeNames.FreeNames.{name_then, params_names}
-use Rattle.go_tree.specs.GoTypes.Answers.{distinct_by, is_among}
-use Rattle.go_tree.specs.GoTypes.Declarations.{names_once, not_blank}
+use Rattle.go_rules.specs.ScopeNames.Means.{is_blank, means}
+use Rattle.go_rules.specs.ScopeNames.FreeNames.{name_then, params_names}
+use Rattle.go_rules.specs.GoTypes.Answers.{distinct_by, is_among}
+use Rattle.go_rules.specs.GoTypes.Declarations.{names_once, not_blank}
 use Rattle.typed_names.specs.declared.entities.Entity.{Entity}
 use Rattle.typed_names.specs.Meanings.{Names}
 use Rattle.typed_names.proofs.NameLaws.{turned}

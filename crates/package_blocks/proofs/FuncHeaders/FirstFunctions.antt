@@ -6,15 +6,15 @@ use Rattle.std.specs.List.{list_any}
 use Rattle.std.proofs.lemmas.Slice.Eq.{bytes_eq-Decides}
 use Rattle.go_tree.specs.declared.spans.Span.{Span}
 use Rattle.go_tree.specs.File.{Receiver, Func}
-use Rattle.go_tree.specs.ScopeNames.Means.{Environment, means, binding, is_blank}
-use Rattle.go_tree.specs.GoTypes.Answers.{given, meets, only_if, otherwise, is_among}
-use Rattle.go_tree.specs.GoTypes.Types.{FuncType}
-use Rattle.go_tree.specs.GoTypes.Entities.{Entity, function, refused, World, block_of, Binds}
-use Rattle.go_tree.specs.GoTypes.TypeNames.{func_type}
-use Rattle.go_tree.specs.GoTypes.Declarations.{bind_each}
-use Rattle.go_tree.specs.GoTypes.Bodies.{body_binds}
-use Rattle.go_tree.specs.GoTypes.Programs.{Header, constants, variables, a_type_spec, a_func, Headed, header_names, Program, env_of}
-use Rattle.go_tree.specs.GoTypes.Collect.{DeclaredTypes, may_be_main, function_declared, good_entity, declared_by, entity_binds, binds_or_refused, blocks_by, types_declared, typed_world, valued_world}
+use Rattle.go_rules.specs.ScopeNames.Means.{Environment, means, binding, is_blank}
+use Rattle.go_rules.specs.GoTypes.Answers.{given, meets, only_if, otherwise, is_among}
+use Rattle.go_rules.specs.GoTypes.Types.{FuncType}
+use Rattle.go_rules.specs.GoTypes.Entities.{Entity, function, refused, World, block_of, Binds}
+use Rattle.go_rules.specs.GoTypes.TypeNames.{func_type}
+use Rattle.go_rules.specs.GoTypes.Declarations.{bind_each}
+use Rattle.go_rules.specs.GoTypes.Bodies.{body_binds}
+use Rattle.go_rules.specs.GoTypes.Programs.{Header, constants, variables, a_type_spec, a_func, Headed, header_names, Program, env_of}
+use Rattle.go_rules.specs.GoTypes.Collect.{DeclaredTypes, may_be_main, function_declared, good_entity, declared_by, entity_binds, binds_or_refused, blocks_by, types_declared, typed_world, valued_world}
 use Rattle.typed_in_place.specs.Declared.{FirstWith, this_one, a_later_one, HasNumber}
 use Rattle.typed_in_place.proofs.Blocks.{Fits}
 use Rattle.typed_in_place.proofs.Headers.{declared_in, good_in, type_phase, value_phase}

@@ -4,14 +4,14 @@ use mathlib.Core.Path.{ap, sym, ◌∙◌}
 use Rattle.std.proofs.Common.{arith}
 use Rattle.go_tree.specs.declared.spans.Span.{Span}
 use Rattle.go_tree.specs.File.{Func}
-use Rattle.go_tree.specs.GoTypes.Answers.{given, only_if}
-use Rattle.go_tree.specs.GoTypes.Types.{GoType, basic, named_type, pointer_to, slice_of, map_of, struct_of, tuple_of, untyped, untyped_nil, GoFields, no_go_fields, go_field}
-use Rattle.go_tree.specs.GoTypes.Defined.{Defined, under, comparable_by, comparable_within, comparable, has_keys, fields_have_keys}
-use Rattle.go_tree.specs.GoTypes.Entities.{World}
-use Rattle.go_tree.specs.GoTypes.Programs.{Header, Headed, Program, headed, env_of}
-use Rattle.go_tree.specs.GoTypes.MethodDeclarations.{MethodName, DeclaredMethod, with_methods, methods_from}
-use Rattle.go_tree.specs.GoTypes.Collect.{DeclaredTypes, declared_by, types_declared, valued_world, world_of}
-use Rattle.go_tree.specs.GoTypes.WellTyped.{is_method, method_ok, header_ok}
+use Rattle.go_rules.specs.GoTypes.Answers.{given, only_if}
+use Rattle.go_rules.specs.GoTypes.Types.{GoType, basic, named_type, pointer_to, slice_of, map_of, struct_of, tuple_of, untyped, untyped_nil, GoFields, no_go_fields, go_field}
+use Rattle.go_rules.specs.GoTypes.Defined.{Defined, under, comparable_by, comparable_within, comparable, has_keys, fields_have_keys}
+use Rattle.go_rules.specs.GoTypes.Entities.{World}
+use Rattle.go_rules.specs.GoTypes.Programs.{Header, Headed, Program, headed, env_of}
+use Rattle.go_rules.specs.GoTypes.MethodDeclarations.{MethodName, DeclaredMethod, with_methods, methods_from}
+use Rattle.go_rules.specs.GoTypes.Collect.{DeclaredTypes, declared_by, types_declared, valued_world, world_of}
+use Rattle.go_rules.specs.GoTypes.WellTyped.{is_method, method_ok, header_ok}
 use Rattle.typed_in_place.proofs.MethodsAside.{under_methods}
 use Rattle.package_blocks.specs.FuncHeaders.NameRoles.{SameTypes}
 use Rattle.package_blocks.specs.FuncHeaders.Functions.{RefusedAreWrong, function_at, function_in, is_refused_function, plain_function}

@@ -2,11 +2,11 @@
 use Rattle.std.proofs.Common.{◌≡◌, ◌∙◌, ◌+◌, ◌++◌, ℕ, zero, suc, Bool, cond, List, [], ◌∷◌, Option, Some, refl, sym, ap, subst, map, drop, length, add-one, bytes_eq}
 use Rattle.std.specs.Prelude.{slice_get, codes}
 use Rattle.go_tree.specs.declared.spans.Span.{Span}
-use Rattle.go_tree.specs.declared.const_eval.consts.Const.{Const}
-use Rattle.go_tree.specs.ScopeNames.Means.{Environment}
-use Rattle.go_tree.specs.GoTypes.Answers.{meets}
-use Rattle.go_tree.specs.GoTypes.Entities as go
-use Rattle.go_tree.specs.GoTypes.Programs.{Header, Headed, SourceFile, Program, all_headers, block_names, file_block, header_names, headed, headed_file, headed_files, names_in}
+use Rattle.go_rules.specs.declared.const_eval.consts.Const.{Const}
+use Rattle.go_rules.specs.ScopeNames.Means.{Environment}
+use Rattle.go_rules.specs.GoTypes.Answers.{meets}
+use Rattle.go_rules.specs.GoTypes.Entities as go
+use Rattle.go_rules.specs.GoTypes.Programs.{Header, Headed, SourceFile, Program, all_headers, block_names, file_block, header_names, headed, headed_file, headed_files, names_in}
 use Rattle.pkg_graph.specs.Package as pure
 use Rattle.pkg_graph.specs.declared.packages.Package.{Package}
 use Rattle.run_rules.specs.Programs.{in_dependency_order, linked, linked_file, linked_packages}

@@ -4,14 +4,14 @@ use mathlib.Core.Path.{ap, ap₂, sym, ◌∙◌}
 use Rattle.go_tree.specs.declared.spans.Span.{Span}
 use Rattle.go_tree.specs.Tree.{NameAt, TypeExpr, named, pointer, slice_type, map_type, struct_type, Fields, no_fields, field, Param, Sig}
 use Rattle.go_tree.specs.File.{Func}
-use Rattle.go_tree.specs.declared.const_eval.consts.Const.{Const}
-use Rattle.go_tree.specs.ScopeNames.Means.{means, or_else}
-use Rattle.go_tree.specs.GoTypes.Answers.{given, both, only_if, is_empty}
-use Rattle.go_tree.specs.GoTypes.Types.{GoType, pointer_to, slice_of, map_of, struct_of, FuncType}
-use Rattle.go_tree.specs.GoTypes.Entities.{Entity, variable, constant, stand_in, type_name, function, package_name, builtin, nil_name, iota_name, refused, universe, World, Env, block_of, meaning, exported, package_of, type_of_name, is_exported}
-use Rattle.go_tree.specs.GoTypes.TypeNames.{named_meaning, resolved, resolved_fields, field_before, type_meant, params_meant, func_type}
-use Rattle.go_tree.specs.GoTypes.Bodies.{body_binds}
-use Rattle.go_tree.specs.GoTypes.Programs.{Headed, env_of}
+use Rattle.go_rules.specs.declared.const_eval.consts.Const.{Const}
+use Rattle.go_rules.specs.ScopeNames.Means.{means, or_else}
+use Rattle.go_rules.specs.GoTypes.Answers.{given, both, only_if, is_empty}
+use Rattle.go_rules.specs.GoTypes.Types.{GoType, pointer_to, slice_of, map_of, struct_of, FuncType}
+use Rattle.go_rules.specs.GoTypes.Entities.{Entity, variable, constant, stand_in, type_name, function, package_name, builtin, nil_name, iota_name, refused, universe, World, Env, block_of, meaning, exported, package_of, type_of_name, is_exported}
+use Rattle.go_rules.specs.GoTypes.TypeNames.{named_meaning, resolved, resolved_fields, field_before, type_meant, params_meant, func_type}
+use Rattle.go_rules.specs.GoTypes.Bodies.{body_binds}
+use Rattle.go_rules.specs.GoTypes.Programs.{Headed, env_of}
 use Rattle.type_table.specs.TypeRelations.Environment as types
 use Rattle.typed_names.specs.declared.scopes.Scope.{Scope}
 use Rattle.typed_names.specs.Meanings.{Names, names_at, world_at}

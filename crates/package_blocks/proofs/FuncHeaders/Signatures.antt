@@ -6,14 +6,14 @@ use Rattle.go_tree.specs.declared.types.Param as code
 use Rattle.go_tree.specs.Tree.{NameAt, Param}
 use Rattle.go_tree.specs.File.{Func}
 use Rattle.go_tree.specs.View.{param_of}
-use Rattle.go_tree.specs.ScopeNames.Means.{is_blank}
-use Rattle.go_tree.specs.ScopeNames.FreeNames.{name_then, params_names, sig_names}
-use Rattle.go_tree.specs.GoTypes.Answers.{both, distinct_by, given, is_empty, only_if}
-use Rattle.go_tree.specs.GoTypes.Types.{GoType, FuncType}
-use Rattle.go_tree.specs.GoTypes.Entities.{variable, Env, Binds}
-use Rattle.go_tree.specs.GoTypes.TypeNames.{func_type, params_meant, type_meant}
-use Rattle.go_tree.specs.GoTypes.Declarations.{bound_names, names_once, not_blank}
-use Rattle.go_tree.specs.GoTypes.Bodies.{body_binds, param_binding, param_binds}
+use Rattle.go_rules.specs.ScopeNames.Means.{is_blank}
+use Rattle.go_rules.specs.ScopeNames.FreeNames.{name_then, params_names, sig_names}
+use Rattle.go_rules.specs.GoTypes.Answers.{both, distinct_by, given, is_empty, only_if}
+use Rattle.go_rules.specs.GoTypes.Types.{GoType, FuncType}
+use Rattle.go_rules.specs.GoTypes.Entities.{variable, Env, Binds}
+use Rattle.go_rules.specs.GoTypes.TypeNames.{func_type, params_meant, type_meant}
+use Rattle.go_rules.specs.GoTypes.Declarations.{bound_names, names_once, not_blank}
+use Rattle.go_rules.specs.GoTypes.Bodies.{body_binds, param_binding, param_binds}
 use Rattle.typed_in_place.proofs.SameUses.{from_both}
 use Rattle.package_blocks.proofs.HeaderLemmas.{map_append}
 use Rattle.type_table.specs.TypeRelations.Environment.{Environment}

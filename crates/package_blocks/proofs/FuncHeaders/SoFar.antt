@@ -5,14 +5,14 @@ use Rattle.std.proofs.Common.{arith, append_assoc, inl, inr}
 use Rattle.std.proofs.lemmas.Slice.Eq.{bytes_eq-Decides}
 use Rattle.go_tree.specs.declared.spans.Span.{Span}
 use Rattle.go_tree.specs.File.{Func}
-use Rattle.go_tree.specs.ScopeNames.Means.{binding, is_blank}
-use Rattle.go_tree.specs.GoTypes.Answers.{given, meets, only_if, is_among}
-use Rattle.go_tree.specs.GoTypes.Types.{FuncType}
-use Rattle.go_tree.specs.GoTypes.Defined.{has_keys}
-use Rattle.go_tree.specs.GoTypes.Defined as defined
-use Rattle.go_tree.specs.GoTypes.Entities.{Entity, function, refused, World}
-use Rattle.go_tree.specs.GoTypes.Programs.{Headed, header_names, Program, headed, env_of}
-use Rattle.go_tree.specs.GoTypes.Collect.{DeclaredTypes, declared_by, types_declared, typed_world, valued_world}
+use Rattle.go_rules.specs.ScopeNames.Means.{binding, is_blank}
+use Rattle.go_rules.specs.GoTypes.Answers.{given, meets, only_if, is_among}
+use Rattle.go_rules.specs.GoTypes.Types.{FuncType}
+use Rattle.go_rules.specs.GoTypes.Defined.{has_keys}
+use Rattle.go_rules.specs.GoTypes.Defined as defined
+use Rattle.go_rules.specs.GoTypes.Entities.{Entity, function, refused, World}
+use Rattle.go_rules.specs.GoTypes.Programs.{Headed, header_names, Program, headed, env_of}
+use Rattle.go_rules.specs.GoTypes.Collect.{DeclaredTypes, declared_by, types_declared, typed_world, valued_world}
 use Rattle.typed_in_place.specs.Declared.{FirstWith, this_one, a_later_one, HasNumber}
 use Rattle.declared_types.specs.Members.{member}
 use Rattle.package_blocks.specs.Names.{is_declared}

@@ -3,22 +3,22 @@ use Rattle.std.specs.Prelude.{◌≡◌, refl, ℕ, zero, suc, Bool, true, false
 use mathlib.Core.Path.{ap, ap₂, sym, ◌∙◌}
 use Rattle.go_tree.specs.Tree.{NameAt, TypeExpr, Exprs}
 use Rattle.go_tree.specs.File.{TypeSpec, Receiver, Func}
-use Rattle.go_tree.specs.ScopeNames.Means.{means, binding, is_blank}
-use Rattle.go_tree.specs.ScopeNames.FreeNames.{names_of}
-use Rattle.go_tree.specs.GoTypes.Answers.{given, both, meets, only_if, otherwise}
-use Rattle.go_tree.specs.GoTypes.Types.{GoType, named_type, FuncType, basic_kind}
-use Rattle.go_tree.specs.GoTypes.Defined.{Defined, under}
-use Rattle.go_tree.specs.GoTypes.Entities.{run, exact, shift, Entity, variable, constant, function, refused, World, Env, block_of, Binds}
-use Rattle.go_tree.specs.GoTypes.TypeNames.{resolved, func_type, written_type}
-use Rattle.go_tree.specs.GoTypes.Operands.{Operand, Typed, all_typed, fits, settled}
-use Rattle.go_tree.specs.GoTypes.Declarations.{bind_all, bind_each, constant_entity, variable_entity}
-use Rattle.go_tree.specs.GoTypes.Bodies.{body_binds, no_values}
-use Rattle.go_tree.specs.GoTypes.Typing.{all_parts}
-use Rattle.go_tree.specs.GoTypes.Initial.{all_initial}
-use Rattle.go_tree.specs.GoTypes.Bodiless.{all_bodiless}
-use Rattle.go_tree.specs.GoTypes.Programs.{Header, constants, variables, a_type_spec, a_func, Headed, header_names, Program, headed, env_of}
-use Rattle.go_tree.specs.GoTypes.Collect.{DeclaredTypes, is_finite, type_entity, good_entity, package_constants, package_variables, may_be_main, function_declared, declared_by, entity_binds, binds_or_refused, block_by, blocks_by, times, type_round, value_round, rounds, types_declared, typed_world, named_world, valued_world}
-use Rattle.go_tree.specs.GoTypes.SingleNames.{by_names}
+use Rattle.go_rules.specs.ScopeNames.Means.{means, binding, is_blank}
+use Rattle.go_rules.specs.ScopeNames.FreeNames.{names_of}
+use Rattle.go_rules.specs.GoTypes.Answers.{given, both, meets, only_if, otherwise}
+use Rattle.go_rules.specs.GoTypes.Types.{GoType, named_type, FuncType, basic_kind}
+use Rattle.go_rules.specs.GoTypes.Defined.{Defined, under}
+use Rattle.go_rules.specs.GoTypes.Entities.{run, exact, shift, Entity, variable, constant, function, refused, World, Env, block_of, Binds}
+use Rattle.go_rules.specs.GoTypes.TypeNames.{resolved, func_type, written_type}
+use Rattle.go_rules.specs.GoTypes.Operands.{Operand, Typed, all_typed, fits, settled}
+use Rattle.go_rules.specs.GoTypes.Declarations.{bind_all, bind_each, constant_entity, variable_entity}
+use Rattle.go_rules.specs.GoTypes.Bodies.{body_binds, no_values}
+use Rattle.go_rules.specs.GoTypes.Typing.{all_parts}
+use Rattle.go_rules.specs.GoTypes.Initial.{all_initial}
+use Rattle.go_rules.specs.GoTypes.Bodiless.{all_bodiless}
+use Rattle.go_rules.specs.GoTypes.Programs.{Header, constants, variables, a_type_spec, a_func, Headed, header_names, Program, headed, env_of}
+use Rattle.go_rules.specs.GoTypes.Collect.{DeclaredTypes, is_finite, type_entity, good_entity, package_constants, package_variables, may_be_main, function_declared, declared_by, entity_binds, binds_or_refused, block_by, blocks_by, times, type_round, value_round, rounds, types_declared, typed_world, named_world, valued_world}
+use Rattle.go_rules.specs.GoTypes.SingleNames.{by_names}
 use Rattle.typed_in_place.proofs.SameUses.{from_given, from_both, from_only}
 use Rattle.typed_in_place.proofs.Headers.{declared_in, good_in}
 use Rattle.typed_in_place.proofs.Collected.{typed_settled}

@@ -1,9 +1,9 @@
 -- What types in the source ask of names: whether one means a type, and which, or a package (Go specification, Types;
 -- Declarations and scope; Qualified identifiers).
 use Rattle.std.specs.Prelude.{◌≡◌, ℕ, List, Option, Some, None}
-use Rattle.go_tree.specs.GoTypes.Types.{GoType}
-use Rattle.go_tree.specs.GoTypes.Defined.{under, has_keys}
-use Rattle.go_tree.specs.GoTypes.Entities.{Entity, type_name, package_name, World, Env, meaning, exported, defined_in}
+use Rattle.go_rules.specs.GoTypes.Types.{GoType}
+use Rattle.go_rules.specs.GoTypes.Defined.{under, has_keys}
+use Rattle.go_rules.specs.GoTypes.Entities.{Entity, type_name, package_name, World, Env, meaning, exported, defined_in}
 use Rattle.declared_types.specs.Members.{member}
 
 -- what a name is to a type that is written with it

@@ -8,12 +8,12 @@ use Rattle.go_tree.specs.declared.spans.Span.{Span}
 use Rattle.go_tree.specs.declared.files.FuncDecl.{FuncDecl}
 use Rattle.go_tree.specs.File.{Func}
 use Rattle.go_tree.specs.FileView.{func_of}
-use Rattle.go_tree.specs.declared.const_eval.consts.Const.{Const}
-use Rattle.go_tree.specs.GoTypes.Types.{FuncType}
-use Rattle.go_tree.specs.GoTypes.Entities as go
-use Rattle.go_tree.specs.GoTypes.Entities.{World}
-use Rattle.go_tree.specs.GoTypes.Programs.{Headed, header_names, Program, headed}
-use Rattle.go_tree.specs.GoTypes.Collect.{types_declared, typed_world, valued_world}
+use Rattle.go_rules.specs.declared.const_eval.consts.Const.{Const}
+use Rattle.go_rules.specs.GoTypes.Types.{FuncType}
+use Rattle.go_rules.specs.GoTypes.Entities as go
+use Rattle.go_rules.specs.GoTypes.Entities.{World}
+use Rattle.go_rules.specs.GoTypes.Programs.{Headed, header_names, Program, headed}
+use Rattle.go_rules.specs.GoTypes.Collect.{types_declared, typed_world, valued_world}
 use Rattle.pkg_graph.specs.declared.packages.Package.{Package}
 use Rattle.type_table.specs.TypeRelations.Environment.{Environment}
 use Rattle.type_flags.specs.declared.grown.TypeFlags.{TypeFlags}

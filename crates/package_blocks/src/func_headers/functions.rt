@@ -1,10 +1,10 @@
 //! Functions by their signatures (Go specification, Function declarations; Program execution).
 
 ghost use Rattle.std.specs.Prelude.{◌≡◌, ◌||◌, ◌&&◌, List, not, map, length, bytes_eq, codes, IfOk};
-ghost use Rattle.go_tree.specs.declared.const_eval.consts.Const.{Const};
+ghost use Rattle.go_rules.specs.declared.const_eval.consts.Const.{Const};
 ghost use Rattle.go_tree.specs.FileView.{func_of};
 ghost use Rattle.go_tree.specs.View.{param_of};
-ghost use Rattle.go_tree.specs.GoTypes.Answers.{is_empty};
+ghost use Rattle.go_rules.specs.GoTypes.Answers.{is_empty};
 ghost use Rattle.type_flags.specs.Grown.{AreFlagsSoFar, DefinedBelow};
 ghost use Rattle.type_table.specs.ValueTypes.ValueTypes.{HasValueTypes};
 ghost use Rattle.typed_names.specs.Known.{KnowsTypes};

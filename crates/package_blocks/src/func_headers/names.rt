@@ -3,9 +3,9 @@
 ghost use Rattle.std.specs.Prelude.{◌≡◌, ◌||◌, [], ◌∷◌, not, is_some, map, IfOk};
 ghost use Rattle.std.specs.Option.{option_map};
 ghost use Rattle.go_tree.specs.View.{name_at_of, param_of, sig_of};
-ghost use Rattle.go_tree.specs.GoTypes.Declarations.{names_once};
-ghost use Rattle.go_tree.specs.ScopeNames.FreeNames.{name_then, params_names, sig_names};
-ghost use Rattle.go_tree.specs.ScopeNames.Means.{is_blank, means};
+ghost use Rattle.go_rules.specs.GoTypes.Declarations.{names_once};
+ghost use Rattle.go_rules.specs.ScopeNames.FreeNames.{name_then, params_names, sig_names};
+ghost use Rattle.go_rules.specs.ScopeNames.Means.{is_blank, means};
 ghost use Rattle.package_blocks.specs.FuncHeaders.Names.{AddsNames};
 
 use go_tree::{Name, NameAt, NoMemory, ParamList, Sig};

@@ -7,14 +7,14 @@ use Rattle.go_tree.specs.declared.spans.Span.{Span}
 use Rattle.go_tree.specs.Tree.{NameAt, Expr, ident, selector, no_exprs, expr_and, ValueSpecs}
 use Rattle.go_tree.specs.File.{ImportSpec, Receiver, Decl, File}
 use Rattle.go_tree.specs.GoWords.Tokens.Pieces.{keyword_spellings}
-use Rattle.go_tree.specs.ScopeNames.Identifiers.{exprs_identifiers, specs_identifiers, imports_identifiers, receiver_identifiers, sig_identifiers, stmts_identifiers, decl_identifiers, decls_identifiers, identifiers}
-use Rattle.go_tree.specs.ScopeNames.Means.{is_blank, predeclared}
-use Rattle.go_tree.specs.declared.scope_names.names.ImportName.{ImportName}
+use Rattle.go_rules.specs.ScopeNames.Identifiers.{exprs_identifiers, specs_identifiers, imports_identifiers, receiver_identifiers, sig_identifiers, stmts_identifiers, decl_identifiers, decls_identifiers, identifiers}
+use Rattle.go_rules.specs.ScopeNames.Means.{is_blank, predeclared}
+use Rattle.go_rules.specs.declared.scope_names.names.ImportName.{ImportName}
 use Rattle.pkg_graph.specs.Package.{SourceTree, Package, import_specs}
 use Rattle.pkg_graph.specs.Members.{member, import_name, specs_names, unless_method, block_names, items_from, decls_from, files_from, package_block}
 use Rattle.pkg_graph.specs.Reads.{Source}
 use Rattle.run_rules.specs.ImportRules.Needs.{avoided}
-use Rattle.go_tree.specs.GoTypes.Answers.{given, otherwise}
+use Rattle.go_rules.specs.GoTypes.Answers.{given, otherwise}
 use Rattle.run_rules.specs.FormTrees.{ConstForm, Form, as_expr, form_identifiers, outside_changes}
 use Rattle.run_rules.specs.Naming.{Names, unnamed, no_span, unnamed_package, new_first, unnamed_in, name_added, named_package, named_packages, names_here, member_qualifier, fuel_for}
 use Rattle.run_rules.specs.Places.{expr_seen}

@@ -12,8 +12,8 @@ use Rattle.go_read.specs.Spells.{SpellsBare, SpellsExpr, SpellsOperand, SpellsEx
 use Rattle.go_read.specs.SpellsFiles.{SpellsImportSpec, SpellsImportSpecs, SpellsImport, SpellsImports, SpellsTop, SpellsTops, SpellsFront, SpellsFile, path_rule, named_path_rule, no_import_specs_rule, last_import_spec_rule, more_import_specs_rule, import_rule, import_group_rule, no_imports_rule, more_imports_rule, top_const_rule, top_func_rule, top_method_rule, no_tops_rule, more_tops_rule, front_rule}
 use Rattle.go_read.specs.SpellsSpans.{span_to}
 use Rattle.go_read.specs.SpellsTypes.{Lexemes, SpellsSig, SpellsNames, last_name_rule, more_names_rule}
-use Rattle.go_tree.specs.ScopeNames.FreeNames.{names_of}
-use Rattle.go_tree.specs.ScopeNames.Identifiers.{expr_identifiers, exprs_identifiers, stmts_identifiers, specs_identifiers, import_specs_identifiers, imports_identifiers, params_identifiers, sig_identifiers, decl_identifiers, decls_identifiers, name_option, identifiers}
+use Rattle.go_rules.specs.ScopeNames.FreeNames.{names_of}
+use Rattle.go_rules.specs.ScopeNames.Identifiers.{expr_identifiers, exprs_identifiers, stmts_identifiers, specs_identifiers, import_specs_identifiers, imports_identifiers, params_identifiers, sig_identifiers, decl_identifiers, decls_identifiers, name_option, identifiers}
 use Rattle.splice_laws.proofs.Grafts.{Within, here, later}
 use Rattle.splice_laws.proofs.Pasts.{sig_past}
 use Rattle.run_rules.specs.Printed.{IsFlat, a_name, a_number, a_selection, AllFlat, no_operands, and_operand, IsPrint, an_operand, a_call, PrintStmts, no_prints, and_print, FlatConstants, no_constants, and_constant, IsPrinted, some_constants, a_function}

@@ -2,18 +2,18 @@
 use Rattle.std.proofs.Common.{◌≡◌, ◌∙◌, refl, sym, ap, subst, ℕ, zero, suc, ◌+◌, Bool, true, false, ◌&&◌, if◌then◌else◌, List, [], ◌∷◌, ◌++◌, map, Option, Some, None, bytes_eq, arith}
 use Rattle.std.specs.Prelude.{slice_get}
 use Rattle.std.proofs.lemmas.Option.{same_Some}
-use Rattle.go_tree.specs.declared.const_eval.consts.Const.{Const}
+use Rattle.go_rules.specs.declared.const_eval.consts.Const.{Const}
 use Rattle.go_tree.specs.Tree.{NameAt, Expr, ValueSpecs}
 use Rattle.go_tree.specs.File.{Func, Decl, func}
-use Rattle.go_tree.specs.ScopeNames.Means.{Environment, means, is_blank, or_else}
+use Rattle.go_rules.specs.ScopeNames.Means.{Environment, means, is_blank, or_else}
 use Rattle.pkg_graph.specs.Package.{SourceTree, Package}
 use Rattle.pkg_graph.specs.Members.{Target, member, specs_names, block_names, items_from, decls_from, files_from, package_block}
-use Rattle.go_tree.specs.GoTypes.Answers.{given}
-use Rattle.go_tree.specs.GoTypes.Types.{GoType, FuncType}
-use Rattle.go_tree.specs.GoTypes.Entities.{Entity, constant, function, block_of}
-use Rattle.go_tree.specs.GoTypes.Programs as source
-use Rattle.go_tree.specs.GoTypes.Programs.{SourcePackage, Program, headed, file_block}
-use Rattle.go_tree.specs.GoTypes.WellTyped.{well_typed}
+use Rattle.go_rules.specs.GoTypes.Answers.{given}
+use Rattle.go_rules.specs.GoTypes.Types.{GoType, FuncType}
+use Rattle.go_rules.specs.GoTypes.Entities.{Entity, constant, function, block_of}
+use Rattle.go_rules.specs.GoTypes.Programs as source
+use Rattle.go_rules.specs.GoTypes.Programs.{SourcePackage, Program, headed, file_block}
+use Rattle.go_rules.specs.GoTypes.WellTyped.{well_typed}
 use Rattle.go_translation.specs.Packages.{sources, are_distinct, are_linked, are_well_typed}
 use Rattle.typed_in_place.specs.Aliases.{at_last}
 use Rattle.typed_in_place.specs.Declared.{HasNumber}

@@ -3,19 +3,19 @@ use Rattle.std.proofs.Common.{◌≡◌, ◌∙◌, refl, sym, ap, subst, ℕ, B
 use Rattle.std.specs.Prelude.{slice_get, codes}
 use Rattle.std.proofs.lemmas.Option.{same_Some}
 use Rattle.std.proofs.lemmas.Slice.Eq.{bytes_eq-Decides}
-use Rattle.go_tree.specs.declared.const_eval.consts.Const.{Const}
+use Rattle.go_rules.specs.declared.const_eval.consts.Const.{Const}
 use Rattle.go_tree.specs.Tree.{NameAt, Expr, ident, selector}
-use Rattle.go_tree.specs.ScopeNames.Means.{Environment, means, is_blank, numbered, or_else}
+use Rattle.go_rules.specs.ScopeNames.Means.{Environment, means, is_blank, numbered, or_else}
 use Rattle.pkg_graph.specs.Package.{SourceTree, Package, import_specs}
 use Rattle.pkg_graph.specs.Members.{Target, local, imported, member, predeclared, import_name}
-use Rattle.go_tree.specs.GoTypes.Answers.{given}
-use Rattle.go_tree.specs.GoTypes.Types.{GoType, FuncType}
-use Rattle.go_tree.specs.GoTypes.Entities.{Entity, variable, constant, stand_in, type_name, function, package_name, builtin, nil_name, iota_name, refused, exact, Env, meaning, exported, is_exported, block_of, universe, package_of, defined_in}
-use Rattle.go_tree.specs.GoTypes.Operands.{Operand, value, named_operand, with_value}
-use Rattle.go_tree.specs.GoTypes.Primary.{selected}
-use Rattle.go_tree.specs.GoTypes.Typing.{parts, place}
-use Rattle.go_tree.specs.GoTypes.Programs as source
-use Rattle.go_tree.proofs.GoTypes.Agreeing.{from_given}
+use Rattle.go_rules.specs.GoTypes.Answers.{given}
+use Rattle.go_rules.specs.GoTypes.Types.{GoType, FuncType}
+use Rattle.go_rules.specs.GoTypes.Entities.{Entity, variable, constant, stand_in, type_name, function, package_name, builtin, nil_name, iota_name, refused, exact, Env, meaning, exported, is_exported, block_of, universe, package_of, defined_in}
+use Rattle.go_rules.specs.GoTypes.Operands.{Operand, value, named_operand, with_value}
+use Rattle.go_rules.specs.GoTypes.Primary.{selected}
+use Rattle.go_rules.specs.GoTypes.Typing.{parts, place}
+use Rattle.go_rules.specs.GoTypes.Programs as source
+use Rattle.go_rules.proofs.GoTypes.Agreeing.{from_given}
 use Rattle.go_translation.specs.Packages.{are_well_typed}
 use Rattle.typed_in_place.specs.ImportRule.{imports_sound}
 use Rattle.constant_steps.proofs.WrittenLiteral.NamesMeant.{means_join, IsImport, Answered, matched_means, all_imports_match}

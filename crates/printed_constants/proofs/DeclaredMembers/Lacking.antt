@@ -7,16 +7,16 @@ use Rattle.std.proofs.lemmas.Slice.Eq.{bytes_eq-Decides}
 use Rattle.go_tree.specs.declared.spans.Span.{Span}
 use Rattle.go_tree.specs.Tree.{NameAt}
 use Rattle.go_tree.specs.File.{ImportSpec, Decl}
-use Rattle.go_tree.specs.ScopeNames.Means as names
-use Rattle.go_tree.specs.ScopeNames.Means.{Environment, means, is_blank, binding, numbered, or_else}
+use Rattle.go_rules.specs.ScopeNames.Means as names
+use Rattle.go_rules.specs.ScopeNames.Means.{Environment, means, is_blank, binding, numbered, or_else}
 use Rattle.pkg_graph.specs.Package.{SourceTree, Package, import_specs}
 use Rattle.pkg_graph.specs.Members.{Target, local, imported, member, predeclared, import_name, block_names, items_from, decls_from, files_from, package_block}
-use Rattle.go_tree.specs.GoTypes.Answers.{given, is_among}
-use Rattle.go_tree.specs.GoTypes.Entities.{Entity, refused, universe, World, Binds, block_of}
-use Rattle.go_tree.specs.GoTypes.Statements.{bind_each, bound_names}
-use Rattle.go_tree.specs.GoTypes.Programs as source
-use Rattle.go_tree.specs.GoTypes.Programs.{Headed, Program, headed, header_names, import_entity, import_sound, file_block}
-use Rattle.go_tree.specs.GoTypes.Collect.{declared_by, binds_or_refused, block_by, types_declared, valued_world}
+use Rattle.go_rules.specs.GoTypes.Answers.{given, is_among}
+use Rattle.go_rules.specs.GoTypes.Entities.{Entity, refused, universe, World, Binds, block_of}
+use Rattle.go_rules.specs.GoTypes.Statements.{bind_each, bound_names}
+use Rattle.go_rules.specs.GoTypes.Programs as source
+use Rattle.go_rules.specs.GoTypes.Programs.{Headed, Program, headed, header_names, import_entity, import_sound, file_block}
+use Rattle.go_rules.specs.GoTypes.Collect.{declared_by, binds_or_refused, block_by, types_declared, valued_world}
 use Rattle.typed_in_place.specs.Aliases.{at_last}
 use Rattle.typed_in_place.specs.Declared.{HasNumber}
 use Rattle.typed_in_place.specs.Known.{BlockClearer, end_of_block, was_refused, was_known}

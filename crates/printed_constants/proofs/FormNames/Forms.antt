@@ -4,13 +4,13 @@ use Rattle.std.specs.Prelude.{codes, decimal, slice_get}
 use Rattle.std.proofs.lemmas.Option.{same_Some}
 use Rattle.std.proofs.lemmas.Slice.Eq.{bytes_eq-Decides}
 use Rattle.go_tree.specs.GoWords.Tokens.Pieces.{is_among}
-use Rattle.go_tree.specs.declared.scope_names.names.Entity.{Entity}
-use Rattle.go_tree.specs.declared.scope_names.names.Entity.TheVariants as entity
-use Rattle.go_tree.specs.declared.scope_names.names.ImportName.{ImportName}
-use Rattle.go_tree.specs.ScopeNames.Fresh.{candidate, IsFresh}
-use Rattle.go_tree.specs.ScopeNames.FreeNames.{names_of}
-use Rattle.go_tree.specs.ScopeNames.Means.{Environment, means, is_blank, numbered, predeclared, outermost}
-use Rattle.go_tree.specs.ScopeNames.Occurrences.{means_import}
+use Rattle.go_rules.specs.declared.scope_names.names.Entity.{Entity}
+use Rattle.go_rules.specs.declared.scope_names.names.Entity.TheVariants as entity
+use Rattle.go_rules.specs.declared.scope_names.names.ImportName.{ImportName}
+use Rattle.go_rules.specs.ScopeNames.Fresh.{candidate, IsFresh}
+use Rattle.go_rules.specs.ScopeNames.FreeNames.{names_of}
+use Rattle.go_rules.specs.ScopeNames.Means.{Environment, means, is_blank, numbered, predeclared, outermost}
+use Rattle.go_rules.specs.ScopeNames.Occurrences.{means_import}
 use Rattle.constant_steps.specs.FormImports.OwnNames.{AllOwn}
 use Rattle.run_rules.specs.ImportRules.SettledNames.{IsOwnName}
 use Rattle.run_rules.specs.ImportRules.Needs.{serves, serving_from, serving, avoided}

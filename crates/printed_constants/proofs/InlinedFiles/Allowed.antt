@@ -2,9 +2,9 @@
 use Rattle.std.proofs.Common.{◌≡◌, refl, sym, ap, subst, ℕ, Bool, true, false, ◌&&◌, List, [], ◌∷◌, ◌++◌, map, Option, Some, None, if◌then◌else◌, is_none}
 use Rattle.std.proofs.lemmas.Option.{same_Some}
 use Rattle.go_tree.specs.File.{Func}
-use Rattle.go_tree.specs.ScopeNames.Binders.{func_binders}
-use Rattle.go_tree.specs.GoTypes.Agreement.{In, head, tail}
-use Rattle.go_tree.specs.GoTypes.Answers.{given, one_of}
+use Rattle.go_rules.specs.ScopeNames.Binders.{func_binders}
+use Rattle.go_rules.specs.GoTypes.Agreement.{In, head, tail}
+use Rattle.go_rules.specs.GoTypes.Answers.{given, one_of}
 use Rattle.run_rules.specs.declared.import_rules.new_import.NewImport.{NewImport}
 use Rattle.run_rules.specs.ImportRules.Needs.{serving, avoided}
 use Rattle.pkg_graph.specs.ModuleFiles.Internal.{may_import}

@@ -4,26 +4,26 @@ use Rattle.std.specs.Prelude.{bytes_eq}
 use Rattle.go_tree.specs.declared.exprs.Rest.TheVariants.{Plain}
 use Rattle.go_tree.specs.Tree.{NameAt, TypeExpr, Expr, ident, selector, call, Exprs, no_exprs, expr_and, eval, Stmts, ValueSpecs}
 use Rattle.go_tree.specs.File.{Func, Decl, func}
-use Rattle.go_tree.specs.ScopeNames.FreeNames.{names_of}
-use Rattle.go_tree.specs.ScopeNames.Means.{Environment, means}
+use Rattle.go_rules.specs.ScopeNames.FreeNames.{names_of}
+use Rattle.go_rules.specs.ScopeNames.Means.{Environment, means}
 use Rattle.pkg_graph.specs.Package.{Package}
 use Rattle.pkg_graph.specs.Members.{imported}
-use Rattle.go_tree.specs.GoTypes.Answers.{given, both, only_if, otherwise, is_empty, distinct_by}
-use Rattle.go_tree.specs.GoTypes.Bodies.{Ctx, body_binds, body_ctx, is_body}
-use Rattle.go_tree.specs.GoTypes.Bodiless.{all_bodiless}
-use Rattle.go_tree.specs.GoTypes.Collect.{DeclaredTypes, types_declared, package_constants}
-use Rattle.go_tree.specs.GoTypes.Declarations.{Declared, no_names, bind_all, constant_entity, all_used}
-use Rattle.go_tree.specs.GoTypes.Entities.{Entity, Env, Binds, meaning, package_of, exported, is_exported, extend, in_block, block_of, defined_in}
-use Rattle.go_tree.specs.GoTypes.Jumps.{labels_in}
-use Rattle.go_tree.specs.GoTypes.Operands.{Operand, all_typed, with_value, named_operand}
-use Rattle.go_tree.specs.GoTypes.Primary.{selected, call_of}
-use Rattle.go_tree.specs.GoTypes.Programs.{Header, constants, a_func, constant_headers, at_member, headed, file_env}
-use Rattle.go_tree.specs.GoTypes.Statements.{is_empty_stmt, is_panic}
-use Rattle.go_tree.specs.GoTypes.TypeNames.{func_type, written_type}
-use Rattle.go_tree.specs.GoTypes.Types.{GoType}
-use Rattle.go_tree.specs.GoTypes.Typing.{parts, all_parts, place, declares, stmt, stmts, used_stmts}
-use Rattle.go_tree.specs.GoTypes.WellTyped.{receiver_of}
-use Rattle.go_tree.proofs.GoTypes.Agreeing.{from_given, from_both, from_only}
+use Rattle.go_rules.specs.GoTypes.Answers.{given, both, only_if, otherwise, is_empty, distinct_by}
+use Rattle.go_rules.specs.GoTypes.Bodies.{Ctx, body_binds, body_ctx, is_body}
+use Rattle.go_rules.specs.GoTypes.Bodiless.{all_bodiless}
+use Rattle.go_rules.specs.GoTypes.Collect.{DeclaredTypes, types_declared, package_constants}
+use Rattle.go_rules.specs.GoTypes.Declarations.{Declared, no_names, bind_all, constant_entity, all_used}
+use Rattle.go_rules.specs.GoTypes.Entities.{Entity, Env, Binds, meaning, package_of, exported, is_exported, extend, in_block, block_of, defined_in}
+use Rattle.go_rules.specs.GoTypes.Jumps.{labels_in}
+use Rattle.go_rules.specs.GoTypes.Operands.{Operand, all_typed, with_value, named_operand}
+use Rattle.go_rules.specs.GoTypes.Primary.{selected, call_of}
+use Rattle.go_rules.specs.GoTypes.Programs.{Header, constants, a_func, constant_headers, at_member, headed, file_env}
+use Rattle.go_rules.specs.GoTypes.Statements.{is_empty_stmt, is_panic}
+use Rattle.go_rules.specs.GoTypes.TypeNames.{func_type, written_type}
+use Rattle.go_rules.specs.GoTypes.Types.{GoType}
+use Rattle.go_rules.specs.GoTypes.Typing.{parts, all_parts, place, declares, stmt, stmts, used_stmts}
+use Rattle.go_rules.specs.GoTypes.WellTyped.{receiver_of}
+use Rattle.go_rules.proofs.GoTypes.Agreeing.{from_given, from_both, from_only}
 use Rattle.typed_in_place.specs.ProgramReplaced.{All, all_and}
 use Rattle.printed_constants.proofs.TypedParts.Walk.{met, there_is}
 use Rattle.printed_constants.proofs.TypedParts.DottedImports.Imports.{no_operand}

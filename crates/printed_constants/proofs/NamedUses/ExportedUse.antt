@@ -2,11 +2,11 @@
 use Rattle.std.proofs.Common.{◌≡◌, ◌∙◌, sym, ℕ, true, if◌then◌else◌, List, [], Some, None}
 use Rattle.go_tree.specs.declared.spans.Span.{Span}
 use Rattle.go_tree.specs.Tree.{Expr}
-use Rattle.go_tree.specs.ScopeNames.FreeNames.{names_of}
-use Rattle.go_tree.specs.ScopeNames.Means.{means}
+use Rattle.go_rules.specs.ScopeNames.FreeNames.{names_of}
+use Rattle.go_rules.specs.ScopeNames.Means.{means}
 use Rattle.pkg_graph.specs.Members.{Target}
-use Rattle.go_tree.specs.GoTypes.Answers.{given, is_among}
-use Rattle.go_tree.proofs.GoTypes.Agreeing.{from_given}
+use Rattle.go_rules.specs.GoTypes.Answers.{given, is_among}
+use Rattle.go_rules.proofs.GoTypes.Agreeing.{from_given}
 use Rattle.go_translation.specs.Packages.{are_well_typed}
 use Rattle.order_runs.specs.RunSteps.RunPackages.{members_of}
 use Rattle.order_runs.proofs.ImportRuns.Listed.{among-order}

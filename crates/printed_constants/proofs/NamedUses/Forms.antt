@@ -4,10 +4,10 @@ use Rattle.std.proofs.Common.{◌≡◌, ◌∙◌, ap, ℕ, Bool, true, false, 
 use Rattle.std.specs.Prelude.{slice_get}
 use Rattle.go_tree.specs.Tree.{Expr, ident, selector}
 use Rattle.pkg_graph.specs.Package.{Package}
-use Rattle.go_tree.specs.GoTypes.Answers.{given, otherwise}
+use Rattle.go_rules.specs.GoTypes.Answers.{given, otherwise}
 use Rattle.splice_laws.proofs.ImportSplices.FormSplices.FormsFound.{step-makes-form}
 use Rattle.constant_steps.specs.FormImports.Written.{NoneUnnamed}
-use Rattle.go_tree.specs.ScopeNames.Identifiers.{expr_identifiers}
+use Rattle.go_rules.specs.ScopeNames.Identifiers.{expr_identifiers}
 use Rattle.put_names.specs.Uses.{IsDeclaredAsName, as_name, as_member, UsesConstant}
 use Rattle.put_names.proofs.Forms.{Qualifies, nothing, its_name, member_view, home_of, IsFormBy, by_obstacle, reduced_is}
 use Rattle.run_rules.specs.FormTrees.{ConstForm, Form, as_expr, form_identifiers, outside_changes}

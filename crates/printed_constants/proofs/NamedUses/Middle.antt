@@ -5,12 +5,12 @@ use Rattle.std.specs.Prelude.{slice_get}
 use Rattle.std.proofs.lemmas.Option.{same_Some}
 use Rattle.std.proofs.lemmas.Slice.Eq.{bytes_eq-Decides}
 use Rattle.go_tree.specs.File.{ImportSpec, Decl, File}
-use Rattle.go_tree.specs.ScopeNames.Means as scopes
-use Rattle.go_tree.specs.ScopeNames.Means.{Environment, means, is_blank, numbered}
+use Rattle.go_rules.specs.ScopeNames.Means as scopes
+use Rattle.go_rules.specs.ScopeNames.Means.{Environment, means, is_blank, numbered}
 use Rattle.pkg_graph.specs.Package.{SourceTree, Package, import_specs}
 use Rattle.pkg_graph.specs.Members.{imported, predeclared, name_or, import_name, decls_from, files_from, package_block}
-use Rattle.go_tree.specs.GoTypes.Answers.{given}
-use Rattle.go_tree.proofs.GoTypes.Agreeing.{from_given}
+use Rattle.go_rules.specs.GoTypes.Answers.{given}
+use Rattle.go_rules.proofs.GoTypes.Agreeing.{from_given}
 use Rattle.run_rules.specs.Sites.{MarkRef, Where, Inlinable, a_constant, where_is, inlinable, inlinable_in, members_in, member_of, outer}
 use Rattle.run_rules.specs.Steps.{At, same_here, change_nth, with_file}
 use Rattle.constant_steps.proofs.MarksFound.{StandsThere, stands_there, DeclaredThere, declared_there}

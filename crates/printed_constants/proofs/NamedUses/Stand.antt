@@ -7,17 +7,17 @@ use Rattle.std.proofs.lemmas.Option.{same_Some}
 use Rattle.go_tree.specs.declared.spans.Span.{Span}
 use Rattle.go_tree.specs.Tree.{NameAt, Expr, ident, selector, ValueSpecs}
 use Rattle.go_tree.specs.File.{ImportSpec, Decl}
-use Rattle.go_tree.specs.ScopeNames.FreeNames.{names_of, free_expr}
-use Rattle.go_tree.specs.ScopeNames.Identifiers.{expr_identifiers, decl_identifiers}
-use Rattle.go_tree.specs.ScopeNames.Means as scopes
-use Rattle.go_tree.specs.ScopeNames.Means.{Environment, means, is_blank, numbered}
+use Rattle.go_rules.specs.ScopeNames.FreeNames.{names_of, free_expr}
+use Rattle.go_rules.specs.ScopeNames.Identifiers.{expr_identifiers, decl_identifiers}
+use Rattle.go_rules.specs.ScopeNames.Means as scopes
+use Rattle.go_rules.specs.ScopeNames.Means.{Environment, means, is_blank, numbered}
 use Rattle.pkg_graph.specs.ModuleFiles.Internal.{may_import}
 use Rattle.pkg_graph.specs.Package.{Package, specs_in, import_specs}
 use Rattle.pkg_graph.specs.Members.{Target, local, imported, member, predeclared, import_name, package_block}
-use Rattle.go_tree.specs.GoTypes.Agreement.{In, head}
-use Rattle.go_tree.specs.GoTypes.Answers.{given, one_of, otherwise, is_among, is_empty}
-use Rattle.go_tree.specs.GoTypes.Entities.{is_exported}
-use Rattle.go_tree.proofs.GoTypes.Agreeing.{from_given}
+use Rattle.go_rules.specs.GoTypes.Agreement.{In, head}
+use Rattle.go_rules.specs.GoTypes.Answers.{given, one_of, otherwise, is_among, is_empty}
+use Rattle.go_rules.specs.GoTypes.Entities.{is_exported}
+use Rattle.go_rules.proofs.GoTypes.Agreeing.{from_given}
 use Rattle.go_translation.specs.Packages.{are_well_typed}
 use Rattle.constant_steps.specs.FormImports.ImportLaws.Steps.{binders_in, binders_of}
 use Rattle.constant_steps.specs.FormImports.Written.{NoneUnnamed}

@@ -4,7 +4,7 @@ use Rattle.std.proofs.Common.{◌≡◌, ◌≤◌, true, List}
 use Rattle.go_translation.specs.Packages.{are_well_typed}
 use Rattle.constant_steps.specs.FormImports.OwnNames.{AllOwn}
 use Rattle.constant_steps.specs.FormImports.Written.{NoneUnnamed}
-use Rattle.go_tree.specs.ScopeNames.Identifiers.{expr_identifiers}
+use Rattle.go_rules.specs.ScopeNames.Identifiers.{expr_identifiers}
 use Rattle.order_runs.specs.RunSteps.RunPackages.{members_of}
 use Rattle.put_names.specs.Uses.{IsUsedByName, UsesConstant}
 use Rattle.run_rules.specs.Run.{Standing, Logged, Next, texts_size, the_limits}

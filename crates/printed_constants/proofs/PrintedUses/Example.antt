@@ -7,9 +7,9 @@ use Rattle.go_tree.specs.declared.exprs.Rest.TheVariants.{Plain}
 use Rattle.go_tree.specs.declared.spans.Span.{Span}
 use Rattle.go_tree.specs.Tree.{NameAt, ident, selector, call, no_exprs, expr_and, eval, no_stmts, stmt_and}
 use Rattle.go_tree.specs.File.{ImportSpec, Decl, func}
-use Rattle.go_tree.specs.ScopeNames.Identifiers.{decl_identifiers}
+use Rattle.go_rules.specs.ScopeNames.Identifiers.{decl_identifiers}
 use Rattle.pkg_graph.specs.Package.{Package}
-use Rattle.go_tree.specs.GoTypes.Agreement.{In, head, tail}
+use Rattle.go_rules.specs.GoTypes.Agreement.{In, head, tail}
 use Rattle.order_runs.specs.CycleRuns.ImportCycles.OtherImports.{import_path}
 use Rattle.run_rules.specs.Printed.{a_name, a_selection, no_operands, and_operand, a_call, no_prints, and_print, IsPrinted, a_function}
 

@@ -5,21 +5,21 @@ use Rattle.std.proofs.lemmas.Bool.{cond_both}
 use Rattle.std.proofs.lemmas.Option.{same_Some}
 use Rattle.go_tree.specs.Tree.{NameAt, TypeExpr, Expr, Exprs, no_exprs, expr_and, ValueSpecs}
 use Rattle.go_tree.specs.File.{Receiver, Func, Decl}
-use Rattle.go_tree.specs.ScopeNames.Means.{Environment, means, binding}
+use Rattle.go_rules.specs.ScopeNames.Means.{Environment, means, binding}
 use Rattle.pkg_graph.specs.Package.{SourceTree, Package}
-use Rattle.go_tree.specs.GoTypes.Answers.{given, both, only_if}
-use Rattle.go_tree.specs.GoTypes.Types.{FuncType}
-use Rattle.go_tree.specs.GoTypes.Defined.{Defined}
-use Rattle.go_tree.specs.GoTypes.Entities.{Entity, constant, function, refused, run, exact, shift, World, Binds, universe, block_of}
-use Rattle.go_tree.specs.GoTypes.Operands.{Operand, value, several, a_type, a_function, a_builtin, recovered, all_typed}
-use Rattle.go_tree.specs.GoTypes.Declarations.{bind_all, bind_each, constant_entity}
-use Rattle.go_tree.specs.GoTypes.Bodies.{body_binds}
-use Rattle.go_tree.specs.GoTypes.Bodiless.{all_bodiless}
-use Rattle.go_tree.specs.GoTypes.TypeNames.{func_type}
-use Rattle.go_tree.specs.GoTypes.Typing.{parts}
-use Rattle.go_tree.specs.GoTypes.Programs.{Header, constants, a_func, Headed, header_names, SourcePackage, Program, Import, import_entity, import_sound, file_block, block_names, names_in, headers, constant_headers, at_member, all_headers, headed, headed_package, headed_files, headed_file, is_main, env_of}
-use Rattle.go_tree.specs.GoTypes.Collect.{DeclaredTypes, times, alias_entity, good_entity, package_constants, function_declared, func_declared, may_be_main, declared_by, binds_or_refused, entity_binds, block_by, blocks_by, alias_round, type_round, value_round, refused_world, rounds, aliased_world, types_declared, underlying, typed_world, named_world, valued_world}
-use Rattle.go_tree.specs.GoTypes.SingleNames.{single_names, with_header, singly, by_names}
+use Rattle.go_rules.specs.GoTypes.Answers.{given, both, only_if}
+use Rattle.go_rules.specs.GoTypes.Types.{FuncType}
+use Rattle.go_rules.specs.GoTypes.Defined.{Defined}
+use Rattle.go_rules.specs.GoTypes.Entities.{Entity, constant, function, refused, run, exact, shift, World, Binds, universe, block_of}
+use Rattle.go_rules.specs.GoTypes.Operands.{Operand, value, several, a_type, a_function, a_builtin, recovered, all_typed}
+use Rattle.go_rules.specs.GoTypes.Declarations.{bind_all, bind_each, constant_entity}
+use Rattle.go_rules.specs.GoTypes.Bodies.{body_binds}
+use Rattle.go_rules.specs.GoTypes.Bodiless.{all_bodiless}
+use Rattle.go_rules.specs.GoTypes.TypeNames.{func_type}
+use Rattle.go_rules.specs.GoTypes.Typing.{parts}
+use Rattle.go_rules.specs.GoTypes.Programs.{Header, constants, a_func, Headed, header_names, SourcePackage, Program, Import, import_entity, import_sound, file_block, block_names, names_in, headers, constant_headers, at_member, all_headers, headed, headed_package, headed_files, headed_file, is_main, env_of}
+use Rattle.go_rules.specs.GoTypes.Collect.{DeclaredTypes, times, alias_entity, good_entity, package_constants, function_declared, func_declared, may_be_main, declared_by, binds_or_refused, entity_binds, block_by, blocks_by, alias_round, type_round, value_round, refused_world, rounds, aliased_world, types_declared, underlying, typed_world, named_world, valued_world}
+use Rattle.go_rules.specs.GoTypes.SingleNames.{single_names, with_header, singly, by_names}
 use Rattle.run_rules.specs.Programs.{numbered_from, numbered, is_ready, lesser, least_ready, ordered_after, in_dependency_order, linked_imports, linked_file, linked_package, linked_packages, linked, world}
 use Rattle.pkg_graph.specs.ModuleFiles.Pieces.{comes_before}
 use Rattle.run_rules.specs.Printed.{IsFlat, FlatConstants, no_constants, and_constant, IsPrinted, some_constants, a_function, ArePrinted}

@@ -5,9 +5,9 @@ use Rattle.std.specs.List.{list_any}
 use Rattle.std.proofs.lemmas.Option.{same_Some}
 use Rattle.go_tree.specs.File.{Decl, File}
 use Rattle.pkg_graph.specs.Package.{SourceTree, Package}
-use Rattle.go_tree.specs.GoTypes.Programs.{headed, headed_package, block_names}
-use Rattle.go_tree.specs.GoTypes.Collect.{DeclaredTypes, types_declared}
-use Rattle.go_tree.specs.GoTypes.WellTyped.{well_typed}
+use Rattle.go_rules.specs.GoTypes.Programs.{headed, headed_package, block_names}
+use Rattle.go_rules.specs.GoTypes.Collect.{DeclaredTypes, types_declared}
+use Rattle.go_rules.specs.GoTypes.WellTyped.{well_typed}
 use Rattle.typed_in_place.specs.ProgramReplaced.{All, all_and}
 use Rattle.constant_steps.specs.StepLaws.DeclStands.{AtNth}
 use Rattle.constant_steps.specs.StepLaws.PartsTyped.{HeaderTyped}

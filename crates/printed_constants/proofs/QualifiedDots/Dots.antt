@@ -5,26 +5,26 @@ use Rattle.std.proofs.lemmas.Bool.{cond_both}
 use Rattle.go_tree.specs.declared.exprs.Rest.TheVariants.{Plain}
 use Rattle.go_tree.specs.Tree.{NameAt, Param, TypeExpr, Expr, selector, call, Exprs, no_exprs, expr_and, eval, Stmts, ValueSpecs}
 use Rattle.go_tree.specs.File.{Receiver, Func, Decl, func, File}
-use Rattle.go_tree.specs.ScopeNames.FreeNames.{names_of}
-use Rattle.go_tree.specs.ScopeNames.Means.{Environment, means}
+use Rattle.go_rules.specs.ScopeNames.FreeNames.{names_of}
+use Rattle.go_rules.specs.ScopeNames.Means.{Environment, means}
 use Rattle.pkg_graph.specs.Package.{Package}
 use Rattle.pkg_graph.specs.Members.{Target, imported}
-use Rattle.go_tree.specs.GoTypes.Answers.{given, both, meets, only_if, otherwise, distinct_by, is_empty, is_among}
-use Rattle.go_tree.specs.GoTypes.Types.{GoType, FuncType}
-use Rattle.go_tree.specs.GoTypes.Entities.{Entity, variable, constant, stand_in, type_name, function, package_name, builtin, nil_name, iota_name, refused, Env, Binds, meaning, package_of, extend, in_block, universe, block_of}
-use Rattle.go_tree.specs.GoTypes.TypeNames.{func_type, written_type}
-use Rattle.go_tree.specs.GoTypes.Operands.{Operand, all_typed}
-use Rattle.go_tree.specs.GoTypes.Primary.{call_of, stands_alone}
-use Rattle.go_tree.specs.GoTypes.Statements.{package_before, is_panic, is_empty_stmt}
-use Rattle.go_tree.specs.GoTypes.Declarations.{no_names, all_used, bind_all, bound_names, constant_entity}
-use Rattle.go_tree.specs.GoTypes.Bodiless.{all_bodiless}
-use Rattle.go_tree.specs.GoTypes.Bodies.{Ctx, param_binds, body_binds, body_ctx, is_body}
-use Rattle.go_tree.specs.GoTypes.Jumps.{labels_in}
-use Rattle.go_tree.specs.GoTypes.Typing.{parts, all_parts, stmt, stmts, is_call, used_stmts}
-use Rattle.go_tree.specs.GoTypes.Programs.{Header, constants, a_func, Headed, constant_headers, at_member, block_names, file_env}
-use Rattle.go_tree.specs.GoTypes.Collect.{package_constants}
-use Rattle.go_tree.specs.GoTypes.WellTyped.{receiver_of}
-use Rattle.go_tree.proofs.GoTypes.Agreeing.{from_given, from_both, from_only}
+use Rattle.go_rules.specs.GoTypes.Answers.{given, both, meets, only_if, otherwise, distinct_by, is_empty, is_among}
+use Rattle.go_rules.specs.GoTypes.Types.{GoType, FuncType}
+use Rattle.go_rules.specs.GoTypes.Entities.{Entity, variable, constant, stand_in, type_name, function, package_name, builtin, nil_name, iota_name, refused, Env, Binds, meaning, package_of, extend, in_block, universe, block_of}
+use Rattle.go_rules.specs.GoTypes.TypeNames.{func_type, written_type}
+use Rattle.go_rules.specs.GoTypes.Operands.{Operand, all_typed}
+use Rattle.go_rules.specs.GoTypes.Primary.{call_of, stands_alone}
+use Rattle.go_rules.specs.GoTypes.Statements.{package_before, is_panic, is_empty_stmt}
+use Rattle.go_rules.specs.GoTypes.Declarations.{no_names, all_used, bind_all, bound_names, constant_entity}
+use Rattle.go_rules.specs.GoTypes.Bodiless.{all_bodiless}
+use Rattle.go_rules.specs.GoTypes.Bodies.{Ctx, param_binds, body_binds, body_ctx, is_body}
+use Rattle.go_rules.specs.GoTypes.Jumps.{labels_in}
+use Rattle.go_rules.specs.GoTypes.Typing.{parts, all_parts, stmt, stmts, is_call, used_stmts}
+use Rattle.go_rules.specs.GoTypes.Programs.{Header, constants, a_func, Headed, constant_headers, at_member, block_names, file_env}
+use Rattle.go_rules.specs.GoTypes.Collect.{package_constants}
+use Rattle.go_rules.specs.GoTypes.WellTyped.{receiver_of}
+use Rattle.go_rules.proofs.GoTypes.Agreeing.{from_given, from_both, from_only}
 use Rattle.typed_in_place.specs.ProgramReplaced.{All, all_and}
 use Rattle.constant_steps.proofs.StepLaws.PartsTyped.{TypedThere, DeclIsTyped}
 use Rattle.run_rules.specs.Surroundings.{Use, other, called, alone, a_slot, Place, Seen, seen, seen_stmt, alike, head_use, later_uses, arg_uses, value_use, inner_slot, in_slot, callee_place, comma_slot, after_stmt, at_stmt, in_constant}

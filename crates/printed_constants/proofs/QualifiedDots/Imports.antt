@@ -1,13 +1,13 @@
 -- A name that means a package at the top of a file is that of an import.
 use Rattle.std.proofs.Common.{◌≡◌, ◌∙◌, refl, sym, ap, ℕ, suc, Bool, true, false, if◌then◌else◌, List, [], ◌∷◌, ◌++◌, map, Option, Some, None, bytes_eq}
 use Rattle.go_tree.specs.File.{ImportSpec}
-use Rattle.go_tree.specs.ScopeNames.Means as names
-use Rattle.go_tree.specs.ScopeNames.Means.{Environment, means, or_else, numbered, is_blank}
+use Rattle.go_rules.specs.ScopeNames.Means as names
+use Rattle.go_rules.specs.ScopeNames.Means.{Environment, means, or_else, numbered, is_blank}
 use Rattle.pkg_graph.specs.Package.{Package, import_specs}
 use Rattle.pkg_graph.specs.Members.{Target, imported, predeclared, import_name, package_block}
-use Rattle.go_tree.specs.GoTypes.Entities.{Entity, variable, constant, stand_in, type_name, function, package_name, builtin, nil_name, iota_name, refused, universe, block_of}
-use Rattle.go_tree.specs.GoTypes.Programs as program
-use Rattle.go_tree.specs.GoTypes.Programs.{import_entity, import_sound, file_block}
+use Rattle.go_rules.specs.GoTypes.Entities.{Entity, variable, constant, stand_in, type_name, function, package_name, builtin, nil_name, iota_name, refused, universe, block_of}
+use Rattle.go_rules.specs.GoTypes.Programs as program
+use Rattle.go_rules.specs.GoTypes.Programs.{import_entity, import_sound, file_block}
 use Rattle.run_rules.specs.Programs.{linked_file, linked_import, world, imports_mean, package_number}
 use Rattle.run_rules.specs.Sites.{Where, outer}
 use Rattle.constant_steps.proofs.WrittenLiteral.NamesMeant.{means_join}

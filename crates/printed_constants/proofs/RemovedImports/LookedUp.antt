@@ -5,11 +5,11 @@ use Rattle.std.specs.Option.{option_map}
 use Rattle.go_tree.specs.declared.exprs.Rest.TheVariants.{Plain}
 use Rattle.go_tree.specs.Tree.{Expr, ident, selector, call, Exprs, no_exprs, expr_and, eval, Stmts, ValueSpecs}
 use Rattle.go_tree.specs.File.{Func, Decl, func, File}
-use Rattle.go_tree.specs.ScopeNames.FreeNames.{params_names, free_params, free_expr, free_exprs, free_stmts}
+use Rattle.go_rules.specs.ScopeNames.FreeNames.{params_names, free_params, free_expr, free_exprs, free_stmts}
 use Rattle.pkg_graph.specs.Package.{Package}
-use Rattle.go_tree.specs.GoTypes.Agreement.{In, head, tail}
-use Rattle.go_tree.specs.GoTypes.Typing.{parts, all_parts}
-use Rattle.go_tree.specs.GoTypes.WellTyped.{receiver_names}
+use Rattle.go_rules.specs.GoTypes.Agreement.{In, head, tail}
+use Rattle.go_rules.specs.GoTypes.Typing.{parts, all_parts}
+use Rattle.go_rules.specs.GoTypes.WellTyped.{receiver_names}
 use Rattle.order_runs.specs.CycleRuns.ImportCycles.LookedUp.{specs_looked_up, receiver_looked_up, names_around, decl_looked_up}
 use Rattle.order_runs.proofs.CycleRuns.ImportCycles.FreeIdentifiers.{in-either}
 use Rattle.order_runs.proofs.RunSteps.SeatedUses.{Among, first, later}

@@ -7,17 +7,17 @@ use Rattle.std.proofs.lemmas.Option.{same_Some}
 use Rattle.go_tree.specs.declared.spans.Span.{Span}
 use Rattle.go_tree.specs.Tree.{Expr, ident, selector}
 use Rattle.go_tree.specs.File.{ImportSpec, ImportDecl, Decl, File}
-use Rattle.go_tree.specs.declared.scope_names.names.FileNames.{FileNames}
-use Rattle.go_tree.specs.declared.scope_names.names.ImportName.{ImportName}
-use Rattle.go_tree.specs.ScopeNames.Means.{means, numbered}
+use Rattle.go_rules.specs.declared.scope_names.names.FileNames.{FileNames}
+use Rattle.go_rules.specs.declared.scope_names.names.ImportName.{ImportName}
+use Rattle.go_rules.specs.ScopeNames.Means.{means, numbered}
 use Rattle.run_rules.specs.ImportRules.Laid.{Laid}
 use Rattle.run_rules.specs.ImportRules.Removed.{same_span}
 use Rattle.run_rules.specs.ImportRules.SettledNames.{import_at}
 use Rattle.run_rules.specs.ImportRules.Unused.{AreImportsOf, spec_spans}
 use Rattle.pkg_graph.specs.Package.{SourceTree, Package, specs_in, import_specs}
 use Rattle.pkg_graph.specs.Members.{imported, name_or, import_name}
-use Rattle.go_tree.specs.GoTypes.Agreement.{In}
-use Rattle.go_tree.specs.GoTypes.Answers.{given}
+use Rattle.go_rules.specs.GoTypes.Agreement.{In}
+use Rattle.go_rules.specs.GoTypes.Answers.{given}
 use Rattle.splice_laws.specs.RunLaws.Reading.{ProgramReads}
 use Rattle.splice_laws.proofs.RunLaws.FilesStand.{file_laid}
 use Rattle.splice_laws.proofs.RunLaws.FoundSpans.{Placed}

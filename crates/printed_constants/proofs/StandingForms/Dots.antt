@@ -4,13 +4,13 @@ use Rattle.std.proofs.Common.{◌≡◌, ◌∙◌, refl, sym, ap, ℕ, suc, Boo
 use Rattle.go_tree.specs.declared.exprs.Rest.TheVariants.{Plain}
 use Rattle.go_tree.specs.Tree.{NameAt, Param, Expr, ident, int_lit, selector, call, Exprs, no_exprs, expr_and, eval, Stmts, ValueSpecs}
 use Rattle.go_tree.specs.File.{Receiver, Func, Decl, File}
-use Rattle.go_tree.specs.ScopeNames.FreeNames.{names_of}
-use Rattle.go_tree.specs.ScopeNames.Identifiers.{expr_identifiers, exprs_identifiers, stmts_identifiers, specs_identifiers, receiver_identifiers, sig_identifiers, decl_identifiers}
-use Rattle.go_tree.specs.ScopeNames.Means.{means}
+use Rattle.go_rules.specs.ScopeNames.FreeNames.{names_of}
+use Rattle.go_rules.specs.ScopeNames.Identifiers.{expr_identifiers, exprs_identifiers, stmts_identifiers, specs_identifiers, receiver_identifiers, sig_identifiers, decl_identifiers}
+use Rattle.go_rules.specs.ScopeNames.Means.{means}
 use Rattle.pkg_graph.specs.Package.{Package}
-use Rattle.go_tree.specs.GoTypes.Agreement.{In, head}
-use Rattle.go_tree.specs.GoTypes.Answers.{given, otherwise, is_among}
-use Rattle.go_tree.specs.GoTypes.Typing.{parts, all_parts}
+use Rattle.go_rules.specs.GoTypes.Agreement.{In, head}
+use Rattle.go_rules.specs.GoTypes.Answers.{given, otherwise, is_among}
+use Rattle.go_rules.specs.GoTypes.Typing.{parts, all_parts}
 use Rattle.order_runs.proofs.CycleRuns.ImportCycles.FreeIdentifiers.{in-left, in-right}
 use Rattle.printed_constants.proofs.TypedParts.StandingUses.ImportUses.Stays.{change}
 use Rattle.printed_constants.specs.TypedParts.StandingUses.ImportUses.Parts.{DottedImports, at_the_end, before_a_dot, past_another}

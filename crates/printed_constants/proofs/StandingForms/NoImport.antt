@@ -4,7 +4,7 @@ use Rattle.std.proofs.Common.{◌≡◌, ◌∙◌, refl, sym, ap, subst, ℕ, B
 use Rattle.std.specs.Prelude.{nat_eq}
 use Rattle.go_tree.specs.Tree.{NameAt, Expr, ident, selector}
 use Rattle.pkg_graph.specs.Members.{Target, local, imported, member, predeclared}
-use Rattle.go_tree.specs.GoTypes.Answers.{given, otherwise, one_of}
+use Rattle.go_rules.specs.GoTypes.Answers.{given, otherwise, one_of}
 use Rattle.run_rules.specs.Rewriting.{new_expr}
 use Rattle.run_rules.specs.Surroundings.{other, Place, Seen, inner_slot, in_slot}
 use Rattle.run_rules.specs.Places.{expr_seen}

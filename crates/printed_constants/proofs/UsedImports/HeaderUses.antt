@@ -6,15 +6,15 @@ use Rattle.std.proofs.lemmas.Slice.Eq.{bytes_eq-Decides}
 use Rattle.std.proofs.lemmas.Bool.Decides.{nat_tests}
 use Rattle.go_tree.specs.Tree.{TypeExpr, Expr, Exprs, no_exprs, expr_and, Stmts, ValueSpecs}
 use Rattle.go_tree.specs.File.{Func, Decl, func}
-use Rattle.go_tree.specs.ScopeNames.Means.{Environment}
-use Rattle.go_tree.specs.ScopeNames.FreeNames.{params_names, free_params, free_expr, free_exprs, free_stmts}
-use Rattle.go_tree.specs.GoTypes.Agreement.{In, head, tail}
-use Rattle.go_tree.specs.GoTypes.Answers.{is_among, without}
-use Rattle.go_tree.specs.GoTypes.Entities.{Entity, World, Env, extend}
-use Rattle.go_tree.specs.GoTypes.Programs.{Header, constants, a_func, Headed, headers, all_headers, constant_headers, at_member, header_names, header_sound, headed_file}
-use Rattle.go_tree.specs.GoTypes.Typing.{used, used_all, used_stmts}
-use Rattle.go_tree.specs.GoTypes.WellTyped.{receiver_names, body_env, function_uses, is_used_in}
-use Rattle.go_tree.specs.GoTypes.Programs as programs
+use Rattle.go_rules.specs.ScopeNames.Means.{Environment}
+use Rattle.go_rules.specs.ScopeNames.FreeNames.{params_names, free_params, free_expr, free_exprs, free_stmts}
+use Rattle.go_rules.specs.GoTypes.Agreement.{In, head, tail}
+use Rattle.go_rules.specs.GoTypes.Answers.{is_among, without}
+use Rattle.go_rules.specs.GoTypes.Entities.{Entity, World, Env, extend}
+use Rattle.go_rules.specs.GoTypes.Programs.{Header, constants, a_func, Headed, headers, all_headers, constant_headers, at_member, header_names, header_sound, headed_file}
+use Rattle.go_rules.specs.GoTypes.Typing.{used, used_all, used_stmts}
+use Rattle.go_rules.specs.GoTypes.WellTyped.{receiver_names, body_env, function_uses, is_used_in}
+use Rattle.go_rules.specs.GoTypes.Programs as programs
 use Rattle.order_runs.specs.CycleRuns.ImportCycles.LookedUp.{specs_looked_up, receiver_looked_up, decl_looked_up}
 use Rattle.run_rules.specs.Printed.{IsFlat, a_name, a_number, a_selection, AllFlat, no_operands, and_operand, IsPrint, an_operand, a_call, PrintStmts, no_prints, and_print, FlatConstants, no_constants, and_constant, IsPrinted, some_constants, a_function}
 use Rattle.printed_constants.specs.UsedImports.Uses.{decls_looked_up}

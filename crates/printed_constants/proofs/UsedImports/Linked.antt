@@ -7,15 +7,15 @@ use Rattle.std.proofs.lemmas.Bool.Decides.{nat_tests}
 use Rattle.std.proofs.lemmas.List.Folds.{list_any-append}
 use Rattle.std.proofs.lemmas.Option.{same_Some}
 use Rattle.go_tree.specs.File.{ImportSpec, Decl}
-use Rattle.go_tree.specs.ScopeNames.Means.{is_blank}
+use Rattle.go_rules.specs.ScopeNames.Means.{is_blank}
 use Rattle.pkg_graph.specs.Package.{SourceTree, Package, import_specs}
 use Rattle.pkg_graph.specs.Members.{import_name}
-use Rattle.go_tree.specs.GoTypes.Agreement.{In}
-use Rattle.go_tree.specs.GoTypes.Answers.{is_among}
-use Rattle.go_tree.specs.GoTypes.Collect.{collected}
-use Rattle.go_tree.specs.GoTypes.Entities.{World}
-use Rattle.go_tree.specs.GoTypes.Programs.{Import, SourceFile, SourcePackage, Program, Headed, all_headers, names_in, file_block, block_names, headed, headed_file, headed_files, headed_package}
-use Rattle.go_tree.specs.GoTypes.WellTyped.{header_uses, is_used_in, first_import, well_typed}
+use Rattle.go_rules.specs.GoTypes.Agreement.{In}
+use Rattle.go_rules.specs.GoTypes.Answers.{is_among}
+use Rattle.go_rules.specs.GoTypes.Collect.{collected}
+use Rattle.go_rules.specs.GoTypes.Entities.{World}
+use Rattle.go_rules.specs.GoTypes.Programs.{Import, SourceFile, SourcePackage, Program, Headed, all_headers, names_in, file_block, block_names, headed, headed_file, headed_files, headed_package}
+use Rattle.go_rules.specs.GoTypes.WellTyped.{header_uses, is_used_in, first_import, well_typed}
 use Rattle.typed_in_place.specs.ImportRule.{imports_sound, imports_used, files_import, package_imports, declarations_ok, imports_ok}
 use Rattle.typed_in_place.proofs.ImportRule.{well_typed_apart, file_imports}
 use Rattle.typed_in_place.proofs.Rising.{and_first, and_second, both_true}

@@ -5,10 +5,10 @@ use Rattle.std.specs.List.{list_any}
 use Rattle.go_tree.specs.declared.exprs.Rest.TheVariants.{Plain}
 use Rattle.go_tree.specs.Tree.{Expr, ident, int_lit, selector, call, Exprs, no_exprs, expr_and, Stmt, eval, Stmts, ValueSpecs}
 use Rattle.go_tree.specs.File.{Decl, File}
-use Rattle.go_tree.specs.ScopeNames.FreeNames.{free_params, free_expr, free_exprs, free_stmts}
+use Rattle.go_rules.specs.ScopeNames.FreeNames.{free_params, free_expr, free_exprs, free_stmts}
 use Rattle.pkg_graph.specs.Package.{Package}
-use Rattle.go_tree.specs.GoTypes.Agreement.{In}
-use Rattle.go_tree.specs.GoTypes.Typing.{parts, all_parts}
+use Rattle.go_rules.specs.GoTypes.Agreement.{In}
+use Rattle.go_rules.specs.GoTypes.Typing.{parts, all_parts}
 use Rattle.order_runs.specs.CycleRuns.ImportCycles.LookedUp.{specs_looked_up, receiver_looked_up, names_around, decl_looked_up}
 use Rattle.order_runs.proofs.CycleRuns.ImportCycles.FreeIdentifiers.{in-left, in-right, in-either}
 use Rattle.order_runs.proofs.RunSteps.SeatedUses.{Among, first, later}

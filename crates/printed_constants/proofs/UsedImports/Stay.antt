@@ -5,12 +5,12 @@ use Rattle.std.proofs.lemmas.Bool.Decides.{nat_tests}
 use Rattle.go_tree.specs.declared.spans.Span.{Span}
 use Rattle.go_tree.specs.Tree.{Expr, ident, selector}
 use Rattle.go_tree.specs.File.{ImportSpec, File}
-use Rattle.go_tree.specs.ScopeNames.Identifiers.{expr_identifiers}
-use Rattle.go_tree.specs.ScopeNames.Means.{is_blank}
-use Rattle.go_tree.specs.ScopeNames.Scopes.{expr_span}
+use Rattle.go_rules.specs.ScopeNames.Identifiers.{expr_identifiers}
+use Rattle.go_rules.specs.ScopeNames.Means.{is_blank}
+use Rattle.go_rules.specs.ScopeNames.Scopes.{expr_span}
 use Rattle.pkg_graph.specs.Package.{SourceTree, Package, import_specs}
 use Rattle.pkg_graph.specs.Members.{name_or, import_name}
-use Rattle.go_tree.specs.GoTypes.Agreement.{In, head}
+use Rattle.go_rules.specs.GoTypes.Agreement.{In, head}
 use Rattle.go_translation.specs.Packages as translated
 use Rattle.go_translation.specs.Packages.{are_well_typed}
 use Rattle.constant_steps.specs.FormImports.OwnNames.{AllOwn}

@@ -9,16 +9,16 @@ use Rattle.std.proofs.lemmas.Slice.Eq.{bytes_eq-Decides}
 use Rattle.go_tree.specs.declared.spans.Span.{Span}
 use Rattle.go_tree.specs.Tree.{Expr, ident}
 use Rattle.go_tree.specs.File.{ImportSpec, ImportDecl, Decl, File}
-use Rattle.go_tree.specs.ScopeNames.FreeNames.{free_expr}
-use Rattle.go_tree.specs.ScopeNames.Means.{Environment, means, is_blank, numbered}
+use Rattle.go_rules.specs.ScopeNames.FreeNames.{free_expr}
+use Rattle.go_rules.specs.ScopeNames.Means.{Environment, means, is_blank, numbered}
 use Rattle.run_rules.specs.ImportRules.Needs.{serving, avoided}
 use Rattle.run_rules.specs.ImportRules.Removed.{same_span}
 use Rattle.splice_laws.specs.ImportSplices.SettledFile.{settled_decls}
 use Rattle.pkg_graph.specs.Package.{Package, specs_in, import_specs}
 use Rattle.pkg_graph.specs.Members.{Target, imported, import_name}
-use Rattle.go_tree.specs.GoTypes.Agreement.{In, head}
-use Rattle.go_tree.specs.GoTypes.Answers.{given, is_among}
-use Rattle.go_tree.specs.GoTypes.Programs.{is_init, import_sound, block_names}
+use Rattle.go_rules.specs.GoTypes.Agreement.{In, head}
+use Rattle.go_rules.specs.GoTypes.Answers.{given, is_among}
+use Rattle.go_rules.specs.GoTypes.Programs.{is_init, import_sound, block_names}
 use Rattle.typed_in_place.specs.ImportRule.{imports_sound}
 use Rattle.typed_in_place.proofs.Rising.{and_first, and_second}
 use Rattle.splice_laws.specs.RunLaws.Reading.{ProgramReads}

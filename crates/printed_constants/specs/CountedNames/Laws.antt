@@ -21,7 +21,7 @@ use Rattle.run_rules.specs.Texts.{FileText}
 use Rattle.printed_constants.specs.TypedParts.MarkedRuns.NamedMarks.Named.{AllNamed}
 use Rattle.printed_constants.specs.TypedParts.MarkedRuns.PutForms.Uses.{IsFirstUse, UsesNamedConstant}
 use Rattle.run_rules.specs.Printed.{IsPrinted, ArePrinted}
-use Rattle.go_tree.specs.ScopeNames.Identifiers.{identifiers}
+use Rattle.go_rules.specs.ScopeNames.Identifiers.{identifiers}
 
 -- A file of constants and of functions that print them has no more identifiers than tokens.
 abbrev pub PrintedNamesAreFew : Type 0

@@ -6,7 +6,7 @@ use Rattle.order_runs.specs.CycleRuns.OrderCycles.NewNames.{AvoidsFew}
 use Rattle.run_rules.specs.Naming.{names_by}
 use Rattle.run_rules.specs.Run.{Standing, Logged, Next}
 use Rattle.run_rules.specs.Sites.{MarkRef}
-use Rattle.go_tree.specs.ScopeNames.Means.{is_blank}
+use Rattle.go_rules.specs.ScopeNames.Means.{is_blank}
 use Rattle.put_names.specs.WrittenNames.NamedPackages.{AreOfPackages}
 
 -- No package has the name `_` in a step's form, where its names are those of packages of the program, which have names

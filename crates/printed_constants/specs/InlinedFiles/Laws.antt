@@ -3,7 +3,7 @@
 -- Directories).
 use Rattle.std.specs.Prelude.{◌≡◌, ℕ, true, List, map}
 use Rattle.go_tree.specs.declared.spans.Span.{Span}
-use Rattle.go_tree.specs.GoTypes.Agreement.{In}
+use Rattle.go_rules.specs.GoTypes.Agreement.{In}
 use Rattle.pkg_graph.specs.ModuleFiles.Internal.{may_import}
 use Rattle.pkg_graph.specs.Package.{Package}
 use Rattle.pkg_graph.specs.Reads.{Source}

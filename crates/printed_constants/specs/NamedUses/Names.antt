@@ -3,7 +3,7 @@
 use Rattle.std.specs.Prelude.{◌≡◌, true, ℕ, List, Some}
 use Rattle.go_tree.specs.Tree.{NameAt, Expr, ident, selector}
 use Rattle.pkg_graph.specs.Package.{Package}
-use Rattle.go_tree.specs.GoTypes.Entities.{is_exported}
+use Rattle.go_rules.specs.GoTypes.Entities.{is_exported}
 use Rattle.run_rules.specs.Programs.{top_place}
 use Rattle.run_rules.specs.Sites.{MarkRef, Where, a_constant, is_among_marks, where_is, inlinable, qualifier, member_of}
 use Rattle.run_rules.specs.Steps.{At}

@@ -3,8 +3,8 @@
 use Rattle.std.specs.Prelude.{◌≡◌, ℕ, Bool, true, false, List}
 use Rattle.go_tree.specs.Tree.{Expr, ident, selector}
 use Rattle.pkg_graph.specs.Package.{Package}
-use Rattle.go_tree.specs.GoTypes.Types.{is_untyped}
-use Rattle.go_tree.specs.GoTypes.Entities.{Entity, constant, function, refused}
+use Rattle.go_rules.specs.GoTypes.Types.{is_untyped}
+use Rattle.go_rules.specs.GoTypes.Entities.{Entity, constant, function, refused}
 use Rattle.run_rules.specs.Sites.{Where}
 use Rattle.run_rules.specs.Steps.{named_by_import}
 use Rattle.run_rules.specs.Surroundings.{Seen, seen}

@@ -2,13 +2,13 @@
 -- statements).
 use Rattle.std.specs.Prelude.{◌≡◌, true, false, List, [], ◌∷◌, Some, is_some}
 use Rattle.go_tree.specs.Tree.{TypeExpr, composite, func_lit, Elems, for_}
-use Rattle.go_tree.specs.GoTypes.Types.{GoType}
-use Rattle.go_tree.specs.GoTypes.Defined.{under}
-use Rattle.go_tree.specs.GoTypes.Entities.{Env, defined_in}
-use Rattle.go_tree.specs.GoTypes.TypeNames.{type_meant, func_type}
-use Rattle.go_tree.specs.GoTypes.Literals.{Element}
-use Rattle.go_tree.specs.GoTypes.Statements.{is_define}
-use Rattle.go_tree.specs.GoTypes.Typing.{elements}
+use Rattle.go_rules.specs.GoTypes.Types.{GoType}
+use Rattle.go_rules.specs.GoTypes.Defined.{under}
+use Rattle.go_rules.specs.GoTypes.Entities.{Env, defined_in}
+use Rattle.go_rules.specs.GoTypes.TypeNames.{type_meant, func_type}
+use Rattle.go_rules.specs.GoTypes.Literals.{Element}
+use Rattle.go_rules.specs.GoTypes.Statements.{is_define}
+use Rattle.go_rules.specs.GoTypes.Typing.{elements}
 use Rattle.run_rules.specs.Surroundings.{Seen, seen, seen_type, seen_stmt}
 
 module _ {S : Type 0} where

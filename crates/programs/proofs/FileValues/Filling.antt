@@ -7,8 +7,8 @@ use Rattle.go_tree.specs.declared.spans.Span.{Span}
 use Rattle.go_tree.specs.declared.files.Decl as code
 use Rattle.go_tree.specs.File.{Decl}
 use Rattle.go_tree.specs.FileView.{decl_of}
-use Rattle.go_tree.specs.ScopeNames.Means.{or_else}
-use Rattle.go_tree.specs.GoTypes.Answers.{given}
+use Rattle.go_rules.specs.ScopeNames.Means.{or_else}
+use Rattle.go_rules.specs.GoTypes.Answers.{given}
 use Rattle.member_uses.specs.Uses.{Names}
 use Rattle.repeated_parts.specs.declared.use_search.mark_values.values.DeclaredValue.{DeclaredValue}
 use Rattle.repeated_parts.specs.UseSearch.MarkValues.Values.{decl_values}

@@ -6,7 +6,7 @@ use Rattle.std.proofs.lemmas.Bool.Decides.{nat_tests}
 use Rattle.indexmap.specs.IndexMap.{insert_entry}
 use Rattle.go_tree.specs.declared.spans.Span.{Span}
 use Rattle.go_tree.specs.File.{Decl}
-use Rattle.go_tree.specs.ScopeNames.Means.{or_else}
+use Rattle.go_rules.specs.ScopeNames.Means.{or_else}
 use Rattle.run_rules.specs.ImportRules.Removed.{span_at, same_span}
 use Rattle.member_uses.specs.declared.possible_uses.parts.PartRef.{PartRef}
 use Rattle.member_uses.specs.PossibleUses.Views.{part_of}

@@ -3,7 +3,7 @@ use Rattle.std.proofs.Common.{◌≡◌, ◌∙◌, refl, ap, List, [], ◌∷�
 use Rattle.go_tree.specs.declared.spans.Span.{Span}
 use Rattle.go_tree.specs.Tree.{TypeExpr, named, pointer, slice_type, map_type, struct_type, Expr, ident, int_lit, rune_lit, str_lit, composite, selector, index, slice, call, func_lit, type_operand, unary, binary, star}
 use Rattle.go_tree.specs.File.{Decl}
-use Rattle.go_tree.specs.ScopeNames.Scopes.{expr_span}
+use Rattle.go_rules.specs.ScopeNames.Scopes.{expr_span}
 use Rattle.run_rules.specs.Respanned.{expr_with, type_with, decl_with}
 use Rattle.run_rules.specs.Sites.{Part, an_expr, a_type_part, part_span, type_span}
 use Rattle.run_rules.specs.Steps.{At}

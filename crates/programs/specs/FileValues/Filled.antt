@@ -5,15 +5,15 @@ use Rattle.go_tree.specs.declared.spans.Span.{Span}
 use Rattle.go_tree.specs.Tree.{const_decl}
 use Rattle.go_tree.specs.File.{Decl, values}
 use Rattle.go_tree.specs.FileView.{decl_of, file_of}
-use Rattle.go_tree.specs.ScopeNames.Means.{or_else}
-use Rattle.go_tree.specs.declared.scope_names.names.FileNames.{FileNames}
+use Rattle.go_rules.specs.ScopeNames.Means.{or_else}
+use Rattle.go_rules.specs.declared.scope_names.names.FileNames.{FileNames}
 use Rattle.scope_tables.specs.Table.{IsTableOf}
 use Rattle.pkg_graph.specs.Package.{import_specs}
 use Rattle.pkg_graph.specs.Members.{names_of_file}
 use Rattle.pkg_graph.specs.Views.{package_view}
 use Rattle.pkg_graph.specs.declared.packages.Package.{Package}
 use Rattle.pkg_graph.specs.declared.packages.SourceTree.{SourceTree}
-use Rattle.go_tree.specs.GoTypes.Answers.{given}
+use Rattle.go_rules.specs.GoTypes.Answers.{given}
 use Rattle.member_uses.specs.Uses.{Names}
 use Rattle.file_tables.specs.Numbers.{number_in}
 use Rattle.repeated_parts.specs.declared.use_search.mark_values.values.DeclaredValue.{DeclaredValue}

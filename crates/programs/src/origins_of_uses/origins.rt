@@ -4,7 +4,7 @@ ghost use Rattle.std.specs.Prelude.{◌≡◌, IfOk, OnOk, length, map};
 ghost use Rattle.go_tree.specs.declared.spans.Span as spans;
 ghost use Rattle.go_tree.specs.View.{expr_of};
 ghost use Rattle.go_tree.specs.FileView.{decl_of};
-ghost use Rattle.go_tree.specs.ScopeNames.Means.{or_else};
+ghost use Rattle.go_rules.specs.ScopeNames.Means.{or_else};
 ghost use Rattle.member_uses.specs.PossibleUses.Parts.{parts_of};
 ghost use Rattle.member_uses.specs.PossibleUses.Views.{part_of};
 ghost use Rattle.run_rules.specs.Sites.{an_expr};

@@ -2,7 +2,7 @@
 
 ghost use Rattle.std.specs.Prelude.{◌≡◌, [], Some, None, is_some, OnOk, if◌then◌else◌};
 ghost use Rattle.go_tree.specs.declared.spans.Span as spans;
-ghost use Rattle.go_tree.specs.ScopeNames.Means.{or_else};
+ghost use Rattle.go_rules.specs.ScopeNames.Means.{or_else};
 ghost use Rattle.run_rules.specs.ImportRules.Removed.{same_span};
 ghost use Rattle.programs.specs.OriginsOfUses.Origins.{at_span};
 

@@ -3,7 +3,7 @@
 ghost use Rattle.std.specs.Prelude.{◌≡◌, IfOk};
 ghost use Rattle.go_tree.specs.View.{expr_of, type_of};
 ghost use Rattle.go_tree.specs.FileView.{decl_of};
-ghost use Rattle.go_tree.specs.ScopeNames.Scopes.{expr_span};
+ghost use Rattle.go_rules.specs.ScopeNames.Scopes.{expr_span};
 ghost use Rattle.run_rules.specs.Sites.{part_span as spec_part_span, type_span};
 ghost use Rattle.member_uses.specs.PossibleUses.Views.{part_of};
 ghost use Rattle.programs.specs.PartOrigins.Spans.{part_spans};

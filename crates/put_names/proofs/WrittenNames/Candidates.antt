@@ -11,7 +11,7 @@ use Rattle.go_tree.specs.GoWords.Tokens.Pieces.{keyword_spellings, is_among, is_
 use Rattle.go_scan.proofs.Derivatives.{and_parts, and_true}
 use Rattle.go_scan.proofs.LetterLemmas.{digit_ascii}
 use Rattle.go_layout.specs.LayoutLaws.Formed.{IsName}
-use Rattle.go_tree.specs.ScopeNames.Fresh.{candidate}
+use Rattle.go_rules.specs.ScopeNames.Fresh.{candidate}
 
 -- ---- digits
 

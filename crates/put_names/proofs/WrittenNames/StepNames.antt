@@ -11,11 +11,11 @@ use Rattle.go_tree.specs.File.{ImportSpec}
 use Rattle.go_tree.specs.GoWords.Tokens.Characters.{each}
 use Rattle.go_tree.specs.GoWords.Tokens.Pieces.{keyword_spellings, is_among}
 use Rattle.go_layout.specs.LayoutLaws.Formed.{FormedName, IsName}
-use Rattle.go_tree.specs.declared.scope_names.names.Entity.{Entity}
-use Rattle.go_tree.specs.declared.scope_names.names.ImportName.{ImportName}
-use Rattle.go_tree.specs.ScopeNames.Fresh.{is_new, IsFresh}
-use Rattle.go_tree.specs.ScopeNames.Identifiers.{identifiers}
-use Rattle.go_tree.specs.ScopeNames.Means.{Environment, predeclared}
+use Rattle.go_rules.specs.declared.scope_names.names.Entity.{Entity}
+use Rattle.go_rules.specs.declared.scope_names.names.ImportName.{ImportName}
+use Rattle.go_rules.specs.ScopeNames.Fresh.{is_new, IsFresh}
+use Rattle.go_rules.specs.ScopeNames.Identifiers.{identifiers}
+use Rattle.go_rules.specs.ScopeNames.Means.{Environment, predeclared}
 use Rattle.pkg_graph.specs.Package.{Package, import_specs}
 use Rattle.pkg_graph.specs.Members.{package_name, name_or, import_name}
 use Rattle.run_rules.specs.declared.import_rules.new_import.NewImport.{NewImport}

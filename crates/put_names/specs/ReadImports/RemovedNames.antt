@@ -1,9 +1,9 @@
 -- What is asked of the imports that a step removes (Go specification, Import declarations; Declarations and scope).
 use Rattle.std.specs.Prelude.{◌≡◌, ℕ, List, None, Some, filter, slice_get}
 use Rattle.go_tree.specs.File.{ImportSpec, Decl}
-use Rattle.go_tree.specs.ScopeNames.Identifiers.{decl_identifiers}
+use Rattle.go_rules.specs.ScopeNames.Identifiers.{decl_identifiers}
 use Rattle.pkg_graph.specs.Package.{import_specs}
-use Rattle.go_tree.specs.GoTypes.Agreement.{In}
+use Rattle.go_rules.specs.GoTypes.Agreement.{In}
 use Rattle.run_rules.specs.ImportRules.Removed.{goes}
 use Rattle.run_rules.specs.Sites.{MarkRef}
 use Rattle.run_rules.specs.Respanned.{import_spec_with}

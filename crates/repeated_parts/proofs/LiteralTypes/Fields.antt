@@ -3,15 +3,15 @@ use Rattle.std.proofs.Common.{◌≡◌, ◌∙◌, refl, sym, ap, subst, arith,
 use Rattle.std.specs.Prelude.{is_some}
 use Rattle.std.proofs.lemmas.Option.{none-some, same_Some}
 use Rattle.go_tree.specs.Tree.{TypeExpr, Expr, ident, int_lit, rune_lit, str_lit, composite, selector, index, slice, call, func_lit, type_operand, unary, binary, star, Elems, no_elems, elem, Value, plain, braced, ValueOption, no_value, some_value}
-use Rattle.go_tree.specs.GoTypes.Answers.{given, only_if}
-use Rattle.go_tree.specs.GoTypes.Types.{GoType, basic, named_type, pointer_to, slice_of, map_of, struct_of, tuple_of, untyped, untyped_nil}
-use Rattle.go_tree.specs.GoTypes.Defined.{Defined, under, has_keys}
-use Rattle.go_tree.specs.GoTypes.Entities.{Env, defined_in}
-use Rattle.go_tree.specs.GoTypes.TypeNames.{resolved, type_meant}
-use Rattle.go_tree.specs.GoTypes.Operands.{Operand}
-use Rattle.go_tree.specs.GoTypes.Literals.{Element, is_struct, field_key, built_inside, key_type, inner_type, literal_type, of_field, keyed}
-use Rattle.go_tree.specs.GoTypes.Typing.{elements, element, with_key}
-use Rattle.go_tree.proofs.GoTypes.Agreeing.{from_given, from_both, from_only}
+use Rattle.go_rules.specs.GoTypes.Answers.{given, only_if}
+use Rattle.go_rules.specs.GoTypes.Types.{GoType, basic, named_type, pointer_to, slice_of, map_of, struct_of, tuple_of, untyped, untyped_nil}
+use Rattle.go_rules.specs.GoTypes.Defined.{Defined, under, has_keys}
+use Rattle.go_rules.specs.GoTypes.Entities.{Env, defined_in}
+use Rattle.go_rules.specs.GoTypes.TypeNames.{resolved, type_meant}
+use Rattle.go_rules.specs.GoTypes.Operands.{Operand}
+use Rattle.go_rules.specs.GoTypes.Literals.{Element, is_struct, field_key, built_inside, key_type, inner_type, literal_type, of_field, keyed}
+use Rattle.go_rules.specs.GoTypes.Typing.{elements, element, with_key}
+use Rattle.go_rules.proofs.GoTypes.Agreeing.{from_given, from_both, from_only}
 use Rattle.run_rules.specs.Surroundings.{Use, into, into_or, into_type, elem_use, key_use}
 use Rattle.repeated_parts.specs.LiteralTypes.Tables.{TypeNumbers}
 use Rattle.repeated_parts.specs.LiteralTypes.Literals.{Known, before_braces, in_elements, in_keys}

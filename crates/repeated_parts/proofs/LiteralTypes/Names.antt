@@ -4,7 +4,7 @@ use Rattle.std.specs.Map.{lookup}
 use Rattle.std.proofs.lemmas.Slice.Eq.{bytes_eq-Decides}
 use Rattle.std.proofs.lemmas.Bool.{true≢false}
 use Rattle.indexmap.specs.IndexMap.{insert_entry}
-use Rattle.go_tree.specs.ScopeNames.Means.{Environment, means}
+use Rattle.go_rules.specs.ScopeNames.Means.{Environment, means}
 
 same_name : (a b : List ℕ) → bytes_eq a b ≡ true → a ≡ b
 same_name a b e = (bytes_eq-Decides a b).0 e

@@ -4,13 +4,13 @@ use Rattle.std.specs.Prelude.{slice_get}
 use Rattle.std.specs.Option.{option_map}
 use Rattle.std.proofs.lemmas.Option.{none-some, same_Some}
 use Rattle.go_tree.specs.Tree.{TypeExpr, named, pointer, slice_type, map_type, struct_type}
-use Rattle.go_tree.specs.GoTypes.Answers.{given, both, otherwise}
-use Rattle.go_tree.specs.GoTypes.Types.{GoType, GoFields, pointer_to, slice_of, map_of, struct_of, base_of}
-use Rattle.go_tree.specs.GoTypes.Defined.{Defined, under}
-use Rattle.go_tree.specs.GoTypes.Entities.{Env, defined_in}
-use Rattle.go_tree.specs.GoTypes.TypeNames.{resolved, resolved_fields}
-use Rattle.go_tree.specs.GoTypes.Literals.{is_struct, key_type, inner_type, literal_type}
-use Rattle.go_tree.proofs.GoTypes.Agreeing.{from_given, from_both}
+use Rattle.go_rules.specs.GoTypes.Answers.{given, both, otherwise}
+use Rattle.go_rules.specs.GoTypes.Types.{GoType, GoFields, pointer_to, slice_of, map_of, struct_of, base_of}
+use Rattle.go_rules.specs.GoTypes.Defined.{Defined, under}
+use Rattle.go_rules.specs.GoTypes.Entities.{Env, defined_in}
+use Rattle.go_rules.specs.GoTypes.TypeNames.{resolved, resolved_fields}
+use Rattle.go_rules.specs.GoTypes.Literals.{is_struct, key_type, inner_type, literal_type}
+use Rattle.go_rules.proofs.GoTypes.Agreeing.{from_given, from_both}
 use Rattle.repeated_parts.specs.declared.literal_types.table.LiteralType.{LiteralType}
 use Rattle.repeated_parts.specs.LiteralTypes.Tables.{TypeNumbers}
 use Rattle.repeated_parts.specs.LiteralTypes.Literals.{Known, unknown, a_written, a_number, base_or, by_number, before_braces, wanted, names_fields, in_elements, in_keys}

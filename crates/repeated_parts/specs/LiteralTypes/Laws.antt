@@ -2,13 +2,13 @@
 -- literals).
 use Rattle.std.specs.Prelude.{◌≡◌, ℕ, List, Some}
 use Rattle.go_tree.specs.Tree.{TypeExpr, Elems}
-use Rattle.go_tree.specs.GoTypes.Answers.{given}
-use Rattle.go_tree.specs.GoTypes.Types.{GoType}
-use Rattle.go_tree.specs.GoTypes.Defined.{under}
-use Rattle.go_tree.specs.GoTypes.Entities.{Env, defined_in}
-use Rattle.go_tree.specs.GoTypes.TypeNames.{type_meant}
-use Rattle.go_tree.specs.GoTypes.Literals.{Element}
-use Rattle.go_tree.specs.GoTypes.Typing.{elements}
+use Rattle.go_rules.specs.GoTypes.Answers.{given}
+use Rattle.go_rules.specs.GoTypes.Types.{GoType}
+use Rattle.go_rules.specs.GoTypes.Defined.{under}
+use Rattle.go_rules.specs.GoTypes.Entities.{Env, defined_in}
+use Rattle.go_rules.specs.GoTypes.TypeNames.{type_meant}
+use Rattle.go_rules.specs.GoTypes.Literals.{Element}
+use Rattle.go_rules.specs.GoTypes.Typing.{elements}
 use Rattle.repeated_parts.specs.LiteralTypes.Tables.{TypeNumbers}
 use Rattle.repeated_parts.specs.LiteralTypes.Literals.{before_braces}
 use Rattle.repeated_parts.specs.LiteralTypes.Told.{ElemsTold}

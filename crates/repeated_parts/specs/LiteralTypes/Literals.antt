@@ -3,7 +3,7 @@
 -- Types; Underlying types).
 use Rattle.std.specs.Prelude.{ℕ, Bool, true, false, Option, Some, None, slice_get}
 use Rattle.go_tree.specs.Tree.{TypeExpr, named, pointer, slice_type, map_type, struct_type}
-use Rattle.go_tree.specs.GoTypes.Answers.{given, meets, otherwise}
+use Rattle.go_rules.specs.GoTypes.Answers.{given, meets, otherwise}
 use Rattle.repeated_parts.specs.declared.literal_types.table.LiteralType.{LiteralType}
 use Rattle.repeated_parts.specs.LiteralTypes.Tables.{TypeNumbers}
 

@@ -3,8 +3,8 @@
 use Rattle.std.specs.Prelude.{ℕ, List, [], Option, slice_index_or}
 use Rattle.go_tree.specs.declared.spans.Span.{Span}
 use Rattle.go_tree.specs.Tree.{NameAt}
-use Rattle.go_tree.specs.GoTypes.Answers.{given}
-use Rattle.go_tree.specs.ScopeNames.Means.{means}
+use Rattle.go_rules.specs.GoTypes.Answers.{given}
+use Rattle.go_rules.specs.ScopeNames.Means.{means}
 use Rattle.member_uses.specs.Uses.{Names, type_package}
 use Rattle.repeated_parts.specs.declared.literal_types.table.LiteralType.{LiteralType}
 use Rattle.repeated_parts.specs.declared.literal_types.table.LiteralTypes.{LiteralTypes}

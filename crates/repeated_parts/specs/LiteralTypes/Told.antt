@@ -3,12 +3,12 @@
 use Rattle.std.specs.Prelude.{◌≡◌, ℕ, suc, List, [], ◌∷◌, Option, Some}
 use Rattle.go_tree.specs.Tree.{Expr, ident, composite, Elems, no_elems, elem, Value, plain, braced, ValueOption}
 use Rattle.go_tree.specs.Tree.{no_value, some_value}
-use Rattle.go_tree.specs.GoTypes.Answers.{given, meets}
-use Rattle.go_tree.specs.GoTypes.Types.{GoType}
-use Rattle.go_tree.specs.GoTypes.Defined.{under}
-use Rattle.go_tree.specs.GoTypes.Entities.{Env, defined_in}
-use Rattle.go_tree.specs.GoTypes.TypeNames.{type_meant}
-use Rattle.go_tree.specs.GoTypes.Literals.{is_struct, literal_type}
+use Rattle.go_rules.specs.GoTypes.Answers.{given, meets}
+use Rattle.go_rules.specs.GoTypes.Types.{GoType}
+use Rattle.go_rules.specs.GoTypes.Defined.{under}
+use Rattle.go_rules.specs.GoTypes.Entities.{Env, defined_in}
+use Rattle.go_rules.specs.GoTypes.TypeNames.{type_meant}
+use Rattle.go_rules.specs.GoTypes.Literals.{is_struct, literal_type}
 use Rattle.run_rules.specs.Surroundings.{Use, Seen, seen, into_type, elem_use, key_use}
 use Rattle.repeated_parts.specs.LiteralTypes.Tables.{TypeNumbers}
 use Rattle.repeated_parts.specs.LiteralTypes.Literals.{Known, before_braces, names_fields, in_elements, in_keys}

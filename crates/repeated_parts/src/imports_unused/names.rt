@@ -3,7 +3,7 @@
 ghost use Rattle.std.specs.Prelude.{◌≡◌};
 ghost use Rattle.scope_tables.specs.Table.{table_of};
 ghost use Rattle.go_tree.specs.View.{expr_of, type_of};
-ghost use Rattle.go_tree.specs.GoTypes.Answers.{given};
+ghost use Rattle.go_rules.specs.GoTypes.Answers.{given};
 ghost use Rattle.run_rules.specs.Sites.{an_expr, a_type_part};
 ghost use Rattle.member_uses.specs.PossibleUses.Views.{part_of};
 ghost use Rattle.member_uses.specs.Uses.{name_alone};
@@ -11,7 +11,7 @@ ghost use Rattle.repeated_parts.specs.ImportsUnused.Uses.{form_import, import_at
 ghost use Rattle.repeated_parts.specs.ImportsUnused.Uses.{named_import};
 
 use constant_forms::ConstantForm;
-use go_tree::scope_names::Entity;
+use go_rules::scope_names::Entity;
 use go_tree::{Expr, Name, TypeExpr};
 use member_uses::possible_uses::PartRef;
 use scope_tables::Scopes;

@@ -15,7 +15,7 @@ ghost use Rattle.repeated_parts.specs.ImportsUnused.Told.{IsTold};
 use crate::imports_unused::names::{expr_import, form_import, is_import};
 use crate::imports_unused::parts::is_used_once;
 use constant_forms::ConstantForm;
-use go_tree::scope_names::FileNames;
+use go_rules::scope_names::FileNames;
 use go_tree::{Expr, NoMemory, Span};
 use member_uses::possible_uses::PartRef;
 use member_uses::steps_settle_imports;

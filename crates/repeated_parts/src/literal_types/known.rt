@@ -2,7 +2,7 @@
 
 ghost use Rattle.std.specs.Prelude.{◌≡◌, Some, slice_get};
 ghost use Rattle.std.specs.Option.{option_map};
-ghost use Rattle.go_tree.specs.GoTypes.Answers.{given, meets};
+ghost use Rattle.go_rules.specs.GoTypes.Answers.{given, meets};
 ghost use Rattle.go_tree.specs.View.{name_at_of, type_of};
 ghost use Rattle.repeated_parts.specs.LiteralTypes.Literals.{a_written, base_or, before_braces, by_number};
 ghost use Rattle.repeated_parts.specs.LiteralTypes.Literals.{in_elements, in_keys, names_fields, wanted};

@@ -2,7 +2,7 @@
 
 ghost use Rattle.std.specs.Prelude.{◌≡◌, ℕ, List, [], Some, OnErr, OnOk, bytes_eq, slice_get, slice_index_or};
 ghost use Rattle.std.specs.Prelude.{if◌then◌else◌};
-ghost use Rattle.go_tree.specs.ScopeNames.Means.{means};
+ghost use Rattle.go_rules.specs.ScopeNames.Means.{means};
 ghost use Rattle.repeated_parts.specs.LiteralTypes.Tables.{number_in};
 
 use go_tree::NoMemory;

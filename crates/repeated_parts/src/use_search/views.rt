@@ -2,7 +2,7 @@
 
 use crate::literal_types::LiteralTypes;
 use crate::use_search::mark_values::ConstantValues;
-use go_tree::scope_names::FileNames;
+use go_rules::scope_names::FileNames;
 use go_tree::{Comment, FileTree};
 use pkg_graph::Package;
 use scope_tables::Scopes;

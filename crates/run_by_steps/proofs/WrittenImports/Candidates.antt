@@ -12,7 +12,7 @@ use Rattle.std.proofs.lemmas.Str.{encodes-append}
 use Rattle.go_tree.specs.GoWords.Tokens.Characters.{is_letter, is_digit, is_word, each}
 use Rattle.go_tree.specs.GoWords.Tokens.Pieces.{keyword_spellings, is_among, is_identifier}
 use Rattle.go_scan.proofs.LetterLemmas.{digit_ascii}
-use Rattle.go_tree.specs.ScopeNames.Fresh.{candidate}
+use Rattle.go_rules.specs.ScopeNames.Fresh.{candidate}
 use Rattle.splice_laws.proofs.Splices.{scalars_on}
 use Rattle.splice_laws.specs.ImportSplices.AddedFile.{IsName}
 use Rattle.splice_laws.proofs.ImportSplices.Quotes.{low_all}

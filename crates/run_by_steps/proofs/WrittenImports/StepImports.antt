@@ -1,7 +1,7 @@
 -- Imports that a step adds have identifiers as their names and paths of octets.
 use Rattle.std.proofs.Common.{◌≡◌, sym, subst, ℕ, zero, suc, true, List, [], ◌∷◌, ◌++◌, Option, Some, None, is_some, slice_get, arith}
 use Rattle.go_tree.specs.GoWords.Tokens.Characters.{each}
-use Rattle.go_tree.specs.ScopeNames.Fresh.{is_new}
+use Rattle.go_rules.specs.ScopeNames.Fresh.{is_new}
 use Rattle.run_rules.specs.ImportRules.Needs.{serving, avoided}
 use Rattle.splice_laws.specs.ImportSplices.AddedFile.{is_byte, IsName, AreWritable}
 use Rattle.pkg_graph.specs.Package.{Package}

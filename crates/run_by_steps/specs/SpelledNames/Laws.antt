@@ -3,7 +3,7 @@
 use Rattle.std.specs.Prelude.{ℕ, List, [], ◌∷◌}
 use Rattle.go_tree.specs.declared.spans.Span.{Span}
 use Rattle.go_tree.specs.File.{File}
-use Rattle.go_tree.specs.ScopeNames.Identifiers.{identifiers}
+use Rattle.go_rules.specs.ScopeNames.Identifiers.{identifiers}
 use Rattle.splice_laws.specs.ImportSplices.AddedFile.{IsName}
 use Rattle.run_rules.specs.Texts.{FileText}
 use Rattle.run_rules.specs.Inlining.{ReadsAs}

@@ -6,8 +6,8 @@ use Rattle.constant_steps.proofs.FormImports.ImportLaws.GraphImports.{map_twice}
 use Rattle.go_tree.specs.declared.spans.Span.{Span}
 use Rattle.go_tree.specs.File.{Decl}
 use Rattle.go_tree.specs.FileView.{decl_of}
-use Rattle.go_tree.specs.GoTypes.Answers.{given}
-use Rattle.go_tree.proofs.GoTypes.Agreeing.{from_given}
+use Rattle.go_rules.specs.GoTypes.Answers.{given}
+use Rattle.go_rules.proofs.GoTypes.Agreeing.{from_given}
 use Rattle.module_marks.specs.Views.{mark_ref_of}
 use Rattle.stepped_programs.specs.declared.package_search.looks.ProgramSources.{ProgramSources}
 use Rattle.pkg_graph.specs.Package as pure

@@ -4,7 +4,7 @@ use Rattle.std.specs.Prelude.{slice_get}
 use Rattle.std.specs.List.{flat_map}
 use Rattle.std.proofs.lemmas.Option.{same_Some}
 use Rattle.go_tree.specs.File.{File}
-use Rattle.go_tree.specs.GoTypes.Answers.{given}
+use Rattle.go_rules.specs.GoTypes.Answers.{given}
 use Rattle.pkg_graph.specs.Package.{SourceTree, Package}
 use Rattle.pkg_graph.specs.Reads.{Source}
 use Rattle.run_rules.specs.Inlining.{Reaches, begins, steps_on}

@@ -4,8 +4,8 @@ use Rattle.std.specs.List.{list_all}
 use Rattle.go_tree.specs.declared.spans.Span.{Span}
 use Rattle.go_tree.specs.Tree.{NameAt}
 use Rattle.go_tree.specs.File.{ImportSpec, ImportDecl, File}
-use Rattle.go_tree.specs.GoTypes.Answers.{unless_missing, is_among}
-use Rattle.go_tree.specs.ScopeNames.Means.{is_blank}
+use Rattle.go_rules.specs.GoTypes.Answers.{unless_missing, is_among}
+use Rattle.go_rules.specs.ScopeNames.Means.{is_blank}
 use Rattle.pkg_graph.specs.Package.{SourceTree, Package, specs_in, import_specs}
 use Rattle.pkg_graph.specs.Members.{package_name, name_or, import_name}
 use Rattle.constant_modules.specs.ApartKeys.Files.{is_predeclared, import_apart, file_apart, keys_are_apart}

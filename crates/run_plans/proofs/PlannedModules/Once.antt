@@ -3,7 +3,7 @@ use Rattle.std.proofs.Common.{◌≡◌, ◌∙◌, refl, sym, ap, subst, ℕ, �
 use Rattle.std.proofs.lemmas.Bool.{true≢false}
 use Rattle.std.proofs.lemmas.Option.{same_Some}
 use Rattle.go_tree.specs.declared.spans.Span.{Span}
-use Rattle.go_tree.specs.GoTypes.WellTyped.{NotTyped, refused_place, well_typed}
+use Rattle.go_rules.specs.GoTypes.WellTyped.{NotTyped, refused_place, well_typed}
 use Rattle.module_refusals.specs.Laws as lower
 use Rattle.module_refusals.specs.Laws.{AreAlike, ModulesHaveNoRefusal}
 use Rattle.module_refusals.specs.Told.{told_at}

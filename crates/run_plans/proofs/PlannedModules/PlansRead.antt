@@ -2,7 +2,7 @@
 use Rattle.std.proofs.Common.{◌≡◌, ◌∙◌, refl, sym, ap, subst, ℕ, ◌+◌, ◌<◌, ◌≤◌, Bool, true, false, ◌&&◌, List, [], ◌∷◌, map, Option, Some, None, is_some, IfSome, All}
 use Rattle.std.proofs.lemmas.List.Elements.{All-head, All-tail}
 use Rattle.go_tree.specs.declared.spans.Span.{Span}
-use Rattle.go_tree.specs.GoTypes.WellTyped.{well_typed}
+use Rattle.go_rules.specs.GoTypes.WellTyped.{well_typed}
 use Rattle.module_marks.specs.Views.{texts_of}
 use Rattle.scanned_files.specs.Files.{sources_of}
 use Rattle.module_reading.specs.Modules.{IsReadFrom}

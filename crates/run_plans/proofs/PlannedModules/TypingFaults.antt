@@ -4,8 +4,8 @@ use Rattle.std.specs.Prelude.{slice_get}
 use Rattle.std.proofs.lemmas.Option.{same_Some}
 use Rattle.checked_modules.specs.SpelledDecls.{PackagesAreSpelled, PackagesReadAreSpelled}
 use Rattle.go_tree.specs.declared.spans.Span.{Span}
-use Rattle.go_tree.specs.GoTypes.Answers.{given}
-use Rattle.go_tree.specs.GoTypes.WellTyped.{NotTyped, refused_place, well_typed}
+use Rattle.go_rules.specs.GoTypes.Answers.{given}
+use Rattle.go_rules.specs.GoTypes.WellTyped.{NotTyped, refused_place, well_typed}
 use Rattle.checked_modules.specs.Declarations.{refusal_of}
 use Rattle.checked_modules.specs.RefusedPlace.{RefusedPlace}
 use Rattle.scanned_files.specs.Files.{sources_of}

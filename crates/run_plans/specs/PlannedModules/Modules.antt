@@ -4,8 +4,8 @@ use Rattle.std.specs.Prelude.{◌≡◌, ◌≤◌, ℕ, ◌+◌, Bool, true, no
 use Rattle.std.specs.List.{list_all, list_any}
 use Rattle.go_tree.specs.declared.spans.Span.{Span}
 use Rattle.go_tree.specs.File.{ImportSpec, File}
-use Rattle.go_tree.specs.GoTypes.Answers.{unless_missing}
-use Rattle.go_tree.specs.GoTypes.WellTyped.{well_typed}
+use Rattle.go_rules.specs.GoTypes.Answers.{unless_missing}
+use Rattle.go_rules.specs.GoTypes.WellTyped.{well_typed}
 use Rattle.constant_modules.specs.ApartKeys.Files.{is_predeclared}
 use Rattle.module_refusals.specs.Refused.{AreModule}
 use Rattle.pkg_graph.specs.Package.{Package}

@@ -2,7 +2,7 @@
 -- column (Go specification, Packages; Source file organization).
 use Rattle.std.specs.Prelude.{◌≡◌, ℕ, true, List, Option, Some, None}
 use Rattle.go_tree.specs.declared.spans.Span.{Span}
-use Rattle.go_tree.specs.GoTypes.WellTyped.{NotTyped, refused_place, well_typed}
+use Rattle.go_rules.specs.GoTypes.WellTyped.{NotTyped, refused_place, well_typed}
 use Rattle.module_refusals.specs.Told.{told_at}
 use Rattle.pkg_graph.specs.Package.{Package}
 use Rattle.run_plans.specs.PlannedFiles.Limits.{file_with_path}

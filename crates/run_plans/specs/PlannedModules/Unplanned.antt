@@ -2,7 +2,7 @@
 -- go.mod files; Go specification, Packages; golang.org/x/tools, analyzer inline; the limits are this project's own).
 use Rattle.std.specs.Prelude.{◌≡◌, ◌<◌, ⊤, ℕ, true, false, List, Some}
 use Rattle.go_tree.specs.declared.spans.Span.{Span}
-use Rattle.go_tree.specs.GoTypes.WellTyped.{NotTyped, refused_place, well_typed}
+use Rattle.go_rules.specs.GoTypes.WellTyped.{NotTyped, refused_place, well_typed}
 use Rattle.module_refusals.specs.Refused.{IsRefusal}
 use Rattle.module_refusals.specs.Told.{told_whole}
 use Rattle.next_file.specs.declared.limits.Passed.{Passed}

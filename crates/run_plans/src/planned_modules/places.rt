@@ -4,8 +4,8 @@ ghost use Rattle.std.specs.Prelude.{◌≡◌, ◌<◌, ◌≤◌, ◌^◌, All,
 ghost use Rattle.std.specs.Prelude.{slice_get};
 ghost use Rattle.std.specs.Option.{option_map};
 ghost use Rattle.go_tree.specs.declared.spans.Span.{Span};
-ghost use Rattle.go_tree.specs.GoTypes.Answers.{given};
-ghost use Rattle.go_tree.specs.GoTypes.WellTyped.{NotTyped};
+ghost use Rattle.go_rules.specs.GoTypes.Answers.{given};
+ghost use Rattle.go_rules.specs.GoTypes.WellTyped.{NotTyped};
 ghost use Rattle.checked_modules.specs.Declarations.{refusal_of};
 ghost use Rattle.module_reading.specs.Modules.{IsReadFrom};
 ghost use Rattle.pkg_graph.specs.Views.{package_view};

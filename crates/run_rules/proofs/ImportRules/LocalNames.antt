@@ -7,11 +7,11 @@ use Rattle.go_tree.specs.declared.spans.Span.{Span}
 use Rattle.go_tree.specs.Tree.{NameAt, Param, Sig, Expr, Exprs, ExprOption, Elems, Value, ValueOption, Stmt, Stmts, StmtOption, BlockOption, RangeLeft, Arms, Cases, ValueSpecs, ident, int_lit, rune_lit, str_lit, composite, selector, index, slice, call, func_lit, type_operand, unary, binary, star, no_exprs, expr_and, no_expr, some_expr, no_elems, elem, plain, braced, no_value, some_value, const_decl, var_decl, empty, eval, step, assign, define, return_, break_, continue_, inner, if_, for_, range_, switch, defer, label, no_stmts, stmt_and, no_stmt, some_stmt, no_block, some_block, nothing, assigns, defines, no_arms, arm, no_cases, case, no_specs, spec}
 use Rattle.go_tree.specs.File.{Receiver, Func, Decl, values, types, func, File}
 use Rattle.go_tree.specs.GoWords.Tokens.Pieces.{is_among}
-use Rattle.go_tree.specs.declared.scope_names.names.Entity.TheVariants.{Local}
-use Rattle.go_tree.specs.ScopeNames.FreeNames.{names_of}
-use Rattle.go_tree.specs.ScopeNames.Means.{is_blank, means}
-use Rattle.go_tree.specs.ScopeNames.Identifiers as ids
-use Rattle.go_tree.specs.ScopeNames.Scopes.{Scope, not_blank, new_names, with_name, param_names, range_declares, sig_declares, receiver_declares, func_declares, scopes_of, known_after, expr_span, expr_scopes, exprs_scopes, expr_option_scopes, elems_scopes, value_scopes, value_option_scopes, stmt_scopes, stmts_scopes, stmt_option_scopes, block_option_scopes, left_scopes, arms_scopes, cases_scopes, specs_scopes, func_scopes, values_scopes, decl_scopes, decls_scopes, holds_at, locals_at}
+use Rattle.go_rules.specs.declared.scope_names.names.Entity.TheVariants.{Local}
+use Rattle.go_rules.specs.ScopeNames.FreeNames.{names_of}
+use Rattle.go_rules.specs.ScopeNames.Means.{is_blank, means}
+use Rattle.go_rules.specs.ScopeNames.Identifiers as ids
+use Rattle.go_rules.specs.ScopeNames.Scopes.{Scope, not_blank, new_names, with_name, param_names, range_declares, sig_declares, receiver_declares, func_declares, scopes_of, known_after, expr_span, expr_scopes, exprs_scopes, expr_option_scopes, elems_scopes, value_scopes, value_option_scopes, stmt_scopes, stmts_scopes, stmt_option_scopes, block_option_scopes, left_scopes, arms_scopes, cases_scopes, specs_scopes, func_scopes, values_scopes, decl_scopes, decls_scopes, holds_at, locals_at}
 use Rattle.run_rules.proofs.ImportRules.NeededMeans.{any_append, eq_turn}
 
 -- each name of the one list is one of the other

@@ -6,11 +6,11 @@ use Rattle.go_tree.specs.declared.spans.Span.{Span}
 use Rattle.go_tree.specs.Tree.{NameAt, ident, int_lit, selector, no_exprs, expr_and, eval, define, Stmts, no_stmts, stmt_and}
 use Rattle.go_tree.specs.File.{File, func}
 use Rattle.go_tree.specs.GoWords.Tokens.Pieces.{keyword_spellings}
-use Rattle.go_tree.specs.declared.scope_names.names.ImportName.{ImportName}
-use Rattle.go_tree.specs.declared.scope_names.names.FileNames.{FileNames}
-use Rattle.go_tree.specs.ScopeNames.Scopes.{environment_at}
-use Rattle.go_tree.specs.ScopeNames.Occurrences.{uses_import}
-use Rattle.go_tree.specs.ScopeNames.Fresh.{candidate, IsFirst}
+use Rattle.go_rules.specs.declared.scope_names.names.ImportName.{ImportName}
+use Rattle.go_rules.specs.declared.scope_names.names.FileNames.{FileNames}
+use Rattle.go_rules.specs.ScopeNames.Scopes.{environment_at}
+use Rattle.go_rules.specs.ScopeNames.Occurrences.{uses_import}
+use Rattle.go_rules.specs.ScopeNames.Fresh.{candidate, IsFirst}
 use Rattle.run_rules.specs.declared.import_rules.new_import.Needed.{Needed}
 use Rattle.run_rules.specs.ImportRules.Needs.{IsNeededAt, there, new}
 use Rattle.run_rules.specs.ImportRules.SettledNames.{AreNeeded}

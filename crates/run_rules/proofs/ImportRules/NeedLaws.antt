@@ -1,11 +1,11 @@
 -- One name is needed.
 use Rattle.std.proofs.Common.{◌≡◌, ℕ, Bool, List, Option, Some, None, true, false, arith}
 use Rattle.go_tree.specs.File.{File}
-use Rattle.go_tree.specs.declared.scope_names.names.Entity.{Entity}
-use Rattle.go_tree.specs.declared.scope_names.names.FileNames.{FileNames}
-use Rattle.go_tree.specs.ScopeNames.Means.{Environment}
-use Rattle.go_tree.specs.ScopeNames.Fresh.{is_new}
-use Rattle.go_tree.proofs.ScopeNames.FreshLaws.{first_is_one}
+use Rattle.go_rules.specs.declared.scope_names.names.Entity.{Entity}
+use Rattle.go_rules.specs.declared.scope_names.names.FileNames.{FileNames}
+use Rattle.go_rules.specs.ScopeNames.Means.{Environment}
+use Rattle.go_rules.specs.ScopeNames.Fresh.{is_new}
+use Rattle.go_rules.proofs.ScopeNames.FreshLaws.{first_is_one}
 use Rattle.run_rules.specs.declared.import_rules.new_import.Needed.{Needed}
 use Rattle.run_rules.specs.ImportRules.Needs.{serving, avoided, IsNeeded, there, new}
 

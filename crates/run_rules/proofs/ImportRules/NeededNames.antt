@@ -4,14 +4,14 @@ use Rattle.std.proofs.lemmas.Bool.{and_parts, and_from, and_right, or_parts, or_
 use Rattle.go_tree.specs.declared.spans.Span.{Span}
 use Rattle.go_tree.specs.File.{File}
 use Rattle.go_tree.specs.GoWords.Tokens.Pieces.{keyword_spellings, is_among}
-use Rattle.go_tree.specs.declared.scope_names.names.Entity.{Entity}
-use Rattle.go_tree.specs.declared.scope_names.names.Entity.TheVariants.{Import, Local}
-use Rattle.go_tree.specs.declared.scope_names.names.ImportName.{ImportName}
-use Rattle.go_tree.specs.declared.scope_names.names.FileNames.{FileNames}
-use Rattle.go_tree.specs.ScopeNames.Identifiers.{identifiers}
-use Rattle.go_tree.specs.ScopeNames.Means.{Environment, is_blank, predeclared, means, outermost}
-use Rattle.go_tree.specs.ScopeNames.Scopes.{Scope, holds_at, locals_at, decls_scopes, environment_at}
-use Rattle.go_tree.specs.ScopeNames.Fresh.{is_new}
+use Rattle.go_rules.specs.declared.scope_names.names.Entity.{Entity}
+use Rattle.go_rules.specs.declared.scope_names.names.Entity.TheVariants.{Import, Local}
+use Rattle.go_rules.specs.declared.scope_names.names.ImportName.{ImportName}
+use Rattle.go_rules.specs.declared.scope_names.names.FileNames.{FileNames}
+use Rattle.go_rules.specs.ScopeNames.Identifiers.{identifiers}
+use Rattle.go_rules.specs.ScopeNames.Means.{Environment, is_blank, predeclared, means, outermost}
+use Rattle.go_rules.specs.ScopeNames.Scopes.{Scope, holds_at, locals_at, decls_scopes, environment_at}
+use Rattle.go_rules.specs.ScopeNames.Fresh.{is_new}
 use Rattle.run_rules.specs.declared.import_rules.new_import.Needed.{Needed}
 use Rattle.run_rules.specs.declared.import_rules.new_import.NewImport.{NewImport}
 use Rattle.run_rules.specs.ImportRules.Needs.{serving, avoided, there, new}

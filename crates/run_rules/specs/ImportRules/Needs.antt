@@ -4,13 +4,13 @@ use Rattle.std.specs.Prelude.{◌++◌, map, Option, Some, None, if◌then◌els
 use Rattle.go_tree.specs.declared.spans.Span.{Span}
 use Rattle.go_tree.specs.File.{File}
 use Rattle.go_tree.specs.GoWords.Tokens.Pieces.{is_among}
-use Rattle.go_tree.specs.declared.scope_names.names.Entity.{Entity}
-use Rattle.go_tree.specs.declared.scope_names.names.ImportName.{ImportName}
-use Rattle.go_tree.specs.declared.scope_names.names.FileNames.{FileNames}
-use Rattle.go_tree.specs.ScopeNames.Means.{Environment, means}
-use Rattle.go_tree.specs.ScopeNames.Scopes.{environment_at}
-use Rattle.go_tree.specs.ScopeNames.Occurrences.{means_import}
-use Rattle.go_tree.specs.ScopeNames.Fresh.{IsFresh}
+use Rattle.go_rules.specs.declared.scope_names.names.Entity.{Entity}
+use Rattle.go_rules.specs.declared.scope_names.names.ImportName.{ImportName}
+use Rattle.go_rules.specs.declared.scope_names.names.FileNames.{FileNames}
+use Rattle.go_rules.specs.ScopeNames.Means.{Environment, means}
+use Rattle.go_rules.specs.ScopeNames.Scopes.{environment_at}
+use Rattle.go_rules.specs.ScopeNames.Occurrences.{means_import}
+use Rattle.go_rules.specs.ScopeNames.Fresh.{IsFresh}
 use Rattle.run_rules.specs.declared.import_rules.new_import.Needed.{Needed}
 
 module _ (env : Environment Entity) (bound : List (List ℕ)) (path : List ℕ) where

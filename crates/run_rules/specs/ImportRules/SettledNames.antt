@@ -4,15 +4,15 @@ use Rattle.std.specs.Prelude.{[], ◌∷◌, ◌++◌, map, filter, Option, Some
 use Rattle.std.specs.List.{list_any}
 use Rattle.go_tree.specs.declared.spans.Span.{Span}
 use Rattle.go_tree.specs.File.{File}
-use Rattle.go_tree.specs.declared.scope_names.names.Entity.{Entity}
-use Rattle.go_tree.specs.declared.scope_names.names.Entity.TheVariants.{Local, Import}
-use Rattle.go_tree.specs.declared.scope_names.names.ImportName.{ImportName}
-use Rattle.go_tree.specs.declared.scope_names.names.FileNames.{FileNames}
-use Rattle.go_tree.specs.ScopeNames.Means.{Environment, is_blank, means, outermost}
+use Rattle.go_rules.specs.declared.scope_names.names.Entity.{Entity}
+use Rattle.go_rules.specs.declared.scope_names.names.Entity.TheVariants.{Local, Import}
+use Rattle.go_rules.specs.declared.scope_names.names.ImportName.{ImportName}
+use Rattle.go_rules.specs.declared.scope_names.names.FileNames.{FileNames}
+use Rattle.go_rules.specs.ScopeNames.Means.{Environment, is_blank, means, outermost}
 use Rattle.run_rules.specs.declared.import_rules.new_import.Needed.{Needed}
 use Rattle.run_rules.specs.declared.import_rules.new_import.NewImport.{NewImport}
-use Rattle.go_tree.specs.ScopeNames.Scopes.{environment_at}
-use Rattle.go_tree.specs.ScopeNames.Fresh.{is_new}
+use Rattle.go_rules.specs.ScopeNames.Scopes.{environment_at}
+use Rattle.go_rules.specs.ScopeNames.Fresh.{is_new}
 use Rattle.run_rules.specs.ImportRules.Needs.{avoided, IsNeeded}
 use Rattle.run_rules.specs.ImportRules.SpecText.{in_order}
 use Rattle.run_rules.specs.ImportRules.Removed.{same_span}

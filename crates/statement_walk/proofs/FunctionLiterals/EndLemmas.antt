@@ -9,10 +9,10 @@ use Rattle.go_tree.specs.declared.spans.Span.{Span}
 use Rattle.go_tree.specs.declared.types.Param as source
 use Rattle.go_tree.specs.Tree.{NameAt}
 use Rattle.go_tree.specs.View.{name_at_of, param_of}
-use Rattle.go_tree.specs.ScopeNames.FreeNames.{name_then, params_names}
-use Rattle.go_tree.specs.ScopeNames.Means.{is_blank}
-use Rattle.go_tree.specs.GoTypes.Answers.{is_among, without}
-use Rattle.go_tree.specs.GoTypes.Declarations.{not_blank}
+use Rattle.go_rules.specs.ScopeNames.FreeNames.{name_then, params_names}
+use Rattle.go_rules.specs.ScopeNames.Means.{is_blank}
+use Rattle.go_rules.specs.GoTypes.Answers.{is_among, without}
+use Rattle.go_rules.specs.GoTypes.Declarations.{not_blank}
 use Rattle.typed_names.proofs.TypeExprs.NewNames.{drop_all, drop_item}
 use Rattle.typed_names.proofs.NameLaws.{turned}
 use Rattle.jump_rules.specs.UsedLocals.Used.{Used, and_names, set_name}

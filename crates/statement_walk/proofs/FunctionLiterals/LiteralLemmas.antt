@@ -1,9 +1,9 @@
 -- Function literals by the answers for their parts.
 use Rattle.std.proofs.Common.{◌≡◌, List, [], ◌∷◌, length, Some, Ok, refl, sym, ap}
-use Rattle.go_tree.specs.declared.const_eval.consts.Const.{Const}
-use Rattle.go_tree.specs.GoTypes.Entities as go_entity
-use Rattle.go_tree.specs.GoTypes.Operands.{a_function}
-use Rattle.go_tree.specs.GoTypes.Types.{FuncType}
+use Rattle.go_rules.specs.declared.const_eval.consts.Const.{Const}
+use Rattle.go_rules.specs.GoTypes.Entities as go_entity
+use Rattle.go_rules.specs.GoTypes.Operands.{a_function}
+use Rattle.go_rules.specs.GoTypes.Types.{FuncType}
 use Rattle.type_table.specs.declared.nodes.TypeId.{TypeId}
 use Rattle.type_table.specs.TypeRelations.Environment.{Environment, env_type}
 use Rattle.type_flags.specs.declared.grown.TypeFlags.{TypeFlags}

@@ -2,7 +2,7 @@
 use Rattle.std.proofs.Common.{◌≡◌, ◌++◌, List, [], refl, ap, ap₂}
 use Rattle.go_tree.specs.declared.spans.Span.{Span}
 use Rattle.go_tree.specs.Tree.{Expr, ident, int_lit, rune_lit, str_lit, composite, selector, index, slice, call, func_lit, type_operand, unary, binary, star, Exprs, no_exprs, expr_and, ExprOption, no_expr, some_expr, Elems, no_elems, elem, Value, plain, braced, ValueOption, no_value, some_value}
-use Rattle.go_tree.specs.GoTypes.Entities.{Env}
+use Rattle.go_rules.specs.GoTypes.Entities.{Env}
 use Rattle.jump_rules.specs.UsedLocals.Used.{Used}
 use Rattle.expr_walk.specs.Walked.{AreAllWalked, AreWalkedElems, IsWalked, IsWalkedKey, IsWalkedOption, IsWalkedValue}
 use Rattle.statement_walk.specs.FunctionLiterals.Found.{literals_in, literals_in_all, literals_in_elems, literals_in_key, literals_in_option, literals_in_value}

@@ -3,19 +3,19 @@ use Rattle.std.proofs.Common.{◌≡◌, ◌∙◌, ◌++◌, ◌&&◌, ◌||◌
 use Rattle.std.proofs.lemmas.Option.{none-some}
 use Rattle.std.specs.List.{list_all}
 use Rattle.std.specs.Option.{option_map}
-use Rattle.go_tree.specs.declared.const_eval.consts.Const.{Const}
+use Rattle.go_rules.specs.declared.const_eval.consts.Const.{Const}
 use Rattle.go_tree.specs.declared.spans.Span.{Span}
 use Rattle.go_tree.specs.declared.types.Param as source
 use Rattle.go_tree.specs.Tree.{NameAt, Param, Sig}
 use Rattle.go_tree.specs.View.{name_at_of, param_of}
-use Rattle.go_tree.specs.ScopeNames.FreeNames.{name_then, params_names, sig_names}
-use Rattle.go_tree.specs.ScopeNames.Means.{is_blank}
-use Rattle.go_tree.specs.GoTypes.Answers.{both, distinct_by, given, is_among, only_if}
-use Rattle.go_tree.specs.GoTypes.Types.{FuncType, GoType}
-use Rattle.go_tree.specs.GoTypes.Bodies.{param_binding, param_binds}
-use Rattle.go_tree.specs.GoTypes.Declarations.{bound_names, not_blank}
-use Rattle.go_tree.specs.GoTypes.Entities.{Binds, Entity, Env, extend, in_block, is_declared_here, variable}
-use Rattle.go_tree.specs.GoTypes.TypeNames.{func_type, params_meant, type_meant}
+use Rattle.go_rules.specs.ScopeNames.FreeNames.{name_then, params_names, sig_names}
+use Rattle.go_rules.specs.ScopeNames.Means.{is_blank}
+use Rattle.go_rules.specs.GoTypes.Answers.{both, distinct_by, given, is_among, only_if}
+use Rattle.go_rules.specs.GoTypes.Types.{FuncType, GoType}
+use Rattle.go_rules.specs.GoTypes.Bodies.{param_binding, param_binds}
+use Rattle.go_rules.specs.GoTypes.Declarations.{bound_names, not_blank}
+use Rattle.go_rules.specs.GoTypes.Entities.{Binds, Entity, Env, extend, in_block, is_declared_here, variable}
+use Rattle.go_rules.specs.GoTypes.TypeNames.{func_type, params_meant, type_meant}
 use Rattle.type_table.specs.TypeRelations.Environment.{Environment}
 use Rattle.typed_names.specs.declared.scopes.Scope.{Scope}
 use Rattle.typed_names.specs.Meanings.{Names}

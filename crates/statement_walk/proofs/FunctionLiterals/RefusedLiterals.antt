@@ -2,16 +2,16 @@
 use Rattle.std.proofs.Common.{◌≡◌, ◌∙◌, ◌++◌, ◌&&◌, Bool, true, false, cond, List, ◌∷◌, Option, Some, None, refl, sym, ap}
 use Rattle.std.specs.Prelude.{is_some}
 use Rattle.go_tree.specs.Tree.{Expr, ident, int_lit, rune_lit, str_lit, composite, selector, index, slice, call, func_lit, type_operand, unary, binary, star, Exprs, no_exprs, expr_and, ExprOption, no_expr, some_expr, Elems, no_elems, elem, Value, plain, braced, ValueOption, no_value, some_value}
-use Rattle.go_tree.specs.GoTypes.Answers.{both, given}
-use Rattle.go_tree.specs.GoTypes.Types.{GoType}
-use Rattle.go_tree.specs.GoTypes.Defined.{under}
-use Rattle.go_tree.specs.GoTypes.Entities.{Env, defined_in}
-use Rattle.go_tree.specs.GoTypes.Literals.{built, built_inside, field_key, inner_type, is_struct, key_type, keyed, literal_type, of_field}
-use Rattle.go_tree.specs.GoTypes.Operands.{Operand, typed, with_value}
-use Rattle.go_tree.specs.GoTypes.Operators.{binary_of, star_of, unary_of}
-use Rattle.go_tree.specs.GoTypes.Primary.{call_of, index_of, selected, sliced}
-use Rattle.go_tree.specs.GoTypes.TypeNames.{type_meant}
-use Rattle.go_tree.specs.GoTypes.Typing.{all_parts, bound, element, elements, parts, place, with_key}
+use Rattle.go_rules.specs.GoTypes.Answers.{both, given}
+use Rattle.go_rules.specs.GoTypes.Types.{GoType}
+use Rattle.go_rules.specs.GoTypes.Defined.{under}
+use Rattle.go_rules.specs.GoTypes.Entities.{Env, defined_in}
+use Rattle.go_rules.specs.GoTypes.Literals.{built, built_inside, field_key, inner_type, is_struct, key_type, keyed, literal_type, of_field}
+use Rattle.go_rules.specs.GoTypes.Operands.{Operand, typed, with_value}
+use Rattle.go_rules.specs.GoTypes.Operators.{binary_of, star_of, unary_of}
+use Rattle.go_rules.specs.GoTypes.Primary.{call_of, index_of, selected, sliced}
+use Rattle.go_rules.specs.GoTypes.TypeNames.{type_meant}
+use Rattle.go_rules.specs.GoTypes.Typing.{all_parts, bound, element, elements, parts, place, with_key}
 use Rattle.statement_walk.specs.FunctionLiterals.Found.{literals_in, literals_in_all, literals_in_elems, literals_in_key, literals_in_option, literals_in_value}
 use Rattle.statement_walk.specs.FunctionLiterals.Laws.{all_typed_at}
 use Rattle.statement_walk.proofs.SpecsLemmas.{all_on}

@@ -1,16 +1,16 @@
 -- Where the values of each turn of a range are stored.
 use Rattle.std.proofs.Common.{◌≡◌, ◌∙◌, ◌&&◌, Bool, false, List, [], ◌∷◌, length, nat_eq, arith, Option, Some, None, Result, Ok, Err, IfOk, refl, sym, ap, subst}
 use Rattle.std.proofs.lemmas.Bool.Decides.{nat_tests}
-use Rattle.go_tree.specs.declared.const_eval.kinds.Kind.{Kind}
-use Rattle.go_tree.specs.declared.const_eval.consts.Const.{Const}
-use Rattle.go_tree.specs.GoTypes.Answers.{meets}
-use Rattle.go_tree.specs.GoTypes.Types.{GoType, basic, named_type, pointer_to, slice_of, map_of, struct_of, tuple_of, untyped, untyped_nil, is_untyped}
-use Rattle.go_tree.specs.GoTypes.Defined.{Defined}
-use Rattle.go_tree.specs.GoTypes.Entities as go_entity
-use Rattle.go_tree.specs.GoTypes.Operands as go
-use Rattle.go_tree.specs.GoTypes.Operands.{Typed, typed}
-use Rattle.go_tree.specs.GoTypes.Relations.{is_whole_number}
-use Rattle.go_tree.specs.GoTypes.Statements.{Target, blank, store, range_assigns, range_stores, range_types}
+use Rattle.go_rules.specs.declared.const_eval.kinds.Kind.{Kind}
+use Rattle.go_rules.specs.declared.const_eval.consts.Const.{Const}
+use Rattle.go_rules.specs.GoTypes.Answers.{meets}
+use Rattle.go_rules.specs.GoTypes.Types.{GoType, basic, named_type, pointer_to, slice_of, map_of, struct_of, tuple_of, untyped, untyped_nil, is_untyped}
+use Rattle.go_rules.specs.GoTypes.Defined.{Defined}
+use Rattle.go_rules.specs.GoTypes.Entities as go_entity
+use Rattle.go_rules.specs.GoTypes.Operands as go
+use Rattle.go_rules.specs.GoTypes.Operands.{Typed, typed}
+use Rattle.go_rules.specs.GoTypes.Relations.{is_whole_number}
+use Rattle.go_rules.specs.GoTypes.Statements.{Target, blank, store, range_assigns, range_stores, range_types}
 use Rattle.type_table.specs.declared.nodes.TypeId.{TypeId}
 use Rattle.type_table.specs.TypeRelations.Environment.{Environment, env_type}
 use Rattle.type_table.specs.declared.operand_rules.values.Refusal.{Refusal}

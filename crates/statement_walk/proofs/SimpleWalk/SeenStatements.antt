@@ -3,13 +3,13 @@ use Rattle.std.proofs.Common.{◌≡◌, ◌∙◌, ◌∷◌, [], Bool, true, f
 use Rattle.go_tree.specs.declared.exprs.Rest.{Rest}
 use Rattle.go_tree.specs.declared.spans.Span.{Span}
 use Rattle.go_tree.specs.Tree.{Expr, ident, int_lit, rune_lit, str_lit, composite, selector, index, slice, call, func_lit, type_operand, unary, binary, star, Exprs, no_exprs, expr_and, Stmt, const_decl, var_decl, empty, eval, step, assign, define, return_, break_, continue_, inner, if_, for_, range_, switch, defer, label}
-use Rattle.go_tree.specs.GoTypes.Answers.{both, given, meets, only_if}
-use Rattle.go_tree.specs.GoTypes.Bodies.{Ctx, returns}
-use Rattle.go_tree.specs.GoTypes.Entities.{Env, defined_in}
-use Rattle.go_tree.specs.GoTypes.Operands.{Operand, with_value}
-use Rattle.go_tree.specs.GoTypes.Primary.{may_be_deferred, stands_alone}
-use Rattle.go_tree.specs.GoTypes.Statements.{blank, is_blank_name, is_panic, one_more, right_values, step_op, stores_all, target_at, updates}
-use Rattle.go_tree.specs.GoTypes.Typing.{all_parts, is_call, parts, place, places, stmt, targets}
+use Rattle.go_rules.specs.GoTypes.Answers.{both, given, meets, only_if}
+use Rattle.go_rules.specs.GoTypes.Bodies.{Ctx, returns}
+use Rattle.go_rules.specs.GoTypes.Entities.{Env, defined_in}
+use Rattle.go_rules.specs.GoTypes.Operands.{Operand, with_value}
+use Rattle.go_rules.specs.GoTypes.Primary.{may_be_deferred, stands_alone}
+use Rattle.go_rules.specs.GoTypes.Statements.{blank, is_blank_name, is_panic, one_more, right_values, step_op, stores_all, target_at, updates}
+use Rattle.go_rules.specs.GoTypes.Typing.{all_parts, is_call, parts, place, places, stmt, targets}
 use Rattle.typed_names.specs.declared.scopes.Scope.{Scope}
 use Rattle.typed_names.specs.Meanings.{Names}
 use Rattle.type_table.specs.declared.operand_rules.values.Refusal.{Refusal}

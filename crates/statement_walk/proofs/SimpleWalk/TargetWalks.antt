@@ -2,13 +2,13 @@
 use Rattle.std.proofs.Common.{◌≡◌, ◌∙◌, ◌++◌, true, false, cond, List, [], ◌∷◌, Option, Some, None, Result, Ok, Err, refl, sym, ap, ap₂, arith}
 use Rattle.go_tree.specs.declared.spans.Span.{Span}
 use Rattle.go_tree.specs.Tree.{Expr, Exprs, no_exprs, expr_and}
-use Rattle.go_tree.specs.GoTypes.Answers.{both, given}
-use Rattle.go_tree.specs.GoTypes.Types.{is_untyped}
-use Rattle.go_tree.specs.GoTypes.Entities.{Env}
-use Rattle.go_tree.specs.GoTypes.Operands.{with_value}
-use Rattle.go_tree.specs.GoTypes.Statements as go
-use Rattle.go_tree.specs.GoTypes.Statements.{is_blank_name, store, target_at}
-use Rattle.go_tree.specs.GoTypes.Typing.{parts, place, targets}
+use Rattle.go_rules.specs.GoTypes.Answers.{both, given}
+use Rattle.go_rules.specs.GoTypes.Types.{is_untyped}
+use Rattle.go_rules.specs.GoTypes.Entities.{Env}
+use Rattle.go_rules.specs.GoTypes.Operands.{with_value}
+use Rattle.go_rules.specs.GoTypes.Statements as go
+use Rattle.go_rules.specs.GoTypes.Statements.{is_blank_name, store, target_at}
+use Rattle.go_rules.specs.GoTypes.Typing.{parts, place, targets}
 use Rattle.typed_names.specs.declared.scopes.Scope.{Scope}
 use Rattle.typed_names.specs.Meanings.{Names}
 use Rattle.type_table.specs.declared.operand_rules.values.Refusal.{Refusal}

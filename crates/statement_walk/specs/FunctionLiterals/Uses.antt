@@ -7,14 +7,14 @@ use Rattle.go_tree.specs.Tree.{Expr, ident, int_lit, rune_lit, str_lit, composit
 use Rattle.go_tree.specs.Tree.{func_lit, type_operand, unary, binary, star, Exprs, no_exprs, expr_and, ExprOption}
 use Rattle.go_tree.specs.Tree.{no_expr, some_expr, Elems, no_elems, elem, Value, plain, braced, ValueOption, no_value}
 use Rattle.go_tree.specs.Tree.{some_value}
-use Rattle.go_tree.specs.ScopeNames.FreeNames.{free_type}
-use Rattle.go_tree.specs.GoTypes.Answers.{given, meets}
-use Rattle.go_tree.specs.GoTypes.Types.{GoType}
-use Rattle.go_tree.specs.GoTypes.Defined.{under}
-use Rattle.go_tree.specs.GoTypes.Entities.{Env, defined_in}
-use Rattle.go_tree.specs.GoTypes.Literals.{inner_type, is_struct, key_type, literal_type}
-use Rattle.go_tree.specs.GoTypes.TypeNames.{type_meant}
-use Rattle.go_tree.specs.GoTypes.Typing.{used}
+use Rattle.go_rules.specs.ScopeNames.FreeNames.{free_type}
+use Rattle.go_rules.specs.GoTypes.Answers.{given, meets}
+use Rattle.go_rules.specs.GoTypes.Types.{GoType}
+use Rattle.go_rules.specs.GoTypes.Defined.{under}
+use Rattle.go_rules.specs.GoTypes.Entities.{Env, defined_in}
+use Rattle.go_rules.specs.GoTypes.Literals.{inner_type, is_struct, key_type, literal_type}
+use Rattle.go_rules.specs.GoTypes.TypeNames.{type_meant}
+use Rattle.go_rules.specs.GoTypes.Typing.{used}
 use Rattle.jump_rules.specs.UsedLocals.Used.{Used}
 use Rattle.statement_walk.specs.FunctionLiterals.Found.{literals_in, literals_in_all}
 

@@ -1,7 +1,7 @@
 -- Statements in which no others stand and that declare nothing (Go specification, Statements).
 use Rattle.go_tree.specs.declared.spans.Span.{Span}
 use Rattle.go_tree.specs.Tree.{Stmt, empty, eval, step, assign, return_, break_, continue_, defer}
-use Rattle.go_tree.specs.GoTypes.Entities.{Env}
+use Rattle.go_rules.specs.GoTypes.Entities.{Env}
 use Rattle.expr_walk.specs.Walked.{AreAllWalked, AreAllWalkedAt, IsWalked, IsWalkedAt}
 
 -- the expressions of such a statement are walked

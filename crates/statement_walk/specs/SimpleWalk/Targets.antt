@@ -2,12 +2,12 @@
 use Rattle.std.specs.Prelude.{◌≡◌, List, ◌++◌, Option, Some, if◌then◌else◌}
 use Rattle.go_tree.specs.declared.spans.Span.{Span}
 use Rattle.go_tree.specs.Tree.{Expr, Exprs}
-use Rattle.go_tree.specs.GoTypes.Answers.{given}
-use Rattle.go_tree.specs.GoTypes.Entities.{Env}
-use Rattle.go_tree.specs.GoTypes.Operands.{with_value}
-use Rattle.go_tree.specs.GoTypes.Statements as go
-use Rattle.go_tree.specs.GoTypes.Statements.{is_blank_name, target_at}
-use Rattle.go_tree.specs.GoTypes.Typing.{parts, place, targets}
+use Rattle.go_rules.specs.GoTypes.Answers.{given}
+use Rattle.go_rules.specs.GoTypes.Entities.{Env}
+use Rattle.go_rules.specs.GoTypes.Operands.{with_value}
+use Rattle.go_rules.specs.GoTypes.Statements as go
+use Rattle.go_rules.specs.GoTypes.Statements.{is_blank_name, target_at}
+use Rattle.go_rules.specs.GoTypes.Typing.{parts, place, targets}
 use Rattle.typed_names.specs.declared.scopes.Scope.{Scope}
 use Rattle.typed_names.specs.Meanings.{Names}
 use Rattle.typed_names.specs.Scopes.{env_at}

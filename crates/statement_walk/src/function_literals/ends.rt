@@ -5,10 +5,10 @@ ghost use Rattle.std.specs.Prelude.{◌≡◌, ℕ, [], List, OnOk, codes, map};
 ghost use Rattle.std.specs.List.{list_any};
 ghost use Rattle.std.specs.Option.{option_map};
 ghost use Rattle.go_tree.specs.View.{name_at_of, param_of, sig_of};
-ghost use Rattle.go_tree.specs.GoTypes.Answers.{without};
-ghost use Rattle.go_tree.specs.GoTypes.Declarations.{not_blank};
-ghost use Rattle.go_tree.specs.ScopeNames.FreeNames.{name_then, params_names, sig_names};
-ghost use Rattle.go_tree.specs.ScopeNames.Means.{is_blank};
+ghost use Rattle.go_rules.specs.GoTypes.Answers.{without};
+ghost use Rattle.go_rules.specs.GoTypes.Declarations.{not_blank};
+ghost use Rattle.go_rules.specs.ScopeNames.FreeNames.{name_then, params_names, sig_names};
+ghost use Rattle.go_rules.specs.ScopeNames.Means.{is_blank};
 ghost use Rattle.jump_rules.specs.UsedLocals.Pending.{ended};
 ghost use Rattle.jump_rules.specs.UsedLocals.Used.{Used, and_names, used_of};
 

@@ -3,8 +3,8 @@
 
 ghost use Rattle.std.specs.Prelude.{◌≡◌, IfOk, map};
 ghost use Rattle.go_tree.specs.View.{param_of, sig_of};
-ghost use Rattle.go_tree.specs.GoTypes.Bodies as go;
-ghost use Rattle.go_tree.specs.GoTypes.TypeNames as type_name;
+ghost use Rattle.go_rules.specs.GoTypes.Bodies as go;
+ghost use Rattle.go_rules.specs.GoTypes.TypeNames as type_name;
 ghost use Rattle.type_table.specs.TypeRelations.Environment.{Environment};
 ghost use Rattle.typed_names.specs.Scopes.{env_at};
 ghost use Rattle.operand_modes.specs.CheckerTables.Ready.{Keeps};

@@ -1,11 +1,11 @@
 //! What each turn of a range gives (Go specification, For statements with range clause).
 
 ghost use Rattle.std.specs.Prelude.{◌≡◌, ◌∷◌, [], IfSome, Some};
-ghost use Rattle.go_tree.specs.GoTypes.Answers.{given, only_if};
-ghost use Rattle.go_tree.specs.GoTypes.Defined.{under};
-ghost use Rattle.go_tree.specs.GoTypes.Operands.{settled};
-ghost use Rattle.go_tree.specs.GoTypes.Relations.{is_whole_number};
-ghost use Rattle.go_tree.specs.GoTypes.Statements as go;
+ghost use Rattle.go_rules.specs.GoTypes.Answers.{given, only_if};
+ghost use Rattle.go_rules.specs.GoTypes.Defined.{under};
+ghost use Rattle.go_rules.specs.GoTypes.Operands.{settled};
+ghost use Rattle.go_rules.specs.GoTypes.Relations.{is_whole_number};
+ghost use Rattle.go_rules.specs.GoTypes.Statements as go;
 ghost use Rattle.type_table.specs.TypeRelations.Environment.{defined_types, env_type};
 ghost use Rattle.type_table.specs.declared.operand_rules.values.ValueType.TheVariants.{Typed};
 ghost use Rattle.type_table.specs.OperandRules.Values.{IsType, IsValue, type_of, typed_of};

@@ -3,8 +3,8 @@
 ghost use Rattle.go_tree.specs.declared.spans.Span.{Span};
 ghost use Rattle.go_tree.specs.Tree as tree;
 ghost use Rattle.go_tree.specs.View.{expr_of};
-ghost use Rattle.go_tree.specs.GoTypes.Bodies.{Ctx};
-ghost use Rattle.go_tree.specs.GoTypes.Typing as go;
+ghost use Rattle.go_rules.specs.GoTypes.Bodies.{Ctx};
+ghost use Rattle.go_rules.specs.GoTypes.Typing as go;
 ghost use Rattle.typed_names.specs.Scopes.{env_at};
 ghost use Rattle.operand_modes.specs.CheckerTables.Ready.{Keeps};
 ghost use Rattle.operand_modes.specs.OperandAnswers.Known.{Stands};

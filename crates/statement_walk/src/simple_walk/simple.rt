@@ -2,9 +2,9 @@
 
 ghost use Rattle.std.specs.Prelude.{List, ℕ};
 ghost use Rattle.go_tree.specs.View.{stmt_of};
-ghost use Rattle.go_tree.specs.GoTypes.Bodies.{Ctx};
-ghost use Rattle.go_tree.specs.GoTypes.Entities.{Env};
-ghost use Rattle.go_tree.specs.GoTypes.Typing as go;
+ghost use Rattle.go_rules.specs.GoTypes.Bodies.{Ctx};
+ghost use Rattle.go_rules.specs.GoTypes.Entities.{Env};
+ghost use Rattle.go_rules.specs.GoTypes.Typing as go;
 ghost use Rattle.operator_rules.specs.AccessRules.Functions.{AreTypes};
 ghost use Rattle.typed_names.specs.Scopes.{env_at};
 ghost use Rattle.operand_modes.specs.CheckerTables.Ready.{Keeps};

@@ -6,7 +6,7 @@ use Rattle.std.proofs.lemmas.Option.{slice_get-map}
 use Rattle.go_tree.specs.Tree.{NameAt, Exprs, no_exprs, expr_and, Stmt, const_decl, var_decl, empty, eval, step, assign, define, return_, break_, continue_, inner, if_, for_, range_, switch, defer, label, ValueSpecs, no_specs, spec}
 use Rattle.go_tree.specs.File.{TypeSpec, Decl, values, types, func}
 use Rattle.pkg_graph.specs.Package.{Package}
-use Rattle.go_tree.specs.GoTypes.Answers.{given, meets}
+use Rattle.go_rules.specs.GoTypes.Answers.{given, meets}
 use Rattle.run_rules.specs.Sites.{MarkRef, Where, Inlinable, an_alias, aliased, constant_in_spec, inlinable, inlinable_in, less, nth_constant, where_is}
 use Rattle.run_rules.specs.Respanned.{name_with, exprs_with, specs_with, stmt_with, type_spec_with, decl_with, packages_with}
 use Rattle.member_uses.specs.Laws.{is_constant, AllConstants}

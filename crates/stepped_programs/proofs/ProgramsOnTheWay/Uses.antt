@@ -7,7 +7,7 @@ use Rattle.pkg_graph.specs.Package.{SourceTree}
 use Rattle.pkg_graph.specs.Reads.{Source}
 use Rattle.pkg_graph.specs.Views.{source_of}
 use Rattle.pkg_graph.specs.declared.packages.Package.{Package}
-use Rattle.go_tree.specs.GoTypes.Answers.{given}
+use Rattle.go_rules.specs.GoTypes.Answers.{given}
 use Rattle.printed_constants.specs.TypedParts.MarkedRuns.PutForms.Uses as first
 use Rattle.stepped_programs.specs.declared.package_search.looks.ProgramSources.{ProgramSources}
 use Rattle.constant_modules.specs.ConstantPrograms.Laws as constants

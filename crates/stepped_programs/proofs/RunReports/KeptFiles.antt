@@ -7,8 +7,8 @@ use Rattle.go_tree.specs.declared.spans.Span.{Span}
 use Rattle.go_tree.specs.Tree.{Expr}
 use Rattle.go_tree.specs.File.{Decl}
 use Rattle.go_tree.specs.FileView.{decl_of}
-use Rattle.go_tree.specs.GoTypes.Answers.{given, meets}
-use Rattle.go_tree.proofs.GoTypes.Agreeing.{from_given}
+use Rattle.go_rules.specs.GoTypes.Answers.{given, meets}
+use Rattle.go_rules.proofs.GoTypes.Agreeing.{from_given}
 use Rattle.go_scan.specs.TokenLists.{TokenLists}
 use Rattle.run_rules.specs.ImportRules.Removed.{same_span}
 use Rattle.pkg_graph.specs.Package.{SourceTree}

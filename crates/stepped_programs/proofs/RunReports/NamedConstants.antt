@@ -4,7 +4,7 @@ use Rattle.std.specs.Prelude.{slice_get}
 use Rattle.std.specs.Option.{option_map}
 use Rattle.go_tree.specs.Tree.{NameAt, Expr, Exprs, no_exprs, expr_and, const_decl, var_decl, empty, eval, step, assign, define, return_, break_, continue_, inner, if_, for_, range_, switch, defer, label, ValueSpecs, no_specs, spec}
 use Rattle.go_tree.specs.File.{TypeSpec, Decl, values, types, func}
-use Rattle.go_tree.specs.GoTypes.Answers.{given}
+use Rattle.go_rules.specs.GoTypes.Answers.{given}
 use Rattle.pkg_graph.specs.Members.{specs_names}
 use Rattle.run_rules.specs.Respanned.{name_with, specs_with, decl_with}
 use Rattle.run_rules.specs.Sites.{Inlinable, a_constant, an_alias, aliased, constant_in_spec, inlinable_in, less, name_of, nth_constant}

@@ -9,7 +9,7 @@ use Rattle.go_tree.specs.declared.files.Decl as code_decl
 use Rattle.go_tree.specs.Tree.{NameAt, Expr}
 use Rattle.go_tree.specs.File.{Decl}
 use Rattle.go_tree.specs.FileView.{decl_of}
-use Rattle.go_tree.specs.GoTypes.Answers.{given, otherwise}
+use Rattle.go_rules.specs.GoTypes.Answers.{given, otherwise}
 use Rattle.pkg_graph.specs.ModuleFiles.PathLists.{number_of}
 use Rattle.pkg_graph.specs.Package.{SourceTree, Package}
 use Rattle.pkg_graph.specs.Views.{package_view, source_of}

@@ -5,8 +5,8 @@ use Rattle.go_tree.specs.Tree.{NameAt}
 use Rattle.go_tree.specs.Bare.{bare_name}
 use Rattle.go_tree.specs.File.{ImportSpec, ImportDecl, TypeSpec, Receiver, Decl, values, types, func, File}
 use Rattle.go_tree.specs.FileBare.{bare_type_spec, bare_receiver, bare_decl}
-use Rattle.go_tree.specs.ScopeNames.Identifiers.{name_option, import_specs_identifiers, imports_identifiers, type_specs_identifiers, receiver_identifiers, decl_identifiers, decls_identifiers, identifiers}
-use Rattle.go_tree.proofs.ScopeNames.IdentifiersBare.{type_identifiers-bare, sig_identifiers-bare, stmt_identifiers-bare, stmts_identifiers-bare}
+use Rattle.go_rules.specs.ScopeNames.Identifiers.{name_option, import_specs_identifiers, imports_identifiers, type_specs_identifiers, receiver_identifiers, decl_identifiers, decls_identifiers, identifiers}
+use Rattle.go_rules.proofs.ScopeNames.IdentifiersBare.{type_identifiers-bare, sig_identifiers-bare, stmt_identifiers-bare, stmts_identifiers-bare}
 use Rattle.run_rules.specs.Respanned.{name_with, import_spec_with, import_decl_with, decl_with, file_with}
 use Rattle.order_runs.proofs.CycleLaws.BareWith.{decl-with}
 

@@ -2,7 +2,7 @@
 use Rattle.std.proofs.Common.{◌≡◌, ◌∙◌, refl, sym, ap, subst, ℕ, List, [], ◌∷◌, ◌++◌, Option, Some, None, append_assoc}
 use Rattle.std.proofs.lemmas.Option.{none-some, same_Some}
 use Rattle.pkg_graph.specs.Package.{SourceTree, Package}
-use Rattle.go_tree.specs.GoTypes.Answers.{one_of}
+use Rattle.go_rules.specs.GoTypes.Answers.{one_of}
 use Rattle.run_rules.specs.Programs.{numbered, in_dependency_order}
 use Rattle.run_rules.specs.Reduced.{Reduced}
 use Rattle.run_rules.specs.Sites.{MarkRef, Where, Site, decls_sites, files_sites, packages_sites}

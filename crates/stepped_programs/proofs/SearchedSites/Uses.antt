@@ -8,15 +8,15 @@ use Rattle.go_tree.specs.declared.spans.Span.{Span}
 use Rattle.go_tree.specs.Tree.{NameAt, Expr}
 use Rattle.go_tree.specs.File.{File}
 use Rattle.go_tree.specs.FileView.{file_of}
-use Rattle.go_tree.specs.declared.scope_names.names.Entity.TheVariants as entity
-use Rattle.go_tree.specs.declared.scope_names.names.FileNames.{FileNames}
-use Rattle.go_tree.specs.declared.scope_names.names.ImportName.{ImportName}
-use Rattle.go_tree.specs.ScopeNames.Identifiers.{identifiers}
+use Rattle.go_rules.specs.declared.scope_names.names.Entity.TheVariants as entity
+use Rattle.go_rules.specs.declared.scope_names.names.FileNames.{FileNames}
+use Rattle.go_rules.specs.declared.scope_names.names.ImportName.{ImportName}
+use Rattle.go_rules.specs.ScopeNames.Identifiers.{identifiers}
 use Rattle.scope_tables.specs.Table.{Table, IsTableOf, table_of}
 use Rattle.run_rules.specs.ImportRules.Needs.{avoided}
 use Rattle.pkg_graph.specs.Package.{SourceTree, Package, import_specs}
 use Rattle.pkg_graph.specs.Views.{package_view}
-use Rattle.go_tree.specs.GoTypes.Answers.{given, meets}
+use Rattle.go_rules.specs.GoTypes.Answers.{given, meets}
 use Rattle.run_rules.specs.Sites.{MarkRef, Where, Inlinable, a_constant, an_alias, a_function, Site, part_span, same_mark, is_among_marks, inlinable}
 use Rattle.fresh_names.specs.Laws.{TakesFew}
 use Rattle.run_rules.specs.Marks.{text_at}

@@ -4,14 +4,14 @@ use Rattle.std.specs.Prelude.{slice_get, if◌then◌else◌}
 use Rattle.std.proofs.lemmas.Option.{slice_get_within}
 use Rattle.go_tree.specs.Tree.{NameAt, Expr, ident, selector}
 use Rattle.go_tree.specs.File.{Decl}
-use Rattle.go_tree.specs.declared.scope_names.names.Entity.{Entity}
-use Rattle.go_tree.specs.declared.scope_names.names.Entity.TheVariants as entity
-use Rattle.go_tree.specs.ScopeNames.FreeNames.{names_of}
-use Rattle.go_tree.specs.ScopeNames.Means.{means}
+use Rattle.go_rules.specs.declared.scope_names.names.Entity.{Entity}
+use Rattle.go_rules.specs.declared.scope_names.names.Entity.TheVariants as entity
+use Rattle.go_rules.specs.ScopeNames.FreeNames.{names_of}
+use Rattle.go_rules.specs.ScopeNames.Means.{means}
 use Rattle.scope_tables.specs.Table.{meaning_in}
 use Rattle.pkg_graph.specs.Package.{Package, import_specs}
 use Rattle.pkg_graph.specs.Members.{Target, local, imported, member, predeclared}
-use Rattle.go_tree.specs.GoTypes.Answers.{given, is_among}
+use Rattle.go_rules.specs.GoTypes.Answers.{given, is_among}
 use Rattle.run_rules.specs.Surroundings.{Use, Place}
 use Rattle.run_rules.specs.Places.{expr_seen}
 use Rattle.run_rules.specs.Programs.{package_number, decl_seen}

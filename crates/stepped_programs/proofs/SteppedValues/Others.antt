@@ -5,11 +5,11 @@ use Rattle.std.proofs.lemmas.Bool.{eqb-true, eqb-false, true≢false}
 use Rattle.std.proofs.lemmas.Option.{same_Some}
 use Rattle.go_tree.specs.Tree.{NameAt, Expr}
 use Rattle.go_tree.specs.File.{ImportSpec, Decl}
-use Rattle.go_tree.specs.ScopeNames.Identifiers.{decl_identifiers}
+use Rattle.go_rules.specs.ScopeNames.Identifiers.{decl_identifiers}
 use Rattle.pkg_graph.specs.Package.{SourceTree, Package, import_specs}
 use Rattle.pkg_graph.specs.Members.{Target, package_block}
-use Rattle.go_tree.specs.GoTypes.Agreement.{In}
-use Rattle.go_tree.specs.GoTypes.Answers.{given}
+use Rattle.go_rules.specs.GoTypes.Agreement.{In}
+use Rattle.go_rules.specs.GoTypes.Answers.{given}
 use Rattle.go_translation.specs.SameMeaning.{WellTyped}
 use Rattle.order_runs.specs.RunSteps.RunPackages.{packages_of}
 use Rattle.run_rules.specs.Respanned.{name_with, expr_with, decl_with}
@@ -48,7 +48,7 @@ use Rattle.stepped_programs.specs.SteppedValues.OfSteps.{is_of_step, decl_of_ste
 use Rattle.stepped_programs.specs.SteppedValues.Laws.{MarkedValuesStay}
 use Rattle.stepped_programs.proofs.SteppedValues.Places.{marked_there, changed_here, changed_else}
 use Rattle.stepped_programs.proofs.SteppedValues.Said.{own_names, IsSaid, mark_said}
-use Rattle.go_tree.specs.ScopeNames.Means as scopes
+use Rattle.go_rules.specs.ScopeNames.Means as scopes
 
 -- ---- a constant of a program
 

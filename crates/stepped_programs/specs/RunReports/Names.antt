@@ -2,7 +2,7 @@
 use Rattle.std.specs.Prelude.{◌≡◌, ℕ, List, Option, Some, slice_get}
 use Rattle.go_tree.specs.File.{Decl}
 use Rattle.go_tree.specs.FileView.{decl_of}
-use Rattle.go_tree.specs.GoTypes.Answers.{given}
+use Rattle.go_rules.specs.GoTypes.Answers.{given}
 use Rattle.pkg_graph.specs.Members.{decl_names}
 use Rattle.pkg_graph.specs.declared.packages.Package.{Package}
 use Rattle.run_rules.specs.Sites.{MarkRef}

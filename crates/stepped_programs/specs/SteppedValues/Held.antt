@@ -2,7 +2,7 @@
 -- declarations).
 use Rattle.std.specs.Prelude.{◌≡◌, ℕ, true, List}
 use Rattle.go_scan.specs.TokenLists.{TokenLists}
-use Rattle.go_tree.specs.GoTypes.WellTyped.{well_typed}
+use Rattle.go_rules.specs.GoTypes.WellTyped.{well_typed}
 use Rattle.pkg_graph.specs.Reads.{Source}
 use Rattle.order_runs.specs.CycleRuns.OrderCycles.Orders.{AllOrdered}
 use Rattle.run_rules.specs.Programs.{linked}

@@ -2,7 +2,7 @@
 
 ghost use Rattle.std.specs.Prelude.{◌≡◌, IfOk, Some, option_copied, slice_get};
 ghost use Rattle.go_tree.specs.FileView.{decl_of};
-ghost use Rattle.go_tree.specs.GoTypes.Answers.{given};
+ghost use Rattle.go_rules.specs.GoTypes.Answers.{given};
 ghost use Rattle.module_marks.specs.Views.{mark_ref_of};
 ghost use Rattle.repeated_parts.specs.UseSearch.MarkValues.Tables.{decl_at, key_of};
 ghost use Rattle.stepped_programs.specs.RunReports.Names.{IsNamed, nth_name};

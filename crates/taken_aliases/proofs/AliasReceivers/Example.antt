@@ -4,9 +4,9 @@
 use Rattle.std.specs.Prelude.{◌≡◌, refl, ℕ, Bool, true, false, List, [], ◌∷◌, ◌++◌, Some, None, codes, nat_eq}
 use Rattle.go_tree.specs.Tree.{NameAt, TypeExpr, named, no_stmts}
 use Rattle.go_tree.specs.File.{Receiver, Func, Decl, types, func, File}
-use Rattle.go_tree.specs.ScopeNames.Means.{binding}
-use Rattle.go_tree.specs.GoTypes.Types.{named_type, pointer_to}
-use Rattle.go_tree.specs.GoTypes.Entities.{type_name, World}
+use Rattle.go_rules.specs.ScopeNames.Means.{binding}
+use Rattle.go_rules.specs.GoTypes.Types.{named_type, pointer_to}
+use Rattle.go_rules.specs.GoTypes.Entities.{type_name, World}
 use Rattle.pkg_graph.specs.Package.{SourceTree, Package}
 use Rattle.go_translation.specs.Packages.{sources}
 use Rattle.go_translation.specs.SameMeaning.{Packages, SameMeaning}

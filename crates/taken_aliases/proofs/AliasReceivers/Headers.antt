@@ -3,19 +3,19 @@
 use Rattle.std.specs.Prelude.{◌≡◌, refl, ℕ, false, List, [], ◌∷◌, ◌++◌, map, Option, Some, None}
 use Rattle.go_tree.specs.Tree.{NameAt}
 use Rattle.go_tree.specs.File.{Receiver, Func}
-use Rattle.go_tree.specs.ScopeNames.FreeNames.{sig_names, free_params}
-use Rattle.go_tree.specs.GoTypes.Answers.{given, both, meets, otherwise, without}
-use Rattle.go_tree.specs.GoTypes.Types.{named_type}
-use Rattle.go_tree.specs.GoTypes.Entities.{World, Env, Binds, extend, in_block}
-use Rattle.go_tree.specs.GoTypes.TypeNames.{func_type}
-use Rattle.go_tree.specs.GoTypes.Bodies.{body_binds, body_ctx, is_body}
-use Rattle.go_tree.specs.GoTypes.Typing.{stmts, used_stmts}
-use Rattle.go_tree.specs.ScopeNames.Means.{Environment}
-use Rattle.go_tree.specs.GoTypes.Entities.{Entity}
-use Rattle.go_tree.specs.GoTypes.Programs.{Header, a_func, Headed, header_names}
-use Rattle.go_tree.specs.GoTypes.Collect.{env_of, DeclaredTypes, MethodName, alias_entity, type_declared, good_entity, declared_by, method_header, declared_on, receiver_binds}
-use Rattle.go_tree.specs.GoTypes.WellTyped.{is_method, receiver_of, receiver_names, header_uses, body_ok}
-use Rattle.go_tree.specs.GoTypes.SingleNames.{single_names, with_header}
+use Rattle.go_rules.specs.ScopeNames.FreeNames.{sig_names, free_params}
+use Rattle.go_rules.specs.GoTypes.Answers.{given, both, meets, otherwise, without}
+use Rattle.go_rules.specs.GoTypes.Types.{named_type}
+use Rattle.go_rules.specs.GoTypes.Entities.{World, Env, Binds, extend, in_block}
+use Rattle.go_rules.specs.GoTypes.TypeNames.{func_type}
+use Rattle.go_rules.specs.GoTypes.Bodies.{body_binds, body_ctx, is_body}
+use Rattle.go_rules.specs.GoTypes.Typing.{stmts, used_stmts}
+use Rattle.go_rules.specs.ScopeNames.Means.{Environment}
+use Rattle.go_rules.specs.GoTypes.Entities.{Entity}
+use Rattle.go_rules.specs.GoTypes.Programs.{Header, a_func, Headed, header_names}
+use Rattle.go_rules.specs.GoTypes.Collect.{env_of, DeclaredTypes, MethodName, alias_entity, type_declared, good_entity, declared_by, method_header, declared_on, receiver_binds}
+use Rattle.go_rules.specs.GoTypes.WellTyped.{is_method, receiver_of, receiver_names, header_uses, body_ok}
+use Rattle.go_rules.specs.GoTypes.SingleNames.{single_names, with_header}
 use Rattle.typed_in_place.specs.ProgramsAlike.{OneByOne, no_more, and_more, NameStands}
 use Rattle.go_kernel.specs.Kernel as kernel
 use Rattle.go_kernel.specs.Kernel.{ImportPath}
@@ -25,7 +25,7 @@ use Rattle.go_translation.specs.Mentions.{Mention, mentions_stmts}
 use Rattle.go_translation.specs.Here.{Here, at_body, function_of}
 use Rattle.go_translation.specs.Translation.{stmts_term}
 use Rattle.go_translation.specs.Packages.{binds_or_none, file_here, function_names, named_code, header_functions, header_initial}
-use Rattle.go_tree.specs.GoTypes.Types.{FuncType}
+use Rattle.go_rules.specs.GoTypes.Types.{FuncType}
 use Rattle.taken_aliases.specs.AliasReceivers.Receivers.{received, ReceiverNamed, same_header, other_receiver}
 
 module _ {S : Type 0} {w : World} where

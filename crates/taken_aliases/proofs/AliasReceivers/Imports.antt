@@ -2,11 +2,11 @@
 use Rattle.std.specs.Prelude.{◌≡◌, refl, ℕ, suc, Bool, ◌&&◌, ◌||◌, List, [], ◌∷◌, is_none}
 use Rattle.std.specs.List.{list_all}
 use mathlib.Core.Path.{◌∙◌}
-use Rattle.go_tree.specs.ScopeNames.Means.{is_blank}
-use Rattle.go_tree.specs.GoTypes.Answers.{one_of}
-use Rattle.go_tree.specs.GoTypes.Entities.{World}
-use Rattle.go_tree.specs.GoTypes.Programs.{Headed, Import, SourceFile, SourcePackage, Program, import_sound}
-use Rattle.go_tree.specs.GoTypes.WellTyped.{refused_unless, is_used_in, first_import, header_uses}
+use Rattle.go_rules.specs.ScopeNames.Means.{is_blank}
+use Rattle.go_rules.specs.GoTypes.Answers.{one_of}
+use Rattle.go_rules.specs.GoTypes.Entities.{World}
+use Rattle.go_rules.specs.GoTypes.Programs.{Headed, Import, SourceFile, SourcePackage, Program, import_sound}
+use Rattle.go_rules.specs.GoTypes.WellTyped.{refused_unless, is_used_in, first_import, header_uses}
 use Rattle.typed_in_place.specs.ImportRule.{files_import, package_imports}
 use Rattle.typed_in_place.specs.ProgramsAlike.{OneByOne, no_more, and_more}
 use Rattle.typed_in_place.proofs.ImportRule.{used_kept}

@@ -1,11 +1,11 @@
 -- A program in which the types of receivers have other names stands in place of the one before, beside further packages.
 use Rattle.std.specs.Prelude.{◌≡◌, ◌++◌}
 use mathlib.Core.Path.{◌∙◌}
-use Rattle.go_tree.specs.GoTypes.Entities.{World}
-use Rattle.go_tree.specs.GoTypes.Programs.{Header, Headed, Program, headed}
-use Rattle.go_tree.specs.GoTypes.SingleNames.{with_header}
-use Rattle.go_tree.specs.GoTypes.Collect.{alias_entity, type_declared, good_entity, declared_by, method_header, declared_on, collected}
-use Rattle.go_tree.specs.GoTypes.WellTyped.{body_ok}
+use Rattle.go_rules.specs.GoTypes.Entities.{World}
+use Rattle.go_rules.specs.GoTypes.Programs.{Header, Headed, Program, headed}
+use Rattle.go_rules.specs.GoTypes.SingleNames.{with_header}
+use Rattle.go_rules.specs.GoTypes.Collect.{alias_entity, type_declared, good_entity, declared_by, method_header, declared_on, collected}
+use Rattle.go_rules.specs.GoTypes.WellTyped.{body_ok}
 use Rattle.typed_in_place.specs.ProgramsAlike.{OneByOne, AliasesStand, TypesStand, NameStands, ValuesStand, BodiesAlike}
 use Rattle.typed_in_place.specs.ProgramReplaced.{at_last, InPlaceBeside, All, Apart}
 use Rattle.typed_in_place.proofs.ProgramsReplaced.{one_by_one}

@@ -6,7 +6,7 @@ use Rattle.go_tree.specs.declared.spans.Span.{Span}
 use Rattle.go_tree.specs.Tree.{NameAt, Exprs, no_exprs, expr_and, Stmt, const_decl, var_decl, empty, eval, step, assign, define, return_, break_, continue_, inner, if_, for_, range_, switch, defer, label, ValueSpecs, no_specs, spec}
 use Rattle.go_tree.specs.File.{TypeSpec, Decl, values, types, func, File}
 use Rattle.pkg_graph.specs.Package.{SourceTree, Package}
-use Rattle.go_tree.specs.GoTypes.Answers.{given, meets}
+use Rattle.go_rules.specs.GoTypes.Answers.{given, meets}
 use Rattle.run_rules.specs.Respanned.{decl_with, decls_with}
 use Rattle.run_rules.specs.Rewriting.{Changes}
 use Rattle.run_rules.specs.Run.{Standing, Logged, Next, here_of, origin_of}

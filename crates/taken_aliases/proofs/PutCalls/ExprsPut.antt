@@ -9,7 +9,7 @@ use Rattle.go_layout.specs.Layouts.{Layout}
 use Rattle.go_layout.specs.Parens.{needs_parens}
 use Rattle.go_layout.specs.LayoutLaws.Formed.{is_call, FormedType}
 use Rattle.pkg_graph.specs.Package.{Package}
-use Rattle.go_tree.specs.ScopeNames.Scopes.{expr_span}
+use Rattle.go_rules.specs.ScopeNames.Scopes.{expr_span}
 use Rattle.run_rules.specs.FormTrees.{as_expr, type_expr}
 use Rattle.run_rules.specs.Inlining.{ReadsAs}
 use Rattle.run_rules.specs.Programs.{decl_seen}

@@ -10,7 +10,7 @@ use Rattle.go_layout.specs.Parens.{needs_parens, ends_in_integer, header_within,
 use Rattle.go_layout.specs.TreeLayout.{expr_layout}
 use Rattle.go_layout.specs.LayoutLaws.Formed.{FormedType, FormedOperand}
 use Rattle.go_layout.proofs.LayoutLaws.BareLayouts.{expr_bare}
-use Rattle.go_tree.specs.GoTypes.Answers.{meets}
+use Rattle.go_rules.specs.GoTypes.Answers.{meets}
 use Rattle.splice_laws.specs.ImportSplices.FormSplices.Laws.{ends_in_type}
 use Rattle.splice_laws.proofs.ImportSplices.FormSplices.FormLayouts.{laid-alike}
 use Rattle.run_rules.specs.FormTrees.{as_expr, type_expr}

@@ -5,7 +5,7 @@ use Rattle.go_tree.specs.declared.spans.Span.{Span}
 use Rattle.go_tree.specs.Tree.{TypeExpr, named}
 use Rattle.go_tree.specs.File.{File}
 use Rattle.go_tree.specs.FileBare.{bare_file}
-use Rattle.go_tree.specs.ScopeNames.Identifiers.{type_identifiers}
+use Rattle.go_rules.specs.ScopeNames.Identifiers.{type_identifiers}
 use Rattle.order_runs.specs.CycleRuns.Linked.{Linked, SettlesFile}
 use Rattle.splice_laws.specs.ImportSplices.AddedFile.{AreWritable}
 use Rattle.order_runs.specs.CycleRuns.KeptImports.Files.{PutsNode, RemovesNoNames}

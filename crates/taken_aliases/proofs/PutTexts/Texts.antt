@@ -5,10 +5,10 @@ use Rattle.std.proofs.lemmas.Option.{same_Some}
 use Rattle.go_tree.specs.Tree.{NameAt, TypeExpr, named, pointer, slice_type, map_type, struct_type, Fields, no_fields, field, Exprs, no_exprs, expr_and, const_decl, ValueSpecs, no_specs, spec}
 use Rattle.go_tree.specs.Bare.{bare_type, bare_fields}
 use Rattle.go_tree.specs.File.{TypeSpec, Decl, values, types, func}
-use Rattle.go_tree.specs.ScopeNames.Identifiers.{type_identifiers, fields_identifiers}
+use Rattle.go_rules.specs.ScopeNames.Identifiers.{type_identifiers, fields_identifiers}
 use Rattle.go_layout.specs.LayoutLaws.Formed.{FormedType, FormedFields, FormedLiteralType}
 use Rattle.constant_steps.specs.FormImports.Written.{NoneUnnamed}
-use Rattle.go_tree.specs.GoTypes.Answers.{given}
+use Rattle.go_rules.specs.GoTypes.Answers.{given}
 use Rattle.run_rules.specs.Respanned.{type_with, fields_with, decl_with, type_spec_with}
 use Rattle.run_rules.specs.Run.{Standing, here_of}
 use Rattle.run_rules.specs.Sites.{MarkRef, Where, Inlinable, an_alias, aliased, constant_in_spec, nth_constant, less, inlinable_in, where_is, inlinable}

@@ -3,12 +3,12 @@ use Rattle.std.proofs.Common.{◌≡◌, ℕ, Bool, true, false, nat_eq, List, [
 use Rattle.std.specs.Prelude.{if◌then◌else◌}
 use Rattle.std.proofs.lemmas.Bool.Decides.{nat_tests}
 use Rattle.go_tree.specs.Tree.{NameAt, TypeExpr, named, pointer, slice_type, map_type, struct_type, Fields, no_fields, field}
-use Rattle.go_tree.specs.ScopeNames.Identifiers.{name_option, type_identifiers, fields_identifiers}
+use Rattle.go_rules.specs.ScopeNames.Identifiers.{name_option, type_identifiers, fields_identifiers}
 use Rattle.go_layout.specs.LayoutLaws.Formed.{IsName, FormedName, FormedType, FormedFields, FormedLiteralType}
 use Rattle.pkg_graph.specs.Package.{Package}
 use Rattle.run_rules.specs.ImportRules.Needs.{serving, avoided}
-use Rattle.go_tree.specs.GoTypes.Answers.{given}
-use Rattle.go_tree.specs.GoTypes.Agreement.{In, head, tail}
+use Rattle.go_rules.specs.GoTypes.Answers.{given}
+use Rattle.go_rules.specs.GoTypes.Agreement.{In, head, tail}
 use Rattle.run_rules.specs.Naming.{Names, Named, unnamed, unnamed_package, new_first, unnamed_in, names_by, member_qualifier, import_qualifier, qualified, qualified_or, type_there, fields_there, named_package, named_packages, name_added, package_path, own_name, names_here, environment_here, fresh_name, added_import}
 use Rattle.run_rules.specs.Sites.{Where, outer_meaning, qualifier}
 use Rattle.run_rules.specs.Steps.{At}

@@ -6,17 +6,17 @@ use Rattle.std.proofs.Common.{arith}
 use Rattle.std.proofs.lemmas.Slice.Eq.{bytes_eq-Decides}
 use Rattle.go_tree.specs.Tree.{NameAt, Expr}
 use Rattle.go_tree.specs.File.{Decl}
-use Rattle.go_tree.specs.ScopeNames.Means.{Environment, means, is_blank, or_else}
-use Rattle.go_tree.specs.ScopeNames.FreeNames.{names_of}
+use Rattle.go_rules.specs.ScopeNames.Means.{Environment, means, is_blank, or_else}
+use Rattle.go_rules.specs.ScopeNames.FreeNames.{names_of}
 use Rattle.pkg_graph.specs.Package.{Package}
 use Rattle.pkg_graph.specs.Members as block
 use Rattle.pkg_graph.specs.Members.{Target, member, items_from, decls_from, package_block}
-use Rattle.go_tree.specs.GoTypes.Answers.{is_among, only_if}
-use Rattle.go_tree.specs.GoTypes.Entities.{Entity, World}
-use Rattle.go_tree.specs.GoTypes.Declarations.{names_once}
-use Rattle.go_tree.specs.GoTypes.Programs.{Header, constants, variables, a_type_spec, a_func, Headed, SourceFile, SourcePackage, Program, headers, all_headers, header_names, names_in, header_sound, headed_file, headed_files, headed_package, headed, file_block, block_names, is_init, is_main}
-use Rattle.go_tree.specs.GoTypes.Collect.{DeclaredTypes, types_declared, collected}
-use Rattle.go_tree.specs.GoTypes.WellTyped.{is_method, well_typed}
+use Rattle.go_rules.specs.GoTypes.Answers.{is_among, only_if}
+use Rattle.go_rules.specs.GoTypes.Entities.{Entity, World}
+use Rattle.go_rules.specs.GoTypes.Declarations.{names_once}
+use Rattle.go_rules.specs.GoTypes.Programs.{Header, constants, variables, a_type_spec, a_func, Headed, SourceFile, SourcePackage, Program, headers, all_headers, header_names, names_in, header_sound, headed_file, headed_files, headed_package, headed, file_block, block_names, is_init, is_main}
+use Rattle.go_rules.specs.GoTypes.Collect.{DeclaredTypes, types_declared, collected}
+use Rattle.go_rules.specs.GoTypes.WellTyped.{is_method, well_typed}
 use Rattle.typed_in_place.specs.ImportRule.{imports_sound}
 use Rattle.typed_in_place.specs.ProgramReplaced.{All, all_of_none, all_and}
 use Rattle.typed_in_place.proofs.Rising.{and_first, and_second}

@@ -4,11 +4,11 @@ use Rattle.std.specs.Prelude.{◌≡◌, ℕ, Bool, true, List, ◌++◌, None}
 use Rattle.go_tree.specs.declared.spans.Span.{Span}
 use Rattle.go_tree.specs.Tree.{NameAt, named}
 use Rattle.go_tree.specs.File.{TypeSpec, File}
-use Rattle.go_tree.specs.ScopeNames.Means.{Environment}
+use Rattle.go_rules.specs.ScopeNames.Means.{Environment}
 use Rattle.pkg_graph.specs.Package as run
-use Rattle.go_tree.specs.GoTypes.Entities.{Entity, World}
-use Rattle.go_tree.specs.GoTypes.Programs.{Program, Headed, headed}
-use Rattle.go_tree.specs.GoTypes.Collect.{file_env}
+use Rattle.go_rules.specs.GoTypes.Entities.{Entity, World}
+use Rattle.go_rules.specs.GoTypes.Programs.{Program, Headed, headed}
+use Rattle.go_rules.specs.GoTypes.Collect.{file_env}
 use Rattle.typed_in_place.specs.Aliases.{TypesEnd}
 use Rattle.typed_in_place.specs.ProgramReplaced.{InPlaceBeside, All, Apart}
 use Rattle.go_translation.specs.Packages.{Package, sources, are_distinct}

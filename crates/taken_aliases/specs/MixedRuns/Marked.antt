@@ -6,7 +6,7 @@ use Rattle.go_tree.specs.File.{Decl}
 use Rattle.go_kernel.specs.Kernel.{FuncName}
 use Rattle.go_translation.specs.Packages as translated
 use Rattle.go_translation.specs.SameMeaning.{WellTyped, with_further}
-use Rattle.go_tree.specs.GoTypes.Answers.{meets}
+use Rattle.go_rules.specs.GoTypes.Answers.{meets}
 use Rattle.pkg_graph.specs.Package.{Package}
 use Rattle.run_rules.specs.FormTrees.{as_type}
 use Rattle.run_rules.specs.Sites.{MarkRef, an_expr, a_type_part, is_function, is_among_marks, inlinable}

@@ -24,7 +24,7 @@ use Rattle.run_rules.specs.Sites.{MarkRef}
 use Rattle.run_rules.specs.Steps.{At}
 use Rattle.run_rules.specs.Surroundings.{Use, Place, seen}
 use Rattle.run_rules.specs.Texts.{FileText}
-use Rattle.go_tree.specs.ScopeNames.Scopes.{expr_span}
+use Rattle.go_rules.specs.ScopeNames.Scopes.{expr_span}
 use Rattle.put_names.specs.ReadImports.PutInText.{PutInText}
 use Rattle.splice_laws.specs.Dots.{UndottedFile}
 use Rattle.put_names.specs.Laws.{PackagesAreWritable}

@@ -2,12 +2,12 @@
 -- Declarations and scope; Package block; Import declarations; Program initialization and execution).
 use Rattle.std.specs.Prelude.{◌≡◌, ℕ, true, false, List, [], map, Some, slice_get}
 use Rattle.go_tree.specs.Tree.{Expr}
-use Rattle.go_tree.specs.ScopeNames.Means.{means}
+use Rattle.go_rules.specs.ScopeNames.Means.{means}
 use Rattle.pkg_graph.specs.Members.{Target, package_block}
 use Rattle.pkg_graph.specs.Package.{Package}
-use Rattle.go_tree.specs.GoTypes.Programs.{Program, headed, block_names, is_init}
-use Rattle.go_tree.specs.GoTypes.Collect.{types_declared, collected}
-use Rattle.go_tree.specs.GoTypes.WellTyped.{well_typed}
+use Rattle.go_rules.specs.GoTypes.Programs.{Program, headed, block_names, is_init}
+use Rattle.go_rules.specs.GoTypes.Collect.{types_declared, collected}
+use Rattle.go_rules.specs.GoTypes.WellTyped.{well_typed}
 use Rattle.typed_in_place.specs.ImportRule.{imports_sound}
 use Rattle.typed_in_place.specs.ProgramReplaced.{All}
 use Rattle.constant_steps.specs.StepLaws.PartsTyped.{HeaderTyped}

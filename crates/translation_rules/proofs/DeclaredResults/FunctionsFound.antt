@@ -7,18 +7,18 @@ use Rattle.std.proofs.lemmas.Slice.Eq.{bytes_eq-Decides}
 use Rattle.std.proofs.lemmas.List.{append_assoc}
 use Rattle.go_tree.specs.Tree.{Sig}
 use Rattle.go_tree.specs.File.{Receiver, Func as Function}
-use Rattle.go_tree.specs.ScopeNames.Means.{Environment, means, is_blank, binding}
-use Rattle.go_tree.specs.ScopeNames.FreeNames.{names_of}
-use Rattle.go_tree.specs.GoTypes.Answers.{given, only_if, otherwise, both, answers_of}
-use Rattle.go_tree.specs.GoTypes.Types.{FuncType}
-use Rattle.go_tree.specs.GoTypes.Entities.{Entity, function, refused, World, Binds, block_of, exported, is_exported}
-use Rattle.go_tree.specs.GoTypes.TypeNames.{func_type, params_meant}
-use Rattle.go_tree.specs.GoTypes.Declarations.{bind_each}
-use Rattle.go_tree.specs.GoTypes.Bodies.{body_binds}
-use Rattle.go_tree.specs.GoTypes.Programs.{SourceFile, constants, variables, a_type_spec, a_func, Header, Headed, headed_file, headed_files, headed_package, headed, header_names, all_headers, names_in, file_block, block_names, is_main}
-use Rattle.go_tree.specs.GoTypes.Collect.{env_of, collected, valued_world, types_declared, DeclaredTypes, declared_by, package_constants, package_variables, func_declared, function_declared, may_be_main, good_entity, binds_or_refused, block_by, blocks_by}
-use Rattle.go_tree.specs.GoTypes.MethodDeclarations.{DeclaredMethod, methods_from, receiver_type}
-use Rattle.go_tree.proofs.GoTypes.Agreeing.{from_given}
+use Rattle.go_rules.specs.ScopeNames.Means.{Environment, means, is_blank, binding}
+use Rattle.go_rules.specs.ScopeNames.FreeNames.{names_of}
+use Rattle.go_rules.specs.GoTypes.Answers.{given, only_if, otherwise, both, answers_of}
+use Rattle.go_rules.specs.GoTypes.Types.{FuncType}
+use Rattle.go_rules.specs.GoTypes.Entities.{Entity, function, refused, World, Binds, block_of, exported, is_exported}
+use Rattle.go_rules.specs.GoTypes.TypeNames.{func_type, params_meant}
+use Rattle.go_rules.specs.GoTypes.Declarations.{bind_each}
+use Rattle.go_rules.specs.GoTypes.Bodies.{body_binds}
+use Rattle.go_rules.specs.GoTypes.Programs.{SourceFile, constants, variables, a_type_spec, a_func, Header, Headed, headed_file, headed_files, headed_package, headed, header_names, all_headers, names_in, file_block, block_names, is_main}
+use Rattle.go_rules.specs.GoTypes.Collect.{env_of, collected, valued_world, types_declared, DeclaredTypes, declared_by, package_constants, package_variables, func_declared, function_declared, may_be_main, good_entity, binds_or_refused, block_by, blocks_by}
+use Rattle.go_rules.specs.GoTypes.MethodDeclarations.{DeclaredMethod, methods_from, receiver_type}
+use Rattle.go_rules.proofs.GoTypes.Agreeing.{from_given}
 use Rattle.typed_in_place.proofs.Collected.{valued_settled}
 use Rattle.typed_in_place.proofs.MethodsAside.{type_meant_methods}
 use Rattle.go_kernel.specs.Kernel.{ImportPath, FuncName, Func}

@@ -5,18 +5,18 @@ use mathlib.Core.Path.{ap, ap₂, sym, ◌∙◌, subst}
 use Rattle.std.proofs.Common.{arith}
 use Rattle.std.proofs.lemmas.Slice.Eq.{bytes_eq-Decides}
 use Rattle.go_tree.specs.File.{Receiver, Func as Function}
-use Rattle.go_tree.specs.ScopeNames.Means.{is_blank}
-use Rattle.go_tree.specs.GoTypes.Answers.{given, only_if, both, and_also, is_among}
-use Rattle.go_tree.specs.GoTypes.Types.{FuncType, named_type, type_name_of, base_of}
-use Rattle.go_tree.specs.GoTypes.Defined.{Method, Defined}
-use Rattle.go_tree.specs.GoTypes.Entities.{World, Binds, meaning, type_of_name}
-use Rattle.go_tree.specs.GoTypes.TypeNames.{func_type, params_meant}
-use Rattle.go_tree.specs.GoTypes.Bodies.{body_binds}
-use Rattle.go_tree.specs.GoTypes.Primary.{find_method}
-use Rattle.go_tree.specs.GoTypes.Programs.{constants, variables, a_type_spec, a_func, func_of, Header, Headed}
-use Rattle.go_tree.specs.GoTypes.Collect.{env_of, DeclaredTypes}
-use Rattle.go_tree.specs.GoTypes.MethodDeclarations.{MethodName, DeclaredMethod, fields_under, has_method_name, is_new_method, methods_on, receiver_type, receiver_binds, method_declared, method_header, declared_on, methods_from}
-use Rattle.go_tree.specs.GoTypes.WellTyped.{is_method}
+use Rattle.go_rules.specs.ScopeNames.Means.{is_blank}
+use Rattle.go_rules.specs.GoTypes.Answers.{given, only_if, both, and_also, is_among}
+use Rattle.go_rules.specs.GoTypes.Types.{FuncType, named_type, type_name_of, base_of}
+use Rattle.go_rules.specs.GoTypes.Defined.{Method, Defined}
+use Rattle.go_rules.specs.GoTypes.Entities.{World, Binds, meaning, type_of_name}
+use Rattle.go_rules.specs.GoTypes.TypeNames.{func_type, params_meant}
+use Rattle.go_rules.specs.GoTypes.Bodies.{body_binds}
+use Rattle.go_rules.specs.GoTypes.Primary.{find_method}
+use Rattle.go_rules.specs.GoTypes.Programs.{constants, variables, a_type_spec, a_func, func_of, Header, Headed}
+use Rattle.go_rules.specs.GoTypes.Collect.{env_of, DeclaredTypes}
+use Rattle.go_rules.specs.GoTypes.MethodDeclarations.{MethodName, DeclaredMethod, fields_under, has_method_name, is_new_method, methods_on, receiver_type, receiver_binds, method_declared, method_header, declared_on, methods_from}
+use Rattle.go_rules.specs.GoTypes.WellTyped.{is_method}
 use Rattle.typed_in_place.proofs.MethodsAside.{under_methods}
 use Rattle.go_kernel.specs.Kernel.{ImportPath, FuncName, Func, same_func, declared}
 use Rattle.go_translation.specs.Values.{path_of}

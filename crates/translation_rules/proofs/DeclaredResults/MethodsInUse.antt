@@ -1,11 +1,11 @@
 -- Checks: of two methods with one name on one type the first counts; a method `_` with a parameter's name twice is code,
 -- but no method.
 use Rattle.std.specs.Prelude.{◌≡◌, refl, ℕ, false, List, [], ◌∷◌, length, Option, Some, None, codes}
-use Rattle.go_tree.specs.GoTypes.Types.{named_type}
-use Rattle.go_tree.specs.GoTypes.Defined.{methods}
-use Rattle.go_tree.specs.GoTypes.Primary.{find_method}
-use Rattle.go_tree.specs.GoTypes.Collect.{collected}
-use Rattle.go_tree.proofs.GoTypes.Trees.{ty, st, par, sig, int, ret, type_at, method_at, file, pack}
+use Rattle.go_rules.specs.GoTypes.Types.{named_type}
+use Rattle.go_rules.specs.GoTypes.Defined.{methods}
+use Rattle.go_rules.specs.GoTypes.Primary.{find_method}
+use Rattle.go_rules.specs.GoTypes.Collect.{collected}
+use Rattle.go_rules.proofs.GoTypes.Trees.{ty, st, par, sig, int, ret, type_at, method_at, file, pack}
 use Rattle.go_tree.specs.Tree.{Param}
 use Rattle.go_translation.specs.Calls.{method_named}
 use Rattle.go_translation.specs.Packages.{Package, sources, codes_of, program_of}

@@ -3,16 +3,16 @@ use Rattle.std.specs.Prelude.{◌≡◌, refl, ℕ, Bool, true, false, ◌&&◌,
 use mathlib.Core.Path.{sym, ◌∙◌, subst}
 use Rattle.std.proofs.Common.{arith}
 use Rattle.std.proofs.lemmas.Slice.Eq.{bytes_eq-Decides}
-use Rattle.go_tree.specs.ScopeNames.Means.{is_blank}
-use Rattle.go_tree.specs.GoTypes.Answers.{only_if, and_also}
-use Rattle.go_tree.specs.GoTypes.Types.{named_type}
-use Rattle.go_tree.specs.GoTypes.Defined.{Method, Defined, methods, declared_methods, find_defined}
-use Rattle.go_tree.specs.GoTypes.Entities.{World}
-use Rattle.go_tree.specs.GoTypes.Primary.{find_method}
-use Rattle.go_tree.specs.GoTypes.Programs.{Headed, headed}
-use Rattle.go_tree.specs.GoTypes.Collect.{collected, valued_world, types_declared, DeclaredTypes}
-use Rattle.go_tree.specs.GoTypes.MethodDeclarations.{MethodName, DeclaredMethod, is_new_method, declared_on, methods_on, with_methods, method_header, methods_from}
-use Rattle.go_tree.specs.GoTypes.WellTyped.{is_method}
+use Rattle.go_rules.specs.ScopeNames.Means.{is_blank}
+use Rattle.go_rules.specs.GoTypes.Answers.{only_if, and_also}
+use Rattle.go_rules.specs.GoTypes.Types.{named_type}
+use Rattle.go_rules.specs.GoTypes.Defined.{Method, Defined, methods, declared_methods, find_defined}
+use Rattle.go_rules.specs.GoTypes.Entities.{World}
+use Rattle.go_rules.specs.GoTypes.Primary.{find_method}
+use Rattle.go_rules.specs.GoTypes.Programs.{Headed, headed}
+use Rattle.go_rules.specs.GoTypes.Collect.{collected, valued_world, types_declared, DeclaredTypes}
+use Rattle.go_rules.specs.GoTypes.MethodDeclarations.{MethodName, DeclaredMethod, is_new_method, declared_on, methods_on, with_methods, method_header, methods_from}
+use Rattle.go_rules.specs.GoTypes.WellTyped.{is_method}
 use Rattle.go_translation.specs.Values.{path_of}
 use Rattle.go_translation.specs.Calls.{method_named}
 use Rattle.go_translation.specs.Packages.{Package, sources, paths_in, are_distinct, functions_of, codes_of, program_of}

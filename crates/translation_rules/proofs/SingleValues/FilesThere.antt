@@ -4,17 +4,17 @@ use Rattle.std.specs.List.{list_all}
 use mathlib.Core.Path.{ap, ◌∙◌, subst}
 use Rattle.std.proofs.Common.{arith}
 use Rattle.std.proofs.lemmas.Slice.Eq.{bytes_eq-Decides}
-use Rattle.go_tree.specs.ScopeNames.Means.{means, is_blank, binding}
-use Rattle.go_tree.specs.GoTypes.Answers.{given, both}
-use Rattle.go_tree.specs.GoTypes.Types.{GoType, basic, named_type, pointer_to, slice_of, map_of, struct_of, tuple_of, untyped, untyped_nil, FuncType}
-use Rattle.go_tree.specs.GoTypes.Defined.{Method, methods}
-use Rattle.go_tree.specs.GoTypes.Entities.{Entity, function, World, Binds, universe, block_of}
-use Rattle.go_tree.specs.GoTypes.Bodies.{body_binds}
-use Rattle.go_tree.specs.GoTypes.Primary.{find_method}
-use Rattle.go_tree.specs.GoTypes.Programs.{Import, import_entity, import_sound, file_block, Headed, func_of, headed}
-use Rattle.go_tree.specs.GoTypes.Collect.{valued_world, types_declared}
-use Rattle.go_tree.specs.GoTypes.MethodDeclarations.{DeclaredMethod, methods_from, receiver_binds, method_header}
-use Rattle.go_tree.specs.GoTypes.WellTyped.{is_method, well_typed}
+use Rattle.go_rules.specs.ScopeNames.Means.{means, is_blank, binding}
+use Rattle.go_rules.specs.GoTypes.Answers.{given, both}
+use Rattle.go_rules.specs.GoTypes.Types.{GoType, basic, named_type, pointer_to, slice_of, map_of, struct_of, tuple_of, untyped, untyped_nil, FuncType}
+use Rattle.go_rules.specs.GoTypes.Defined.{Method, methods}
+use Rattle.go_rules.specs.GoTypes.Entities.{Entity, function, World, Binds, universe, block_of}
+use Rattle.go_rules.specs.GoTypes.Bodies.{body_binds}
+use Rattle.go_rules.specs.GoTypes.Primary.{find_method}
+use Rattle.go_rules.specs.GoTypes.Programs.{Import, import_entity, import_sound, file_block, Headed, func_of, headed}
+use Rattle.go_rules.specs.GoTypes.Collect.{valued_world, types_declared}
+use Rattle.go_rules.specs.GoTypes.MethodDeclarations.{DeclaredMethod, methods_from, receiver_binds, method_header}
+use Rattle.go_rules.specs.GoTypes.WellTyped.{is_method, well_typed}
 use Rattle.go_kernel.specs.Kernel.{Program as Code}
 use Rattle.go_translation.specs.Values.{path_of}
 use Rattle.go_translation.specs.Calls.{method_named}

@@ -3,17 +3,17 @@ use Rattle.std.specs.Prelude.{◌≡◌, refl, ℕ, List, [], ◌∷◌, ◌++�
 use mathlib.Core.Path.{ap, sym, ◌∙◌, subst}
 use Rattle.go_tree.specs.Tree.{NameAt, Sig, Param}
 use Rattle.go_tree.specs.File.{Receiver, Func as Function}
-use Rattle.go_tree.specs.ScopeNames.Means.{means, binding}
-use Rattle.go_tree.specs.GoTypes.Answers.{distinct_by}
-use Rattle.go_tree.specs.GoTypes.Types.{GoType, FuncType, named_type, pointer_to}
-use Rattle.go_tree.specs.GoTypes.Defined.{methods}
-use Rattle.go_tree.specs.GoTypes.Entities.{Entity, variable, constant, stand_in, type_name, function, package_name, builtin, nil_name, iota_name, refused, World, Binds, meaning, exported}
-use Rattle.go_tree.specs.GoTypes.Declarations.{bound_names}
-use Rattle.go_tree.specs.GoTypes.Bodies.{param_binding, param_binds, body_binds}
-use Rattle.go_tree.specs.GoTypes.Primary.{find_method}
-use Rattle.go_tree.specs.GoTypes.Programs.{Headed}
-use Rattle.go_tree.specs.GoTypes.MethodDeclarations.{receiver_type, receiver_binds}
-use Rattle.go_tree.specs.GoTypes.WellTyped.{receiver_of}
+use Rattle.go_rules.specs.ScopeNames.Means.{means, binding}
+use Rattle.go_rules.specs.GoTypes.Answers.{distinct_by}
+use Rattle.go_rules.specs.GoTypes.Types.{GoType, FuncType, named_type, pointer_to}
+use Rattle.go_rules.specs.GoTypes.Defined.{methods}
+use Rattle.go_rules.specs.GoTypes.Entities.{Entity, variable, constant, stand_in, type_name, function, package_name, builtin, nil_name, iota_name, refused, World, Binds, meaning, exported}
+use Rattle.go_rules.specs.GoTypes.Declarations.{bound_names}
+use Rattle.go_rules.specs.GoTypes.Bodies.{param_binding, param_binds, body_binds}
+use Rattle.go_rules.specs.GoTypes.Primary.{find_method}
+use Rattle.go_rules.specs.GoTypes.Programs.{Headed}
+use Rattle.go_rules.specs.GoTypes.MethodDeclarations.{receiver_type, receiver_binds}
+use Rattle.go_rules.specs.GoTypes.WellTyped.{receiver_of}
 use Rattle.go_kernel.specs.Kernel.{ImportPath, Program}
 use Rattle.go_translation.specs.Values.{path_of}
 use Rattle.go_translation.specs.Here.{Location, in_frame, in_cell, no_location, Here, defined_here, location, in_inner, declaring, at_body}

@@ -2,12 +2,12 @@
 use Rattle.std.specs.Prelude.{◌≡◌, refl, true, List, Some}
 use mathlib.Core.Path.{subst}
 use Rattle.go_tree.specs.Tree.{Expr, Exprs, no_exprs, expr_and}
-use Rattle.go_tree.specs.GoTypes.Operands.{Operand, spread, takes_all}
-use Rattle.go_tree.specs.GoTypes.Bodies.{Ctx, returns}
-use Rattle.go_tree.specs.GoTypes.Typing.{parts, all_parts}
-use Rattle.go_tree.specs.GoTypes.Programs.{headed}
-use Rattle.go_tree.specs.GoTypes.Collect.{types_declared}
-use Rattle.go_tree.specs.GoTypes.WellTyped.{well_typed}
+use Rattle.go_rules.specs.GoTypes.Operands.{Operand, spread, takes_all}
+use Rattle.go_rules.specs.GoTypes.Bodies.{Ctx, returns}
+use Rattle.go_rules.specs.GoTypes.Typing.{parts, all_parts}
+use Rattle.go_rules.specs.GoTypes.Programs.{headed}
+use Rattle.go_rules.specs.GoTypes.Collect.{types_declared}
+use Rattle.go_rules.specs.GoTypes.WellTyped.{well_typed}
 use Rattle.go_kernel.specs.Kernel.{Program}
 use Rattle.go_translation.specs.Mentions.{Way, mentions, mentions_all}
 use Rattle.go_translation.specs.Here.{Here, defined_here}

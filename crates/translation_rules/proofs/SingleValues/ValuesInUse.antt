@@ -1,11 +1,11 @@
 -- Checks: the law used on a small package; where a package isn't well typed a value's term may give none.
 use Rattle.std.specs.Prelude.{◌≡◌, refl, ℕ, false, List, [], ◌∷◌, Option, Some, None, codes}
-use Rattle.go_tree.specs.declared.const_eval.kinds.Kind.TheVariants as kind
-use Rattle.go_tree.specs.GoTypes.Types.{basic}
-use Rattle.go_tree.specs.GoTypes.Collect.{collected}
-use Rattle.go_tree.specs.GoTypes.Programs.{Headed, headed}
-use Rattle.go_tree.specs.GoTypes.WellTyped.{well_typed}
-use Rattle.go_tree.proofs.GoTypes.Trees.{ty, par, sig, v, int, app, ret, func_at, file, pack}
+use Rattle.go_rules.specs.declared.const_eval.kinds.Kind.TheVariants as kind
+use Rattle.go_rules.specs.GoTypes.Types.{basic}
+use Rattle.go_rules.specs.GoTypes.Collect.{collected}
+use Rattle.go_rules.specs.GoTypes.Programs.{Headed, headed}
+use Rattle.go_rules.specs.GoTypes.WellTyped.{well_typed}
+use Rattle.go_rules.proofs.GoTypes.Trees.{ty, par, sig, v, int, app, ret, func_at, file, pack}
 use Rattle.go_kernel.specs.Conditions.{width}
 use Rattle.go_translation.specs.Here.{Here}
 use Rattle.go_translation.specs.Packages.{Package, sources, paths_in, codes_of, program_of, file_here}

@@ -2,7 +2,7 @@
 use Rattle.std.specs.Prelude.{◌≡◌, ℕ, Bool, true, false, List, [], ◌∷◌, ◌++◌, Option, Some, None}
 use Rattle.std.proofs.Common.{inl, inr}
 use Rattle.go_tree.specs.Tree.{NameAt, Param, Sig, Expr, ident, int_lit, rune_lit, str_lit, composite, selector, index, slice, call, func_lit, type_operand, unary, binary, star, Exprs, no_exprs, expr_and, ExprOption, no_expr, some_expr, Elems, no_elems, elem, Value, plain, braced, ValueOption, no_value, some_value, Stmt, const_decl, var_decl, empty, eval, step, assign, define, return_, break_, continue_, inner, if_, for_, range_, switch, defer, label, Stmts, no_stmts, stmt_and, StmtOption, no_stmt, some_stmt, BlockOption, no_block, some_block, RangeLeft, nothing, assigns, defines, Arms, no_arms, arm, Cases, no_cases, case, ValueSpecs, no_specs, spec}
-use Rattle.go_tree.specs.ScopeNames.FreeNames.{names_of, name_then, params_names, sig_names}
+use Rattle.go_rules.specs.ScopeNames.FreeNames.{names_of, name_then, params_names, sig_names}
 use Rattle.go_layout.specs.LayoutLaws.Formed.{FormedNames, FormedNamed, FormedUnnamed, FormedParams, FormedSig, FormedExpr, FormedExprs, FormedOption, FormedElems, FormedKey, FormedValue, FormedStmt, FormedStmts, FormedPart, FormedArms, FormedBlock, FormedLeft, FormedCases, FormedSpecs, IsNamed, IsUnnamed, is_simple}
 use Rattle.go_translation.specs.Spelled.{AllSpelled, IsSimple, SpelledExpr, SpelledExprs, SpelledOption, SpelledElems, SpelledKey, SpelledValue, SpelledStmt, SpelledStmts, SpelledFirst, SpelledBlock, SpelledLeft, SpelledArms, SpelledCases, SpelledSpecs}
 use Rattle.translation_rules.proofs.SourceNames.FirstLetters.{name_spelled}

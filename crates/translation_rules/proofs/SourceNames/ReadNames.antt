@@ -10,10 +10,10 @@ use Rattle.go_read.specs.SpellsSpans.{span_to}
 use Rattle.go_read.specs.Spells.{block_rule, var_rule}
 use Rattle.go_read.specs.SpellsFiles.{SpellsReceiver, SpellsTop, SpellsTops, SpellsFront, receiver_rule, pointer_receiver_rule, named_receiver_rule, named_pointer_receiver_rule, top_const_rule, top_var_rule, top_type_rule, top_type_group_rule, top_func_rule, top_method_rule, no_tops_rule, more_tops_rule, front_rule}
 use Rattle.go_read.proofs.Suffixes.{Suffix, whole, after, receiver_suffix, imports_suffix, top_suffix}
-use Rattle.go_tree.specs.ScopeNames.Means.{Environment}
-use Rattle.go_tree.specs.GoTypes.Entities.{Entity}
-use Rattle.go_tree.specs.GoTypes.Statements.{no_values}
-use Rattle.go_tree.specs.GoTypes.Programs.{SourceFile, Header, constants, a_type_spec, Headed, at_member, constant_headers, variable_headers, headers, all_headers, header_names, names_in, file_block, block_names, is_main, headed_file, headed_files, headed_package, headed}
+use Rattle.go_rules.specs.ScopeNames.Means.{Environment}
+use Rattle.go_rules.specs.GoTypes.Entities.{Entity}
+use Rattle.go_rules.specs.GoTypes.Statements.{no_values}
+use Rattle.go_rules.specs.GoTypes.Programs.{SourceFile, Header, constants, a_type_spec, Headed, at_member, constant_headers, variable_headers, headers, all_headers, header_names, names_in, file_block, block_names, is_main, headed_file, headed_files, headed_package, headed}
 use Rattle.go_layout.specs.LayoutLaws.Real.{AreReal}
 use Rattle.go_layout.specs.LayoutLaws.Formed.{FormedSpecs}
 use Rattle.go_layout.proofs.LayoutLaws.RealTokens.{tokens_real}

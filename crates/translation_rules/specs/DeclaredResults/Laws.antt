@@ -2,12 +2,12 @@
 -- scope", "Exported identifiers"). Each is the contract of a function of this crate.
 use Rattle.std.specs.Prelude.{◌≡◌, ℕ, true, false, List, length, Some}
 use Rattle.go_tree.specs.declared.spans.Span.{Span}
-use Rattle.go_tree.specs.ScopeNames.Means.{means, is_blank}
-use Rattle.go_tree.specs.GoTypes.Types.{named_type, FuncType}
-use Rattle.go_tree.specs.GoTypes.Defined.{Method, methods}
-use Rattle.go_tree.specs.GoTypes.Entities.{function, block_of, exported}
-use Rattle.go_tree.specs.GoTypes.Primary.{find_method}
-use Rattle.go_tree.specs.GoTypes.Collect.{collected}
+use Rattle.go_rules.specs.ScopeNames.Means.{means, is_blank}
+use Rattle.go_rules.specs.GoTypes.Types.{named_type, FuncType}
+use Rattle.go_rules.specs.GoTypes.Defined.{Method, methods}
+use Rattle.go_rules.specs.GoTypes.Entities.{function, block_of, exported}
+use Rattle.go_rules.specs.GoTypes.Primary.{find_method}
+use Rattle.go_rules.specs.GoTypes.Collect.{collected}
 use Rattle.go_translation.specs.Values.{path_of}
 use Rattle.go_translation.specs.Calls.{function_named, method_named}
 use Rattle.go_translation.specs.Packages.{Package, sources, paths_in, are_distinct, codes_of, program_of}

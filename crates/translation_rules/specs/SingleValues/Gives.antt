@@ -2,10 +2,10 @@
 -- specification, "Expressions", "Calls", "Assignment statements", "Return statements").
 use Rattle.std.specs.Prelude.{◌≡◌, List, length, Some}
 use Rattle.go_tree.specs.Tree.{Expr, Exprs}
-use Rattle.go_tree.specs.GoTypes.Types.{GoType}
-use Rattle.go_tree.specs.GoTypes.Operands.{Operand}
-use Rattle.go_tree.specs.GoTypes.Bodies.{no_values}
-use Rattle.go_tree.specs.GoTypes.Typing.{parts}
+use Rattle.go_rules.specs.GoTypes.Types.{GoType}
+use Rattle.go_rules.specs.GoTypes.Operands.{Operand}
+use Rattle.go_rules.specs.GoTypes.Bodies.{no_values}
+use Rattle.go_rules.specs.GoTypes.Typing.{parts}
 use Rattle.go_kernel.specs.Kernel.{Program}
 use Rattle.go_kernel.specs.Conditions.{width}
 use Rattle.go_translation.specs.Here.{Here}

@@ -1,7 +1,7 @@
 -- The law of numbers of values in packages. It is the contract of a function of this crate.
 use Rattle.std.specs.Prelude.{◌≡◌, true, List}
 use Rattle.go_tree.specs.declared.spans.Span.{Span}
-use Rattle.go_tree.specs.GoTypes.WellTyped.{well_typed}
+use Rattle.go_rules.specs.GoTypes.WellTyped.{well_typed}
 use Rattle.go_translation.specs.Packages.{Package, sources, are_distinct, codes_of, program_of}
 use Rattle.translation_rules.specs.RuledPackages.{AreRuled}
 use Rattle.translation_rules.specs.SingleValues.Gives.{GivesIts, GivesAll}

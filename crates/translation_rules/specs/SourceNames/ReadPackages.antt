@@ -7,7 +7,7 @@ use Rattle.go_tree.specs.declared.tokens.Comment.{Comment}
 use Rattle.go_tree.specs.File.{File}
 use Rattle.go_tree.specs.GoWords.Tokens.{TokensOf}
 use Rattle.go_read.specs.SpellsFiles.{SpellsFile}
-use Rattle.go_tree.specs.GoTypes.Programs.{SourceFile}
+use Rattle.go_rules.specs.GoTypes.Programs.{SourceFile}
 use Rattle.go_translation.specs.Packages.{Package}
 
 -- The file has the declarations of a text's tree.

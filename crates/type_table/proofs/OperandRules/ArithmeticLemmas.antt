@@ -2,19 +2,19 @@
 use Rattle.std.specs.Prelude.{◌≡◌, Bool, true, false, not, ◌&&◌, ◌||◌, List, Option, Some, None, Result, refl}
 use mathlib.Core.Path.{ap, sym, ◌∙◌, subst}
 use Rattle.go_tree.specs.declared.operators.BinOp.{BinOp}
-use Rattle.go_tree.specs.declared.const_eval.kinds.Kind.{Kind}
-use Rattle.go_tree.specs.declared.const_eval.consts.Const.{Const}
-use Rattle.go_tree.specs.declared.const_eval.consts.ConstError.{ConstError}
-use Rattle.go_tree.specs.ConstEval.Conditions.{binary_applies}
-use Rattle.go_tree.specs.ConstEval.Exact.{represents, is_truth_kind, Answers}
-use Rattle.go_tree.specs.ConstEval.Operators.{binary_value}
-use Rattle.go_tree.specs.GoTypes.Answers.{given, meets, only_if}
-use Rattle.go_tree.specs.GoTypes.Types.{GoType, is_untyped}
-use Rattle.go_tree.specs.GoTypes.Defined.{Defined}
-use Rattle.go_tree.specs.GoTypes.Identical.{identical}
-use Rattle.go_tree.specs.GoTypes.Operands.{Operand, Typed, kind_of}
-use Rattle.go_tree.specs.GoTypes.Operators.{common_type, joins, calculated_operand, divides_by_zero, arithmetic}
-use Rattle.go_tree.proofs.GoTypes.IdenticalLaws.{and_left, and_right, identical_same}
+use Rattle.go_rules.specs.declared.const_eval.kinds.Kind.{Kind}
+use Rattle.go_rules.specs.declared.const_eval.consts.Const.{Const}
+use Rattle.go_rules.specs.declared.const_eval.consts.ConstError.{ConstError}
+use Rattle.go_rules.specs.ConstEval.Conditions.{binary_applies}
+use Rattle.go_rules.specs.ConstEval.Exact.{represents, is_truth_kind, Answers}
+use Rattle.go_rules.specs.ConstEval.Operators.{binary_value}
+use Rattle.go_rules.specs.GoTypes.Answers.{given, meets, only_if}
+use Rattle.go_rules.specs.GoTypes.Types.{GoType, is_untyped}
+use Rattle.go_rules.specs.GoTypes.Defined.{Defined}
+use Rattle.go_rules.specs.GoTypes.Identical.{identical}
+use Rattle.go_rules.specs.GoTypes.Operands.{Operand, Typed, kind_of}
+use Rattle.go_rules.specs.GoTypes.Operators.{common_type, joins, calculated_operand, divides_by_zero, arithmetic}
+use Rattle.go_rules.proofs.GoTypes.IdenticalLaws.{and_left, and_right, identical_same}
 use Rattle.type_table.specs.TypeRelations.Environment.{Environment, defined_types}
 use Rattle.type_table.specs.declared.operand_rules.constants.ConstId.{ConstId}
 use Rattle.type_table.specs.declared.operand_rules.values.ValueType.{ValueType}

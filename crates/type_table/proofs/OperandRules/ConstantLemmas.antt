@@ -4,8 +4,8 @@ use Rattle.std.proofs.Common.{arith, length-append}
 use Rattle.std.proofs.Math.ListN.{get_or-append}
 use Rattle.std.proofs.Math.Seq.{get_or-append_seam}
 use mathlib.Core.Path.{ap, ◌∙◌}
-use Rattle.go_tree.specs.declared.const_eval.consts.Const.{Const}
-use Rattle.go_tree.specs.declared.const_eval.consts.Const.TheVariants.{Truth}
+use Rattle.go_rules.specs.declared.const_eval.consts.Const.{Const}
+use Rattle.go_rules.specs.declared.const_eval.consts.Const.TheVariants.{Truth}
 use Rattle.type_table.specs.OperandRules.Constants.{Grown, bytes_in, bytes_of, const_at}
 
 -- the constants that were there stay

@@ -1,15 +1,15 @@
 -- Conversions of values.
 use Rattle.std.specs.Prelude.{◌≡◌, ◌<◌, Bool, true, List, length, Some, None, Ok, refl}
 use mathlib.Core.Path.{ap, sym, ◌∙◌, subst}
-use Rattle.go_tree.specs.declared.const_eval.kinds.Kind.{Kind}
-use Rattle.go_tree.specs.declared.const_eval.consts.Const.{Const}
-use Rattle.go_tree.specs.ConstEval.Exact.{represents}
-use Rattle.go_tree.specs.GoTypes.Answers.{meets, only_if}
-use Rattle.go_tree.specs.GoTypes.Types.{basic_kind}
-use Rattle.go_tree.specs.GoTypes.Defined.{under}
-use Rattle.go_tree.specs.GoTypes.Entities.{run, exact}
-use Rattle.go_tree.specs.GoTypes.Operands.{value, plain_value}
-use Rattle.go_tree.specs.GoTypes.Primary.{converted_constant}
+use Rattle.go_rules.specs.declared.const_eval.kinds.Kind.{Kind}
+use Rattle.go_rules.specs.declared.const_eval.consts.Const.{Const}
+use Rattle.go_rules.specs.ConstEval.Exact.{represents}
+use Rattle.go_rules.specs.GoTypes.Answers.{meets, only_if}
+use Rattle.go_rules.specs.GoTypes.Types.{basic_kind}
+use Rattle.go_rules.specs.GoTypes.Defined.{under}
+use Rattle.go_rules.specs.GoTypes.Entities.{run, exact}
+use Rattle.go_rules.specs.GoTypes.Operands.{value, plain_value}
+use Rattle.go_rules.specs.GoTypes.Primary.{converted_constant}
 use Rattle.type_table.specs.declared.nodes.TypeId.{TypeId}
 use Rattle.type_table.specs.TypeRelations.Environment.{Environment, defined_types, env_type}
 use Rattle.type_table.specs.declared.operand_rules.constants.ConstId.{ConstId}

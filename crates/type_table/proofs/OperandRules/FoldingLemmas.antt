@@ -2,15 +2,15 @@
 use Rattle.std.specs.Prelude.{◌≡◌, ℤ, Bool, true, false, List, Some, None, Result, Ok, Err, if◌then◌else◌, refl}
 use Rattle.std.proofs.Common.{inl, inr}
 use mathlib.Core.Path.{ap, sym, ◌∙◌, subst}
-use Rattle.go_tree.specs.declared.const_eval.kinds.Kind.{Kind}
-use Rattle.go_tree.specs.declared.const_eval.consts.Const.{Const}
-use Rattle.go_tree.specs.declared.const_eval.consts.Const.TheVariants.{Whole, Truth, Bytes}
-use Rattle.go_tree.specs.declared.const_eval.consts.ConstError.{ConstError}
-use Rattle.go_tree.specs.declared.const_eval.consts.ConstError.TheVariants as cause
-use Rattle.go_tree.specs.ConstEval.Exact.{Exact, number, truth, text, zero_divisor, negative_count, senseless, represents, kept, is_within_128_bits, is_truth_kind, is_text_kind, Answers}
-use Rattle.go_tree.specs.GoTypes.Answers.{given, meets, only_if}
-use Rattle.go_tree.specs.GoTypes.Entities.{exact}
-use Rattle.go_tree.specs.GoTypes.Operands.{value, known, constant_value, kind_of, kind_passes}
+use Rattle.go_rules.specs.declared.const_eval.kinds.Kind.{Kind}
+use Rattle.go_rules.specs.declared.const_eval.consts.Const.{Const}
+use Rattle.go_rules.specs.declared.const_eval.consts.Const.TheVariants.{Whole, Truth, Bytes}
+use Rattle.go_rules.specs.declared.const_eval.consts.ConstError.{ConstError}
+use Rattle.go_rules.specs.declared.const_eval.consts.ConstError.TheVariants as cause
+use Rattle.go_rules.specs.ConstEval.Exact.{Exact, number, truth, text, zero_divisor, negative_count, senseless, represents, kept, is_within_128_bits, is_truth_kind, is_text_kind, Answers}
+use Rattle.go_rules.specs.GoTypes.Answers.{given, meets, only_if}
+use Rattle.go_rules.specs.GoTypes.Entities.{exact}
+use Rattle.go_rules.specs.GoTypes.Operands.{value, known, constant_value, kind_of, kind_passes}
 use Rattle.type_table.specs.TypeRelations.Environment.{Environment, defined_types}
 use Rattle.type_table.specs.declared.operand_rules.values.ValueType.{ValueType}
 use Rattle.type_table.specs.declared.operand_rules.values.Content as code

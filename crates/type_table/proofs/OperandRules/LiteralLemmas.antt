@@ -1,14 +1,14 @@
 -- Literals.
 use Rattle.std.specs.Prelude.{◌≡◌, ℤ, Bool, true, false, List, Result, Ok, Err, if◌then◌else◌, refl}
 use mathlib.Core.Path.{◌∙◌}
-use Rattle.go_tree.specs.declared.const_eval.kinds.Kind.{Kind}
-use Rattle.go_tree.specs.declared.const_eval.kinds.Kind.TheVariants as kind
-use Rattle.go_tree.specs.declared.const_eval.consts.Const.{Const}
-use Rattle.go_tree.specs.declared.const_eval.consts.Const.TheVariants.{Whole}
-use Rattle.go_tree.specs.declared.const_eval.consts.ConstError.{ConstError}
-use Rattle.go_tree.specs.declared.const_eval.consts.ConstError.TheVariants.{Overflow, Wide}
-use Rattle.go_tree.specs.ConstEval.Exact.{Exact, number, truth, text, zero_divisor, negative_count, senseless, kept, is_within_128_bits, Answers}
-use Rattle.go_tree.specs.GoTypes.Operands.{literal_operand}
+use Rattle.go_rules.specs.declared.const_eval.kinds.Kind.{Kind}
+use Rattle.go_rules.specs.declared.const_eval.kinds.Kind.TheVariants as kind
+use Rattle.go_rules.specs.declared.const_eval.consts.Const.{Const}
+use Rattle.go_rules.specs.declared.const_eval.consts.Const.TheVariants.{Whole}
+use Rattle.go_rules.specs.declared.const_eval.consts.ConstError.{ConstError}
+use Rattle.go_rules.specs.declared.const_eval.consts.ConstError.TheVariants.{Overflow, Wide}
+use Rattle.go_rules.specs.ConstEval.Exact.{Exact, number, truth, text, zero_divisor, negative_count, senseless, kept, is_within_128_bits, Answers}
+use Rattle.go_rules.specs.GoTypes.Operands.{literal_operand}
 use Rattle.type_table.specs.TypeRelations.Environment.{Environment}
 use Rattle.type_table.specs.declared.operand_rules.values.ValueType.TheVariants.{Untyped}
 use Rattle.type_table.specs.declared.operand_rules.values.Value.{Value}

@@ -3,15 +3,15 @@ use Rattle.std.specs.Prelude.{◌≡◌, ◌<◌, length, true, false, List, [],
 use Rattle.std.proofs.lemmas.List.{append-nil}
 use mathlib.Core.Path.{ap, sym, subst}
 use Rattle.go_tree.specs.declared.operators.BinOp.{BinOp}
-use Rattle.go_tree.specs.declared.const_eval.kinds.Kind.{Kind}
-use Rattle.go_tree.specs.declared.const_eval.kinds.Kind.TheVariants as kind
-use Rattle.go_tree.specs.declared.const_eval.consts.Const.{Const}
-use Rattle.go_tree.specs.ConstEval.Conditions.{binary_applies, is_number_kind, is_whole}
-use Rattle.go_tree.specs.ConstEval.Exact.{represents, is_truth_kind}
-use Rattle.go_tree.specs.GoTypes.Types.{GoType, basic, named_type, pointer_to, slice_of, map_of, struct_of, tuple_of, untyped, untyped_nil, is_untyped}
-use Rattle.go_tree.specs.GoTypes.Entities.{run, shift}
-use Rattle.go_tree.specs.GoTypes.Operands.{value, kind_of, leaves}
-use Rattle.go_tree.specs.GoTypes.Operators.{not_constant, calculated_operand, shifted_operand}
+use Rattle.go_rules.specs.declared.const_eval.kinds.Kind.{Kind}
+use Rattle.go_rules.specs.declared.const_eval.kinds.Kind.TheVariants as kind
+use Rattle.go_rules.specs.declared.const_eval.consts.Const.{Const}
+use Rattle.go_rules.specs.ConstEval.Conditions.{binary_applies, is_number_kind, is_whole}
+use Rattle.go_rules.specs.ConstEval.Exact.{represents, is_truth_kind}
+use Rattle.go_rules.specs.GoTypes.Types.{GoType, basic, named_type, pointer_to, slice_of, map_of, struct_of, tuple_of, untyped, untyped_nil, is_untyped}
+use Rattle.go_rules.specs.GoTypes.Entities.{run, shift}
+use Rattle.go_rules.specs.GoTypes.Operands.{value, kind_of, leaves}
+use Rattle.go_rules.specs.GoTypes.Operators.{not_constant, calculated_operand, shifted_operand}
 use Rattle.type_table.specs.TypeRelations.Environment.{Environment, defined_types}
 use Rattle.type_table.specs.declared.operand_rules.constants.ConstId.{ConstId}
 use Rattle.type_table.specs.declared.operand_rules.values.ValueType.{ValueType}

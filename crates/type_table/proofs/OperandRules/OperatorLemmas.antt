@@ -2,15 +2,15 @@
 use Rattle.std.specs.Prelude.{◌≡◌, ℤ, Bool, true, false, if◌then◌else◌, pos, negsuc, refl}
 use Rattle.go_tree.specs.declared.operators.BinOp.{BinOp}
 use Rattle.go_tree.specs.declared.operators.BinOp.TheVariants.{Mul, Div, Rem, Shl, Shr, And, AndNot, Add, Sub, Or, Xor, Eq, Ne, Lt, Le, Gt, Ge, LogAnd, LogOr}
-use Rattle.go_tree.specs.declared.const_eval.kinds.Kind.{Kind}
-use Rattle.go_tree.specs.declared.const_eval.kinds.Kind.TheVariants as kind
-use Rattle.go_tree.specs.declared.const_eval.consts.Const.{Const}
-use Rattle.go_tree.specs.declared.const_eval.consts.Const.TheVariants.{Whole, Truth, Bytes}
-use Rattle.go_tree.specs.ConstEval.Conditions.{fits_right, is_number_kind, binary_applies, is_whole}
-use Rattle.go_tree.specs.ConstEval.Exact.{represents, zero_divisor, number, is_truth_kind}
-use Rattle.go_tree.specs.ConstEval.Operators.{is_zero, binary_value}
-use Rattle.go_tree.specs.GoTypes.Operators.{greater_kind}
-use Rattle.go_tree.specs.GoTypes.Relations.{akin}
+use Rattle.go_rules.specs.declared.const_eval.kinds.Kind.{Kind}
+use Rattle.go_rules.specs.declared.const_eval.kinds.Kind.TheVariants as kind
+use Rattle.go_rules.specs.declared.const_eval.consts.Const.{Const}
+use Rattle.go_rules.specs.declared.const_eval.consts.Const.TheVariants.{Whole, Truth, Bytes}
+use Rattle.go_rules.specs.ConstEval.Conditions.{fits_right, is_number_kind, binary_applies, is_whole}
+use Rattle.go_rules.specs.ConstEval.Exact.{represents, zero_divisor, number, is_truth_kind}
+use Rattle.go_rules.specs.ConstEval.Operators.{is_zero, binary_value}
+use Rattle.go_rules.specs.GoTypes.Operators.{greater_kind}
+use Rattle.go_rules.specs.GoTypes.Relations.{akin}
 use Rattle.type_table.specs.OperandRules.Operators.{is_calculation, is_shift_operator}
 use Rattle.type_table.specs.OperandRules.Values.{is_untyped_kind, is_untyped_number}
 use Rattle.type_table.proofs.OperandRules.FoldingLemmas.{suits}

@@ -3,19 +3,19 @@ use Rattle.std.specs.Prelude.{◌≡◌, Bool, true, false, ◌&&◌, ◌||◌, 
 use mathlib.Core.Path.{ap, sym, ◌∙◌, subst}
 use Rattle.go_tree.specs.declared.operators.BinOp.{BinOp}
 use Rattle.go_tree.specs.declared.operators.BinOp.TheVariants.{Mul, Div, Rem, Shl, Shr, And, AndNot, Add, Sub, Or, Xor, Eq, Ne, Lt, Le, Gt, Ge, LogAnd, LogOr}
-use Rattle.go_tree.specs.declared.const_eval.kinds.Kind.{Kind}
-use Rattle.go_tree.specs.declared.const_eval.consts.Const.{Const}
-use Rattle.go_tree.specs.declared.const_eval.consts.Const.TheVariants.{Whole, Truth, Bytes}
-use Rattle.go_tree.specs.declared.const_eval.consts.ConstError.{ConstError}
-use Rattle.go_tree.specs.ConstEval.Conditions.{binary_applies, fits_right, is_number_kind, is_whole}
-use Rattle.go_tree.specs.ConstEval.Exact.{represents, Answers}
-use Rattle.go_tree.specs.ConstEval.Operators.{binary_value}
-use Rattle.go_tree.specs.GoTypes.Answers.{given, meets, only_if}
-use Rattle.go_tree.specs.GoTypes.Types.{GoType}
-use Rattle.go_tree.specs.GoTypes.Defined.{Defined}
-use Rattle.go_tree.specs.GoTypes.Entities.{exact}
-use Rattle.go_tree.specs.GoTypes.Operands.{Operand, Typed, kind_of}
-use Rattle.go_tree.specs.GoTypes.Operators.{is_count, shifted_operand, shifting}
+use Rattle.go_rules.specs.declared.const_eval.kinds.Kind.{Kind}
+use Rattle.go_rules.specs.declared.const_eval.consts.Const.{Const}
+use Rattle.go_rules.specs.declared.const_eval.consts.Const.TheVariants.{Whole, Truth, Bytes}
+use Rattle.go_rules.specs.declared.const_eval.consts.ConstError.{ConstError}
+use Rattle.go_rules.specs.ConstEval.Conditions.{binary_applies, fits_right, is_number_kind, is_whole}
+use Rattle.go_rules.specs.ConstEval.Exact.{represents, Answers}
+use Rattle.go_rules.specs.ConstEval.Operators.{binary_value}
+use Rattle.go_rules.specs.GoTypes.Answers.{given, meets, only_if}
+use Rattle.go_rules.specs.GoTypes.Types.{GoType}
+use Rattle.go_rules.specs.GoTypes.Defined.{Defined}
+use Rattle.go_rules.specs.GoTypes.Entities.{exact}
+use Rattle.go_rules.specs.GoTypes.Operands.{Operand, Typed, kind_of}
+use Rattle.go_rules.specs.GoTypes.Operators.{is_count, shifted_operand, shifting}
 use Rattle.type_table.specs.TypeRelations.Environment.{Environment, defined_types}
 use Rattle.type_table.specs.declared.operand_rules.constants.ConstId.{ConstId}
 use Rattle.type_table.specs.declared.operand_rules.values.ValueType.{ValueType}

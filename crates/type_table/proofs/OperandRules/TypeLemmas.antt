@@ -1,12 +1,12 @@
 -- Types that aren't untyped.
 use Rattle.std.specs.Prelude.{◌≡◌, false, ◌||◌, List, Some, refl}
-use Rattle.go_tree.specs.declared.const_eval.kinds.Kind.{Kind}
-use Rattle.go_tree.specs.GoTypes.Types.{GoType, basic, named_type, pointer_to, slice_of, map_of, struct_of, tuple_of, untyped, untyped_nil, is_untyped, basic_kind}
-use Rattle.go_tree.specs.GoTypes.Defined.{Defined, under}
-use Rattle.go_tree.specs.GoTypes.Answers.{only_if}
-use Rattle.go_tree.specs.GoTypes.Identical.{identical}
-use Rattle.go_tree.specs.GoTypes.Operands.{Typed, kind_of, fits}
-use Rattle.go_tree.specs.GoTypes.Operators.{common_type, joins}
+use Rattle.go_rules.specs.declared.const_eval.kinds.Kind.{Kind}
+use Rattle.go_rules.specs.GoTypes.Types.{GoType, basic, named_type, pointer_to, slice_of, map_of, struct_of, tuple_of, untyped, untyped_nil, is_untyped, basic_kind}
+use Rattle.go_rules.specs.GoTypes.Defined.{Defined, under}
+use Rattle.go_rules.specs.GoTypes.Answers.{only_if}
+use Rattle.go_rules.specs.GoTypes.Identical.{identical}
+use Rattle.go_rules.specs.GoTypes.Operands.{Typed, kind_of, fits}
+use Rattle.go_rules.specs.GoTypes.Operators.{common_type, joins}
 
 -- the kind of a type that isn't untyped is that of its underlying type
 pub kind_of_typed :

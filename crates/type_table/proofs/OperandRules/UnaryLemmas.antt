@@ -3,19 +3,19 @@ use Rattle.std.specs.Prelude.{◌≡◌, true, false, List, Some, None, Result, 
 use mathlib.Core.Path.{ap, sym, ◌∙◌, subst}
 use Rattle.go_tree.specs.declared.operators.UnOp.{UnOp}
 use Rattle.go_tree.specs.declared.operators.UnOp.TheVariants.{Plus, Minus, Not, Flip, Address}
-use Rattle.go_tree.specs.declared.const_eval.kinds.Kind.{Kind}
-use Rattle.go_tree.specs.declared.const_eval.consts.Const.{Const}
-use Rattle.go_tree.specs.declared.const_eval.consts.Const.TheVariants.{Whole, Truth, Bytes}
-use Rattle.go_tree.specs.declared.const_eval.consts.ConstError.{ConstError}
-use Rattle.go_tree.specs.ConstEval.Conditions.{unary_applies}
-use Rattle.go_tree.specs.ConstEval.Exact.{Answers}
-use Rattle.go_tree.specs.ConstEval.Operators.{unary_value}
-use Rattle.go_tree.specs.GoTypes.Answers.{given, only_if}
-use Rattle.go_tree.specs.GoTypes.Types.{GoType}
-use Rattle.go_tree.specs.GoTypes.Defined.{Defined}
-use Rattle.go_tree.specs.GoTypes.Entities.{Content, exact}
-use Rattle.go_tree.specs.GoTypes.Operands.{kind_of}
-use Rattle.go_tree.specs.GoTypes.Operators.{changed_operand, unary_value_operand}
+use Rattle.go_rules.specs.declared.const_eval.kinds.Kind.{Kind}
+use Rattle.go_rules.specs.declared.const_eval.consts.Const.{Const}
+use Rattle.go_rules.specs.declared.const_eval.consts.Const.TheVariants.{Whole, Truth, Bytes}
+use Rattle.go_rules.specs.declared.const_eval.consts.ConstError.{ConstError}
+use Rattle.go_rules.specs.ConstEval.Conditions.{unary_applies}
+use Rattle.go_rules.specs.ConstEval.Exact.{Answers}
+use Rattle.go_rules.specs.ConstEval.Operators.{unary_value}
+use Rattle.go_rules.specs.GoTypes.Answers.{given, only_if}
+use Rattle.go_rules.specs.GoTypes.Types.{GoType}
+use Rattle.go_rules.specs.GoTypes.Defined.{Defined}
+use Rattle.go_rules.specs.GoTypes.Entities.{Content, exact}
+use Rattle.go_rules.specs.GoTypes.Operands.{kind_of}
+use Rattle.go_rules.specs.GoTypes.Operators.{changed_operand, unary_value_operand}
 use Rattle.type_table.specs.TypeRelations.Environment.{Environment, defined_types}
 use Rattle.type_table.specs.declared.operand_rules.constants.ConstId.{ConstId}
 use Rattle.type_table.specs.declared.operand_rules.values.Content.TheVariants as code

@@ -1,10 +1,10 @@
 -- Constants that operators give (Go specification, Constant expressions).
 use Rattle.std.specs.Prelude.{◌≡◌, ◌<◌, Bool, false, ◌&&◌, List, length, Result, Ok, Err}
-use Rattle.go_tree.specs.declared.const_eval.kinds.Kind.{Kind}
-use Rattle.go_tree.specs.declared.const_eval.consts.Const.{Const}
-use Rattle.go_tree.specs.declared.const_eval.consts.ConstError as fault
-use Rattle.go_tree.specs.declared.const_eval.consts.ConstError.TheVariants as cause
-use Rattle.go_tree.specs.ConstEval.Exact.{Exact as ExactValue, number, text, is_text_kind}
+use Rattle.go_rules.specs.declared.const_eval.kinds.Kind.{Kind}
+use Rattle.go_rules.specs.declared.const_eval.consts.Const.{Const}
+use Rattle.go_rules.specs.declared.const_eval.consts.ConstError as fault
+use Rattle.go_rules.specs.declared.const_eval.consts.ConstError.TheVariants as cause
+use Rattle.go_rules.specs.ConstEval.Exact.{Exact as ExactValue, number, text, is_text_kind}
 use Rattle.type_table.specs.declared.operand_rules.values.ValueType.{ValueType}
 use Rattle.type_table.specs.declared.operand_rules.values.Content.{Content}
 use Rattle.type_table.specs.declared.operand_rules.values.Content.TheVariants.{Exact}

@@ -1,10 +1,10 @@
 -- Untyped shifts that aren't constant: the constants that will get their type (Go specification, Operators).
 use Rattle.std.specs.Prelude.{◌≡◌, ◌<◌, true, List, [], ◌++◌, length, Option, Some, None, int_le}
 use Rattle.std.specs.List.{list_all}
-use Rattle.go_tree.specs.declared.const_eval.kinds.Kind.{Kind}
-use Rattle.go_tree.specs.declared.const_eval.consts.Const.{Const}
-use Rattle.go_tree.specs.ConstEval.Conditions.{is_whole}
-use Rattle.go_tree.specs.ConstEval.Exact.{represents}
+use Rattle.go_rules.specs.declared.const_eval.kinds.Kind.{Kind}
+use Rattle.go_rules.specs.declared.const_eval.consts.Const.{Const}
+use Rattle.go_rules.specs.ConstEval.Conditions.{is_whole}
+use Rattle.go_rules.specs.ConstEval.Exact.{represents}
 use Rattle.type_table.specs.declared.operand_rules.constants.ConstId.{ConstId}
 use Rattle.type_table.specs.declared.operand_rules.values.ValueType.{ValueType}
 use Rattle.type_table.specs.declared.operand_rules.values.ValueType.TheVariants.{Untyped}

@@ -2,7 +2,7 @@
 use Rattle.std.specs.Prelude.{Bool, true, false, not, ◌&&◌}
 use Rattle.go_tree.specs.declared.operators.BinOp.{BinOp}
 use Rattle.go_tree.specs.declared.operators.BinOp.TheVariants.{Shl, Shr, LogAnd, LogOr}
-use Rattle.go_tree.specs.ConstEval.Operators.{is_comparison}
+use Rattle.go_rules.specs.ConstEval.Operators.{is_comparison}
 
 -- `<<` or `>>`
 abbrev pub is_shift_operator : BinOp → Bool

@@ -1,7 +1,7 @@
 -- Counts of shifts (Go specification, Operators).
 use Rattle.std.specs.Prelude.{◌≡◌, ◌<◌, true, List, length}
-use Rattle.go_tree.specs.declared.const_eval.consts.Const.{Const}
-use Rattle.go_tree.specs.ConstEval.Conditions.{is_whole}
+use Rattle.go_rules.specs.declared.const_eval.consts.Const.{Const}
+use Rattle.go_rules.specs.ConstEval.Conditions.{is_whole}
 use Rattle.type_table.specs.declared.operand_rules.values.Content.{Content}
 use Rattle.type_table.specs.declared.operand_rules.values.Content.TheVariants.{Run, Exact, Shift}
 use Rattle.type_table.specs.OperandRules.Constants.{const_at}

@@ -3,18 +3,18 @@
 use Rattle.std.specs.Prelude.{◌≡◌, ◌<◌, ◌&&◌, Bool, true, false, List, [], ◌∷◌, length, Option}
 use Rattle.std.specs.Prelude.{Some, None, Result, Ok, Err, int_le}
 use Rattle.std.specs.List.{list_all}
-use Rattle.go_tree.specs.declared.const_eval.kinds.Kind.{Kind}
-use Rattle.go_tree.specs.declared.const_eval.kinds.Kind.TheVariants as kind
-use Rattle.go_tree.specs.declared.const_eval.consts.Const.{Const}
-use Rattle.go_tree.specs.declared.const_eval.consts.Const.TheVariants.{Whole}
-use Rattle.go_tree.specs.ConstEval.Exact.{represents, is_truth_kind}
-use Rattle.go_tree.specs.GoTypes.Types.{GoType, untyped, untyped_nil, is_untyped}
-use Rattle.go_tree.specs.GoTypes.Entities as go
-use Rattle.go_tree.specs.GoTypes.Entities.{run, exact, shift}
-use Rattle.go_tree.specs.GoTypes.Operands.{Operand, value, Typed, kind_passes, represented}
-use Rattle.go_tree.specs.GoTypes.Defined.{Defined}
-use Rattle.go_tree.specs.GoTypes.Relations.{akin, is_whole_number}
-use Rattle.go_tree.specs.GoTypes.Operators.{greater_kind}
+use Rattle.go_rules.specs.declared.const_eval.kinds.Kind.{Kind}
+use Rattle.go_rules.specs.declared.const_eval.kinds.Kind.TheVariants as kind
+use Rattle.go_rules.specs.declared.const_eval.consts.Const.{Const}
+use Rattle.go_rules.specs.declared.const_eval.consts.Const.TheVariants.{Whole}
+use Rattle.go_rules.specs.ConstEval.Exact.{represents, is_truth_kind}
+use Rattle.go_rules.specs.GoTypes.Types.{GoType, untyped, untyped_nil, is_untyped}
+use Rattle.go_rules.specs.GoTypes.Entities as go
+use Rattle.go_rules.specs.GoTypes.Entities.{run, exact, shift}
+use Rattle.go_rules.specs.GoTypes.Operands.{Operand, value, Typed, kind_passes, represented}
+use Rattle.go_rules.specs.GoTypes.Defined.{Defined}
+use Rattle.go_rules.specs.GoTypes.Relations.{akin, is_whole_number}
+use Rattle.go_rules.specs.GoTypes.Operators.{greater_kind}
 use Rattle.type_table.specs.TypeRelations.Environment.{Environment, defined_types, env_type}
 use Rattle.type_table.specs.declared.operand_rules.values.ValueType as code
 use Rattle.type_table.specs.declared.operand_rules.values.ValueType.TheVariants as variant

@@ -2,9 +2,9 @@
 -- definitions; Underlying types; Method declarations).
 use Rattle.std.specs.Prelude.{◌≡◌, ℕ, ◌<◌, Bool, false, ◌||◌, List, [], ◌∷◌, ◌++◌, map}
 use Rattle.std.specs.Prelude.{length, Option, Some, None, slice_get, if◌then◌else◌, is_some, nat_eq}
-use Rattle.go_tree.specs.GoTypes.Types.{GoType, type_name_of}
-use Rattle.go_tree.specs.GoTypes.Defined.{Method, Defined}
-use Rattle.go_tree.specs.GoTypes.Table.{TypeNode, named_node, IsTable}
+use Rattle.go_rules.specs.GoTypes.Types.{GoType, type_name_of}
+use Rattle.go_rules.specs.GoTypes.Defined.{Method, Defined}
+use Rattle.go_rules.specs.GoTypes.Table.{TypeNode, named_node, IsTable}
 use Rattle.type_table.specs.Interned.{with_row}
 use Rattle.type_table.specs.TypesAt.{type_at}
 

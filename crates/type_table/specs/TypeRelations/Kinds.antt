@@ -1,8 +1,8 @@
 -- The kind of a type's underlying type (Go specification, Underlying types).
 use Rattle.std.specs.Prelude.{ℕ, Option}
-use Rattle.go_tree.specs.declared.const_eval.kinds.Kind.{Kind}
-use Rattle.go_tree.specs.GoTypes.Types.{basic_kind}
-use Rattle.go_tree.specs.GoTypes.Defined.{under}
+use Rattle.go_rules.specs.declared.const_eval.kinds.Kind.{Kind}
+use Rattle.go_rules.specs.GoTypes.Types.{basic_kind}
+use Rattle.go_rules.specs.GoTypes.Defined.{under}
 use Rattle.type_table.specs.TypeRelations.Environment.{Environment, defined_types, env_type}
 
 -- where it is a predeclared type

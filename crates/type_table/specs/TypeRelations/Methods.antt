@@ -2,10 +2,10 @@
 use Rattle.std.specs.Prelude.{ℕ, List, [], ◌∷◌, map, Option, Some, None, bytes_eq, if◌then◌else◌}
 use Rattle.std.specs.Borrow.{Bor}
 use Rattle.type_table.specs.declared.type_relations.methods.Method.{Method}
-use Rattle.go_tree.specs.GoTypes.Table.{TypeNode}
-use Rattle.go_tree.specs.GoTypes.Defined as go
-use Rattle.go_tree.specs.GoTypes.Defined.{methods}
-use Rattle.go_tree.specs.GoTypes.Primary.{find_method}
+use Rattle.go_rules.specs.GoTypes.Table.{TypeNode}
+use Rattle.go_rules.specs.GoTypes.Defined as go
+use Rattle.go_rules.specs.GoTypes.Defined.{methods}
+use Rattle.go_rules.specs.GoTypes.Primary.{find_method}
 use Rattle.type_table.specs.TypeRelations.Environment.{Environment, MethodRow, method_at, defined_types, env_type}
 
 -- a method with its name

@@ -1,10 +1,10 @@
 -- Assignability and conversion of types that aren't untyped (Go specification, Assignability; Conversions).
 use Rattle.std.specs.Prelude.{Bool, not, ◌&&◌, ◌||◌, List}
-use Rattle.go_tree.specs.GoTypes.Types.{GoType, has_name}
-use Rattle.go_tree.specs.GoTypes.Defined.{Defined}
-use Rattle.go_tree.specs.GoTypes.Identical.{identical}
-use Rattle.go_tree.specs.GoTypes.Relations.{same_underlying, similar_pointers, is_whole_number, is_string}
-use Rattle.go_tree.specs.GoTypes.Relations.{is_byte_slice}
+use Rattle.go_rules.specs.GoTypes.Types.{GoType, has_name}
+use Rattle.go_rules.specs.GoTypes.Defined.{Defined}
+use Rattle.go_rules.specs.GoTypes.Identical.{identical}
+use Rattle.go_rules.specs.GoTypes.Relations.{same_underlying, similar_pointers, is_whole_number, is_string}
+use Rattle.go_rules.specs.GoTypes.Relations.{is_byte_slice}
 
 module _ (ds : List Defined) (t to : GoType) where
   -- a value of the one type may be assigned to the other

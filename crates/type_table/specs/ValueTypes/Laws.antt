@@ -1,6 +1,6 @@
 -- The laws of tables of types of values. Each is a clause of a function of this crate.
 use Rattle.std.specs.Prelude.{◌≡◌, ℕ, ◌<◌, true, [], length}
-use Rattle.go_tree.specs.GoTypes.Table.{TypeNode}
+use Rattle.go_rules.specs.GoTypes.Table.{TypeNode}
 use Rattle.type_table.specs.TypeRelations.Environment.{Environment, env_type, with_type}
 use Rattle.type_table.specs.ValueTypes.ValueTypes.{HasValueTypes, is_value_row}
 

@@ -1,7 +1,7 @@
 -- Tables of types of values (Go specification, Types; Constants).
 use Rattle.std.specs.Prelude.{◌≡◌, ℕ, ◌<◌, Bool, true, false, length}
-use Rattle.go_tree.specs.GoTypes.Types.{is_untyped}
-use Rattle.go_tree.specs.GoTypes.Table.{TypeNode, untyped_node, nil_node}
+use Rattle.go_rules.specs.GoTypes.Types.{is_untyped}
+use Rattle.go_rules.specs.GoTypes.Table.{TypeNode, untyped_node, nil_node}
 use Rattle.type_table.specs.TypeRelations.Environment.{Environment, env_type}
 
 -- a row that isn't the type of an untyped constant or of nil

@@ -2,13 +2,13 @@
 //! Operators).
 
 ghost use Rattle.std.specs.Prelude.{◌≡◌, ◌++◌, int_le, if◌then◌else◌};
-ghost use Rattle.go_tree.specs.GoTypes.Operands.{leaves};
+ghost use Rattle.go_rules.specs.GoTypes.Operands.{leaves};
 ghost use Rattle.type_table.specs.OperandRules.Open.{AreJoined, IsOpen, IsOpenAt, IsOpenedAt, IsWithin, both_exact};
 ghost use Rattle.type_table.specs.OperandRules.Values.{content_of};
 
 use crate::operand_rules::constants::{ConstId, ConstTable};
 use crate::operand_rules::values::{Bounds, Content, ValueType};
-use go_tree::const_eval::Const;
+use go_rules::const_eval::Const;
 
 /// The constants of two operands, where both are constant.
 pub fn both_exact(x: Content, y: Content) -> Option<(ConstId, ConstId)>

@@ -1,9 +1,9 @@
 //! Arithmetic operators (Go specification, Arithmetic operators; Constant expressions).
 
 ghost use Rattle.std.specs.Prelude.{◌≡◌, ◌&&◌, true, not, Some};
-ghost use Rattle.go_tree.specs.ConstEval.Conditions.{binary_applies};
-ghost use Rattle.go_tree.specs.GoTypes.Operands.{kind_of};
-ghost use Rattle.go_tree.specs.GoTypes.Operators as go;
+ghost use Rattle.go_rules.specs.ConstEval.Conditions.{binary_applies};
+ghost use Rattle.go_rules.specs.GoTypes.Operands.{kind_of};
+ghost use Rattle.go_rules.specs.GoTypes.Operators as go;
 ghost use Rattle.type_table.specs.TypeRelations.Environment.{defined_types};
 ghost use Rattle.type_table.specs.OperandRules.Constants.{Grown};
 ghost use Rattle.type_table.specs.OperandRules.Open.{IsJoined};
@@ -18,7 +18,7 @@ use crate::operand_rules::kinds::{is_number_kind, is_text_kind, is_truth_kind, k
 use crate::operand_rules::values::{Content, Refusal, Value, ValueType};
 use crate::type_relations::Env;
 use go_tree::BinOp;
-use go_tree::const_eval::{Const, Kind, binary};
+use go_rules::const_eval::{Const, Kind, binary};
 use std::alloc::Global;
 
 /// Whether the operator applies to two operands of the kind.

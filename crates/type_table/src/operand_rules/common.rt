@@ -1,8 +1,8 @@
 //! The type of two operands together (Go specification, Operators; Constant expressions).
 
 ghost use Rattle.std.specs.Prelude.{◌≡◌, true, IfSome};
-ghost use Rattle.go_tree.specs.GoTypes.Operators as go;
-ghost use Rattle.go_tree.specs.GoTypes.Operators.{greater_kind};
+ghost use Rattle.go_rules.specs.GoTypes.Operators as go;
+ghost use Rattle.go_rules.specs.GoTypes.Operators.{greater_kind};
 ghost use Rattle.type_table.specs.TypeRelations.Environment.{defined_types};
 ghost use Rattle.type_table.specs.OperandRules.Values.{IsCommon, IsType, IsValue, is_not_nil, type_of, type_option, typed_of};
 
@@ -11,7 +11,7 @@ use crate::operand_rules::fitting::fits;
 use crate::operand_rules::kinds::akin;
 use crate::operand_rules::values::{Value, ValueType};
 use crate::type_relations::{Env, identical};
-use go_tree::const_eval::Kind;
+use go_rules::const_eval::Kind;
 
 /// Of two untyped kinds, a rune counts more than a whole number.
 fn greater_kind(j: Kind, k: Kind) -> Kind

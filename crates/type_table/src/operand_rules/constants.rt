@@ -4,7 +4,7 @@ ghost use Rattle.std.specs.Prelude.{◌≡◌, ◌<◌, ◌≤◌, [], ◌∷◌
 ghost use Rattle.type_table.specs.OperandRules.Constants.{bytes_of, bytes_in, const_at};
 
 use go_tree::NoMemory;
-use go_tree::const_eval::Const;
+use go_rules::const_eval::Const;
 use std::alloc::{AllocError, Global};
 use std::marker::Model;
 
@@ -34,7 +34,7 @@ pub struct ConstTable {
 
 impl Model for ConstTable {
     ghost use Rattle.std.specs.Prelude.{◌≡◌, ◌+◌, List};
-    ghost use Rattle.go_tree.specs.declared.const_eval.consts.Const.{Const};
+    ghost use Rattle.go_rules.specs.declared.const_eval.consts.Const.{Const};
     ghost use Rattle.type_table.specs.OperandRules.Constants.{bytes_in};
 
     ghost Value = { List Const };

@@ -1,8 +1,8 @@
 //! Conversions (Go specification, Conversions; Constant expressions).
 
 ghost use Rattle.std.specs.Prelude.{◌≡◌, ◌<◌, length};
-ghost use Rattle.go_tree.specs.GoTypes.Primary as go;
-ghost use Rattle.go_tree.specs.GoTypes.Relations as relation;
+ghost use Rattle.go_rules.specs.GoTypes.Primary as go;
+ghost use Rattle.go_rules.specs.GoTypes.Relations as relation;
 ghost use Rattle.type_table.specs.TypeRelations.Environment.{defined_types, env_type};
 ghost use Rattle.type_table.specs.declared.operand_rules.values.ValueType.TheVariants.{Typed};
 ghost use Rattle.type_table.specs.OperandRules.Constants.{const_at};
@@ -16,7 +16,7 @@ use crate::operand_rules::kinds::{
 use crate::operand_rules::values::{Content, Refusal, Value, ValueType};
 use crate::type_relations::{Env, convertible};
 use crate::{TypeId, TypeNode};
-use go_tree::const_eval::represent;
+use go_rules::const_eval::represent;
 
 /// A slice whose elements have the underlying type `uint8`.
 fn is_byte_slice(env: &Env, t: TypeId) -> bool

@@ -1,10 +1,10 @@
 //! Where a value may stand (Go specification, Assignability; Representability).
 
 ghost use Rattle.std.specs.Prelude.{◌≡◌, ◌<◌, length};
-ghost use Rattle.go_tree.specs.GoTypes.Operands as go;
-ghost use Rattle.go_tree.specs.GoTypes.Relations as relation;
+ghost use Rattle.go_rules.specs.GoTypes.Operands as go;
+ghost use Rattle.go_rules.specs.GoTypes.Relations as relation;
 ghost use Rattle.type_table.specs.TypeRelations.Environment.{defined_types, env_type};
-ghost use Rattle.go_tree.specs.GoTypes.Defined.{under};
+ghost use Rattle.go_rules.specs.GoTypes.Defined.{under};
 ghost use Rattle.type_table.specs.OperandRules.Values.{IsType, IsValue, shift_fits, type_of, typed_of, within};
 
 use crate::operand_rules::constants::ConstTable;
@@ -12,7 +12,7 @@ use crate::operand_rules::kinds::{akin, is_number_kind, under_kind};
 use crate::operand_rules::values::{Bounds, Content, Value, ValueType};
 use crate::type_relations::{Env, assignable};
 use crate::{TypeId, TypeNode};
-use go_tree::const_eval::{Const, represent};
+use go_rules::const_eval::{Const, represent};
 
 /// Whether the type represents the constant (Go specification, Representability).
 pub(crate) fn represented(env: &Env, to: TypeId, constant: &Const) -> bool

@@ -5,7 +5,7 @@ ghost use Rattle.type_table.specs.OperandRules.Folding.{Folds};
 
 use crate::operand_rules::constants::ConstTable;
 use crate::operand_rules::values::{Content, Refusal, Value, ValueType};
-use go_tree::const_eval::{Const, ConstError};
+use go_rules::const_eval::{Const, ConstError};
 
 /// The value of a type that a constant is, or why there is none.
 #[tactic(auto, using(crate::proofs::OperandRules::ConstantLemmas::grown_self, crate::proofs::OperandRules::ConstantLemmas::grown_by_one, crate::proofs::OperandRules::ConstantLemmas::grown_by_none, crate::proofs::OperandRules::ConstantLemmas::added_at, crate::proofs::OperandRules::ConstantLemmas::added_within))]

@@ -1,13 +1,13 @@
 //! Kinds of types and values (Go specification, Numeric types; Boolean types; String types).
 
 ghost use Rattle.std.specs.Prelude.{◌≡◌, ◌<◌, length};
-ghost use Rattle.go_tree.specs.ConstEval.Conditions.{is_number_kind};
-ghost use Rattle.go_tree.specs.ConstEval.Exact.{is_text_kind, is_truth_kind};
-ghost use Rattle.go_tree.specs.declared.const_eval.kinds.Kind.TheVariants.{Uint8};
-ghost use Rattle.go_tree.specs.GoTypes.Operands as go;
-ghost use Rattle.go_tree.specs.GoTypes.Types.{same_kind};
-ghost use Rattle.go_tree.specs.GoTypes.Relations as relation;
-ghost use Rattle.go_tree.specs.GoTypes.Relations.{akin};
+ghost use Rattle.go_rules.specs.ConstEval.Conditions.{is_number_kind};
+ghost use Rattle.go_rules.specs.ConstEval.Exact.{is_text_kind, is_truth_kind};
+ghost use Rattle.go_rules.specs.declared.const_eval.kinds.Kind.TheVariants.{Uint8};
+ghost use Rattle.go_rules.specs.GoTypes.Operands as go;
+ghost use Rattle.go_rules.specs.GoTypes.Types.{same_kind};
+ghost use Rattle.go_rules.specs.GoTypes.Relations as relation;
+ghost use Rattle.go_rules.specs.GoTypes.Relations.{akin};
 ghost use Rattle.type_table.specs.TypeRelations.Environment.{defined_types, env_type};
 ghost use Rattle.type_table.specs.TypeRelations.Kinds.{under_kind};
 ghost use Rattle.type_table.specs.OperandRules.Values.{IsType, type_of};
@@ -15,7 +15,7 @@ ghost use Rattle.type_table.specs.OperandRules.Values.{IsType, type_of};
 use crate::operand_rules::values::ValueType;
 use crate::type_relations::Env;
 use crate::{TypeId, TypeNode};
-use go_tree::const_eval::Kind;
+use go_rules::const_eval::Kind;
 
 /// A kind of whole numbers.
 pub fn is_number_kind(k: Kind) -> bool

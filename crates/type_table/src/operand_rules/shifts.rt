@@ -1,9 +1,9 @@
 //! Shifts (Go specification, Operators; Integer operators; Constant expressions).
 
 ghost use Rattle.std.specs.Prelude.{◌≡◌, ◌&&◌, true, Some};
-ghost use Rattle.go_tree.specs.ConstEval.Conditions.{is_number_kind};
-ghost use Rattle.go_tree.specs.GoTypes.Operands.{kind_of};
-ghost use Rattle.go_tree.specs.GoTypes.Operators as go;
+ghost use Rattle.go_rules.specs.ConstEval.Conditions.{is_number_kind};
+ghost use Rattle.go_rules.specs.GoTypes.Operands.{kind_of};
+ghost use Rattle.go_rules.specs.GoTypes.Operators as go;
 ghost use Rattle.type_table.specs.TypeRelations.Environment.{defined_types};
 ghost use Rattle.type_table.specs.OperandRules.Constants.{Grown};
 ghost use Rattle.type_table.specs.OperandRules.Operators.{is_shift_operator};
@@ -18,7 +18,7 @@ use crate::operand_rules::kinds::{is_number_kind, is_whole_number, kind_of};
 use crate::operand_rules::values::{Content, Refusal, Value, ValueType};
 use crate::type_relations::Env;
 use go_tree::BinOp;
-use go_tree::const_eval::{Const, Kind, binary};
+use go_rules::const_eval::{Const, Kind, binary};
 use std::alloc::Global;
 
 /// Whether the value may be the count of a shift: a whole number, and a constant one isn't negative.

@@ -1,8 +1,8 @@
 //! Unary operators (Go specification, Arithmetic operators; Logical operators; Constant expressions).
 
 ghost use Rattle.std.specs.Prelude.{◌≡◌};
-ghost use Rattle.go_tree.specs.ConstEval.Conditions.{unary_applies};
-ghost use Rattle.go_tree.specs.GoTypes.Operators as go;
+ghost use Rattle.go_rules.specs.ConstEval.Conditions.{unary_applies};
+ghost use Rattle.go_rules.specs.GoTypes.Operators as go;
 ghost use Rattle.type_table.specs.TypeRelations.Environment.{defined_types};
 ghost use Rattle.type_table.specs.OperandRules.Constants.{Grown};
 ghost use Rattle.type_table.specs.OperandRules.Values.{Gives, IsValue, typed_of};
@@ -13,7 +13,7 @@ use crate::operand_rules::kinds::{is_number_kind, is_truth_kind, kind_of};
 use crate::operand_rules::values::{Content, Refusal, Value};
 use crate::type_relations::Env;
 use go_tree::UnOp;
-use go_tree::const_eval::{Kind, unary};
+use go_rules::const_eval::{Kind, unary};
 use std::alloc::Global;
 
 /// Whether the operator applies to one operand of the kind.

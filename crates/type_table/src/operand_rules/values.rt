@@ -2,7 +2,7 @@
 
 use crate::TypeId;
 use crate::operand_rules::constants::ConstId;
-use go_tree::const_eval::Kind;
+use go_rules::const_eval::Kind;
 use std::alloc::{AllocError, AllocFailed};
 
 /// The type of a value (Go specification, Types; Constants).

@@ -3,7 +3,7 @@
 
 ghost use Rattle.std.specs.Prelude.{◌≡◌, ℕ, ◌<◌, [], length, Some, true, false, slice_get, nat_lt, IfOk};
 ghost use Rattle.std.specs.Prelude.{OnErr, OnOk};
-ghost use Rattle.go_tree.specs.GoTypes.Defined.{under};
+ghost use Rattle.go_rules.specs.GoTypes.Defined.{under};
 ghost use Rattle.type_table.specs.Rows.{PartsBelow, row_of};
 ghost use Rattle.type_table.specs.TypesAt.{type_by, type_at};
 ghost use Rattle.type_table.specs.TypeRelations.Environment.{IsEnvironment, MethodsWithin, definition_in};

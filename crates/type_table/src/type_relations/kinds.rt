@@ -1,13 +1,13 @@
 //! Families of kinds (Go specification, Numeric types; Boolean types; String types).
 
 ghost use Rattle.std.specs.Prelude.{◌≡◌};
-ghost use Rattle.go_tree.specs.ConstEval.Conditions.{is_number_kind};
-ghost use Rattle.go_tree.specs.ConstEval.Exact.{is_text_kind, is_truth_kind};
-ghost use Rattle.go_tree.specs.declared.const_eval.kinds.Kind.TheVariants.{Uint8};
-ghost use Rattle.go_tree.specs.GoTypes.Types.{same_kind};
-ghost use Rattle.go_tree.specs.GoTypes.Relations.{akin};
+ghost use Rattle.go_rules.specs.ConstEval.Conditions.{is_number_kind};
+ghost use Rattle.go_rules.specs.ConstEval.Exact.{is_text_kind, is_truth_kind};
+ghost use Rattle.go_rules.specs.declared.const_eval.kinds.Kind.TheVariants.{Uint8};
+ghost use Rattle.go_rules.specs.GoTypes.Types.{same_kind};
+ghost use Rattle.go_rules.specs.GoTypes.Relations.{akin};
 
-use go_tree::const_eval::Kind;
+use go_rules::const_eval::Kind;
 
 /// A kind of whole numbers.
 pub(crate) fn is_number_kind(k: Kind) -> bool

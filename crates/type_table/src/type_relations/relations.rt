@@ -2,10 +2,10 @@
 //! Assignability; Conversions). No call takes memory.
 
 ghost use Rattle.std.specs.Prelude.{◌≡◌, ◌<◌, length, nat_eq};
-ghost use Rattle.go_tree.specs.GoTypes.Types.{has_name};
-ghost use Rattle.go_tree.specs.GoTypes.Defined.{under};
-ghost use Rattle.go_tree.specs.GoTypes.Identical.{identical};
-ghost use Rattle.go_tree.specs.GoTypes.Relations as go;
+ghost use Rattle.go_rules.specs.GoTypes.Types.{has_name};
+ghost use Rattle.go_rules.specs.GoTypes.Defined.{under};
+ghost use Rattle.go_rules.specs.GoTypes.Identical.{identical};
+ghost use Rattle.go_rules.specs.GoTypes.Relations as go;
 ghost use Rattle.type_table.specs.TypeRelations.Environment.{defined_types, env_type};
 ghost use Rattle.type_table.specs.TypeRelations.Kinds.{under_kind};
 ghost use Rattle.type_table.specs.TypeRelations.Typed.{typed_assignable, typed_becomes};
@@ -13,7 +13,7 @@ ghost use Rattle.type_table.specs.TypeRelations.Typed.{typed_assignable, typed_b
 use crate::type_relations::env::Env;
 use crate::type_relations::kinds::{akin, is_byte_kind, is_number_kind, is_text_kind};
 use crate::{TypeId, TypeNode};
-use go_tree::const_eval::Kind;
+use go_rules::const_eval::Kind;
 
 /// Whether the types are identical (Go specification, Type identity).
 pub fn identical(env: &Env, a: TypeId, b: TypeId) -> bool

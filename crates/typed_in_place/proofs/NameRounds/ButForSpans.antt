@@ -1,7 +1,7 @@
 -- Programs that are equal but for spans declare the same.
 use Rattle.std.specs.Prelude.{◌≡◌}
-use Rattle.go_tree.specs.GoTypes.Programs.{Program, headed}
-use Rattle.go_tree.specs.GoTypes.Collect.{collected}
+use Rattle.go_rules.specs.GoTypes.Programs.{Program, headed}
+use Rattle.go_rules.specs.GoTypes.Collect.{collected}
 use Rattle.typed_in_place.specs.ProgramsAlike.{OneByOne, SameNumbers}
 use Rattle.typed_in_place.proofs.OneByOne.{one_by_one}
 use Rattle.typed_in_place.proofs.SamePrograms.{same_collected, declare_by}

@@ -4,15 +4,15 @@ use Rattle.std.specs.Prelude.{◌≡◌, refl, ℕ, List, [], ◌∷◌, Option,
 use Rattle.go_tree.specs.declared.operators.BinOp.TheVariants.{Add}
 use Rattle.go_tree.specs.Tree.{Expr, TypeExpr}
 use Rattle.go_tree.specs.File.{Decl}
-use Rattle.go_tree.specs.declared.const_eval.kinds.Kind.TheVariants as kind
-use Rattle.go_tree.specs.declared.const_eval.consts.Const.TheVariants.{Whole}
-use Rattle.go_tree.specs.ScopeNames.Means.{Environment}
-use Rattle.go_tree.specs.GoTypes.Types.{basic, untyped}
-use Rattle.go_tree.specs.GoTypes.Entities.{Entity, constant, variable, refused}
-use Rattle.go_tree.specs.GoTypes.Programs.{Program, headed}
-use Rattle.go_tree.proofs.GoTypes.Trees.{refused_at, ty, v, int, str, bin, consts_at, vars_at, file, pack}
-use Rattle.go_tree.specs.GoTypes.Collect.{named_world, collected}
-use Rattle.go_tree.specs.GoTypes.WellTyped.{refused_place}
+use Rattle.go_rules.specs.declared.const_eval.kinds.Kind.TheVariants as kind
+use Rattle.go_rules.specs.declared.const_eval.consts.Const.TheVariants.{Whole}
+use Rattle.go_rules.specs.ScopeNames.Means.{Environment}
+use Rattle.go_rules.specs.GoTypes.Types.{basic, untyped}
+use Rattle.go_rules.specs.GoTypes.Entities.{Entity, constant, variable, refused}
+use Rattle.go_rules.specs.GoTypes.Programs.{Program, headed}
+use Rattle.go_rules.proofs.GoTypes.Trees.{refused_at, ty, v, int, str, bin, consts_at, vars_at, file, pack}
+use Rattle.go_rules.specs.GoTypes.Collect.{named_world, collected}
+use Rattle.go_rules.specs.GoTypes.WellTyped.{refused_place}
 
 abbrev program : List (Decl ℕ) → Program ℕ
 program ds = pack 0 (codes "p") (file [] ds ∷ []) ∷ []

@@ -4,10 +4,10 @@ use mathlib.Core.Path.{ap, sym, ◌∙◌, subst}
 use Rattle.std.proofs.Common.{arith}
 use Rattle.go_tree.specs.Tree.{NameAt, TypeExpr, Expr, Exprs, no_exprs, expr_and}
 use Rattle.go_tree.specs.File.{TypeSpec, Func}
-use Rattle.go_tree.specs.ScopeNames.FreeNames.{names_of}
-use Rattle.go_tree.specs.GoTypes.Answers.{is_empty, is_among}
-use Rattle.go_tree.specs.GoTypes.Programs.{Header, constants, variables, a_type_spec, a_func, Headed, header_names}
-use Rattle.go_tree.specs.GoTypes.SingleNames.{has_value_each, each_alone, single_names, with_header, singly, by_names}
+use Rattle.go_rules.specs.ScopeNames.FreeNames.{names_of}
+use Rattle.go_rules.specs.GoTypes.Answers.{is_empty, is_among}
+use Rattle.go_rules.specs.GoTypes.Programs.{Header, constants, variables, a_type_spec, a_func, Headed, header_names}
+use Rattle.go_rules.specs.GoTypes.SingleNames.{has_value_each, each_alone, single_names, with_header, singly, by_names}
 use Rattle.typed_in_place.specs.Declared.{FirstWith, this_one, a_later_one}
 
 module _ {S : Type 0} where

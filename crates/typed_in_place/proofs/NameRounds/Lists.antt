@@ -3,7 +3,7 @@ use Rattle.std.specs.Prelude.{◌≡◌, refl, Bool, true, false, ◌&&◌, List
 use Rattle.std.specs.List.{list_all}
 use mathlib.Core.Path.{ap, sym, ◌∙◌}
 use Rattle.std.proofs.Common.{arith}
-use Rattle.go_tree.specs.GoTypes.Answers.{only_if}
+use Rattle.go_rules.specs.GoTypes.Answers.{only_if}
 
 pub append_in_turn : {A : Type 0} (xs ys zs : List A) → xs ++ (ys ++ zs) ≡ (xs ++ ys) ++ zs
 append_in_turn [] ys zs = refl

@@ -4,18 +4,18 @@ use Rattle.std.specs.List.{list_all}
 use mathlib.Core.Path.{ap, ap₂, ◌∙◌}
 use Rattle.std.proofs.Common.{arith}
 use Rattle.go_tree.specs.Tree.{NameAt, Expr, Exprs, no_exprs, expr_and}
-use Rattle.go_tree.specs.ScopeNames.Means.{binding}
-use Rattle.go_tree.specs.ScopeNames.FreeNames.{names_of}
-use Rattle.go_tree.specs.GoTypes.Answers.{given, both, otherwise}
-use Rattle.go_tree.specs.GoTypes.Entities.{Entity, refused, Env, Binds}
-use Rattle.go_tree.specs.GoTypes.Operands.{Operand, Typed, typed, all_typed}
-use Rattle.go_tree.specs.GoTypes.Declarations.{bind_all, bind_each}
-use Rattle.go_tree.specs.GoTypes.Typing.{parts, all_parts}
-use Rattle.go_tree.specs.GoTypes.Initial.{is_initial, all_initial}
-use Rattle.go_tree.specs.GoTypes.Bodiless.{bodiless, all_bodiless}
-use Rattle.go_tree.specs.GoTypes.Programs.{Header, Headed, header_names}
+use Rattle.go_rules.specs.ScopeNames.Means.{binding}
+use Rattle.go_rules.specs.ScopeNames.FreeNames.{names_of}
+use Rattle.go_rules.specs.GoTypes.Answers.{given, both, otherwise}
+use Rattle.go_rules.specs.GoTypes.Entities.{Entity, refused, Env, Binds}
+use Rattle.go_rules.specs.GoTypes.Operands.{Operand, Typed, typed, all_typed}
+use Rattle.go_rules.specs.GoTypes.Declarations.{bind_all, bind_each}
+use Rattle.go_rules.specs.GoTypes.Typing.{parts, all_parts}
+use Rattle.go_rules.specs.GoTypes.Initial.{is_initial, all_initial}
+use Rattle.go_rules.specs.GoTypes.Bodiless.{bodiless, all_bodiless}
+use Rattle.go_rules.specs.GoTypes.Programs.{Header, Headed, header_names}
 use Rattle.typed_in_place.proofs.Rising.{and_first, and_second, both_true}
-use Rattle.go_tree.specs.GoTypes.SingleNames.{has_value_each, each_alone, with_header}
+use Rattle.go_rules.specs.GoTypes.SingleNames.{has_value_each, each_alone, with_header}
 use Rattle.typed_in_place.specs.NameRounds.Together.{binds_of_all}
 use Rattle.typed_in_place.proofs.NameRounds.Lists.{append_none, same_some}
 

@@ -5,22 +5,22 @@ use Rattle.std.specs.List.{list_all}
 use mathlib.Core.Path.{ap, sym, ◌∙◌, subst}
 use Rattle.std.proofs.Common.{arith}
 use Rattle.go_tree.specs.Tree.{NameAt, TypeExpr, Expr, Exprs, no_exprs, expr_and}
-use Rattle.go_tree.specs.ScopeNames.FreeNames.{names_of}
-use Rattle.go_tree.specs.GoTypes.Answers.{given, both, only_if, otherwise, is_empty}
-use Rattle.go_tree.specs.GoTypes.Types.{GoType}
-use Rattle.go_tree.specs.GoTypes.Entities.{Entity, refused, World, Env, Binds}
-use Rattle.go_tree.specs.GoTypes.TypeNames.{written_type}
-use Rattle.go_tree.specs.GoTypes.Operands.{Operand, Typed, all_typed}
-use Rattle.go_tree.specs.GoTypes.Declarations.{bind_all, bind_each, constant_entity, variable_entity}
-use Rattle.go_tree.specs.GoTypes.Typing.{parts, all_parts}
-use Rattle.go_tree.specs.GoTypes.Initial.{is_initial, all_initial}
-use Rattle.go_tree.specs.GoTypes.Bodiless.{bodiless, all_bodiless}
-use Rattle.go_tree.specs.GoTypes.TypeDeclarations.{DeclaredTypes}
-use Rattle.go_tree.specs.GoTypes.Programs.{Header, constants, variables, a_type_spec, a_func, Headed, header_names, env_of}
-use Rattle.go_tree.specs.GoTypes.Collect.{package_constants, declared_by}
+use Rattle.go_rules.specs.ScopeNames.FreeNames.{names_of}
+use Rattle.go_rules.specs.GoTypes.Answers.{given, both, only_if, otherwise, is_empty}
+use Rattle.go_rules.specs.GoTypes.Types.{GoType}
+use Rattle.go_rules.specs.GoTypes.Entities.{Entity, refused, World, Env, Binds}
+use Rattle.go_rules.specs.GoTypes.TypeNames.{written_type}
+use Rattle.go_rules.specs.GoTypes.Operands.{Operand, Typed, all_typed}
+use Rattle.go_rules.specs.GoTypes.Declarations.{bind_all, bind_each, constant_entity, variable_entity}
+use Rattle.go_rules.specs.GoTypes.Typing.{parts, all_parts}
+use Rattle.go_rules.specs.GoTypes.Initial.{is_initial, all_initial}
+use Rattle.go_rules.specs.GoTypes.Bodiless.{bodiless, all_bodiless}
+use Rattle.go_rules.specs.GoTypes.TypeDeclarations.{DeclaredTypes}
+use Rattle.go_rules.specs.GoTypes.Programs.{Header, constants, variables, a_type_spec, a_func, Headed, header_names, env_of}
+use Rattle.go_rules.specs.GoTypes.Collect.{package_constants, declared_by}
 use Rattle.typed_in_place.proofs.SameUses.{from_given, from_both, from_only}
 use Rattle.typed_in_place.proofs.Rising.{and_first, and_second, both_true}
-use Rattle.go_tree.specs.GoTypes.SingleNames.{has_value_each, each_alone, single_names, with_header, singly}
+use Rattle.go_rules.specs.GoTypes.SingleNames.{has_value_each, each_alone, single_names, with_header, singly}
 use Rattle.typed_in_place.specs.NameRounds.Together.{binds_of_all}
 use Rattle.typed_in_place.proofs.NameRounds.Lists.{append_none, same_some, only_true, there_some, alike}
 use Rattle.typed_in_place.proofs.NameRounds.NamesTogether.{alone, together, Joined, passes, bodiless_each, initial_each, each_initial, DeclareAll, together_is, all_joined}

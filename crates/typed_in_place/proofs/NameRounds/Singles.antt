@@ -5,17 +5,17 @@ use Rattle.std.specs.List.{list_all}
 use mathlib.Core.Path.{ap, ap₂, sym, ◌∙◌, subst}
 use Rattle.std.proofs.Common.{arith}
 use Rattle.go_tree.specs.Tree.{NameAt, Exprs, no_exprs, expr_and}
-use Rattle.go_tree.specs.ScopeNames.Means.{binding}
-use Rattle.go_tree.specs.ScopeNames.FreeNames.{names_of}
-use Rattle.go_tree.specs.GoTypes.Answers.{is_empty}
-use Rattle.go_tree.specs.GoTypes.Entities.{refused, Binds}
-use Rattle.go_tree.specs.GoTypes.Declarations.{bind_each}
-use Rattle.go_tree.specs.GoTypes.Programs.{Header, constants, variables, a_type_spec, a_func, Headed, header_names, Program}
-use Rattle.go_tree.specs.GoTypes.Collect.{binds_or_refused, block_by, blocks_by}
+use Rattle.go_rules.specs.ScopeNames.Means.{binding}
+use Rattle.go_rules.specs.ScopeNames.FreeNames.{names_of}
+use Rattle.go_rules.specs.GoTypes.Answers.{is_empty}
+use Rattle.go_rules.specs.GoTypes.Entities.{refused, Binds}
+use Rattle.go_rules.specs.GoTypes.Declarations.{bind_each}
+use Rattle.go_rules.specs.GoTypes.Programs.{Header, constants, variables, a_type_spec, a_func, Headed, header_names, Program}
+use Rattle.go_rules.specs.GoTypes.Collect.{binds_or_refused, block_by, blocks_by}
 use Rattle.typed_in_place.specs.Known.{BlockClearer, end_of_block, BlocksClearer, end_of_blocks, and_block}
 use Rattle.typed_in_place.proofs.Rising.{and_first, and_second}
 use Rattle.typed_in_place.proofs.Blocks.{Fits, block_itself, block_append}
-use Rattle.go_tree.specs.GoTypes.SingleNames.{has_value_each, each_alone, single_names, with_header, singly, by_names}
+use Rattle.go_rules.specs.GoTypes.SingleNames.{has_value_each, each_alone, single_names, with_header, singly, by_names}
 use Rattle.typed_in_place.specs.NameRounds.Together.{binds_of_all}
 use Rattle.typed_in_place.proofs.NameRounds.Lists.{append_in_turn, append_none, same_some, there_some}
 

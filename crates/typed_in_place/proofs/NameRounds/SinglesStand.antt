@@ -4,14 +4,14 @@ use mathlib.Core.Path.{ap, sym, subst}
 use Rattle.std.proofs.Common.{arith}
 use Rattle.go_tree.specs.Tree.{NameAt, Expr, Exprs, no_exprs, expr_and}
 use Rattle.go_tree.specs.File.{Receiver}
-use Rattle.go_tree.specs.ScopeNames.Means.{Environment}
-use Rattle.go_tree.specs.ScopeNames.FreeNames.{names_of, free_expr, free_exprs}
-use Rattle.go_tree.specs.GoTypes.Agreement.{On}
-use Rattle.go_tree.proofs.GoTypes.Agreeing.{on_first, on_second}
-use Rattle.go_tree.specs.GoTypes.Answers.{is_empty}
-use Rattle.go_tree.specs.GoTypes.Entities.{Entity, World, Env}
-use Rattle.go_tree.specs.GoTypes.Programs.{Header, constants, variables, Headed, header_names, env_of}
-use Rattle.go_tree.specs.GoTypes.WellTyped.{is_method}
+use Rattle.go_rules.specs.ScopeNames.Means.{Environment}
+use Rattle.go_rules.specs.ScopeNames.FreeNames.{names_of, free_expr, free_exprs}
+use Rattle.go_rules.specs.GoTypes.Agreement.{On}
+use Rattle.go_rules.proofs.GoTypes.Agreeing.{on_first, on_second}
+use Rattle.go_rules.specs.GoTypes.Answers.{is_empty}
+use Rattle.go_rules.specs.GoTypes.Entities.{Entity, World, Env}
+use Rattle.go_rules.specs.GoTypes.Programs.{Header, constants, variables, Headed, header_names, env_of}
+use Rattle.go_rules.specs.GoTypes.WellTyped.{is_method}
 use Rattle.typed_in_place.specs.ProgramsAlike.{OneByOne, no_more, and_more, NameStands}
 use Rattle.typed_in_place.specs.Replaced.{ExprsReplaced, no_more_exprs, in_exprs}
 use Rattle.typed_in_place.specs.HeaderReplaced.{SameReceiver, no_receiver, one_receiver, BodilessAlike, no_more_bodies, bodies_alike, HeaderIn, in_constants, in_variables, in_type_spec, in_func, HeaderReplaced}
@@ -19,7 +19,7 @@ use Rattle.typed_in_place.specs.ImportsMoved.{under_imports, file_names, MovedIn
 use Rattle.typed_in_place.proofs.HeadersReplaced.{declared-in}
 use Rattle.typed_in_place.proofs.ImportsMoved.{declared-moved, header-moved}
 use Rattle.typed_in_place.proofs.OneByOne.{one_by_one}
-use Rattle.go_tree.specs.GoTypes.SingleNames.{has_value_each, each_alone, single_names, with_header, singly}
+use Rattle.go_rules.specs.GoTypes.SingleNames.{has_value_each, each_alone, single_names, with_header, singly}
 use Rattle.typed_in_place.proofs.NameRounds.Lists.{append_none}
 
 -- ---- lists of headers by a test

@@ -2,12 +2,12 @@
 use Rattle.std.specs.Prelude.{◌≡◌, refl, ℕ, Bool, true, false, not, ◌&&◌, List, [], ◌∷◌, ◌++◌, map, Option, None, if◌then◌else◌, nat_eq}
 use mathlib.Core.Path.{ap, ap₂, sym, ◌∙◌}
 use Rattle.go_tree.specs.Tree.{NameAt, TypeExpr, Exprs, no_exprs, expr_and}
-use Rattle.go_tree.specs.GoTypes.Answers.{only_if, is_empty}
-use Rattle.go_tree.specs.GoTypes.Entities.{World, Binds}
-use Rattle.go_tree.specs.GoTypes.TypeDeclarations.{DeclaredTypes}
-use Rattle.go_tree.specs.GoTypes.Programs.{Header, constants, variables, a_type_spec, a_func, Headed, Program}
-use Rattle.go_tree.specs.GoTypes.SingleNames.{has_value_each, each_alone, single_names, with_header, singly, by_names}
-use Rattle.go_tree.specs.GoTypes.Collect.{alias_entity, good_entity, entity_binds, binds_or_refused, block_by, blocks_by, alias_round, type_round, aliased_world, types_declared, typed_world}
+use Rattle.go_rules.specs.GoTypes.Answers.{only_if, is_empty}
+use Rattle.go_rules.specs.GoTypes.Entities.{World, Binds}
+use Rattle.go_rules.specs.GoTypes.TypeDeclarations.{DeclaredTypes}
+use Rattle.go_rules.specs.GoTypes.Programs.{Header, constants, variables, a_type_spec, a_func, Headed, Program}
+use Rattle.go_rules.specs.GoTypes.SingleNames.{has_value_each, each_alone, single_names, with_header, singly, by_names}
+use Rattle.go_rules.specs.GoTypes.Collect.{alias_entity, good_entity, entity_binds, binds_or_refused, block_by, blocks_by, alias_round, type_round, aliased_world, types_declared, typed_world}
 use Rattle.typed_in_place.specs.NameRounds.Together.{binds_of_all}
 use Rattle.typed_in_place.proofs.Collected.{aliased_settled, typed_settled}
 use Rattle.typed_in_place.proofs.NameRounds.Lists.{append_none}

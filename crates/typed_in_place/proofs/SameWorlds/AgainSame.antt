@@ -1,8 +1,8 @@
 -- What a spec of a constant group repeats is read by look-ups alone.
 use Rattle.std.proofs.Common.{refl}
 use Rattle.std.specs.Prelude.{◌≡◌, Bool, true, false, if◌then◌else◌}
-use Rattle.go_tree.specs.GoTypes.Entities.{World, Env}
-use Rattle.go_tree.specs.GoTypes.Declarations.{Repeated, nothing_to_repeat}
+use Rattle.go_rules.specs.GoTypes.Entities.{World, Env}
+use Rattle.go_rules.specs.GoTypes.Declarations.{Repeated, nothing_to_repeat}
 use Rattle.typed_in_place.specs.SameWorlds.SameWorlds.{at}
 
 module _ (left right : World) where

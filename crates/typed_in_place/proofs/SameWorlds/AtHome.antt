@@ -3,16 +3,16 @@ use Rattle.std.proofs.Common.{refl, sym, ◌∙◌, arith}
 use Rattle.std.specs.Prelude.{◌≡◌, ℕ, Bool, true, false, not, ◌&&◌, ◌||◌, List, [], ◌∷◌, ◌++◌, Option, Some, None, if◌then◌else◌, bytes_eq, nat_eq}
 use Rattle.std.specs.List.{list_any}
 use Rattle.go_tree.specs.File.{TypeSpec, Receiver, Func}
-use Rattle.go_tree.specs.ScopeNames.Means.{is_blank}
-use Rattle.go_tree.specs.GoTypes.Answers.{given, only_if, is_among, and_also}
-use Rattle.go_tree.specs.GoTypes.Types.{GoType}
-use Rattle.go_tree.specs.GoTypes.Defined.{Method, Defined}
-use Rattle.go_tree.specs.GoTypes.Entities.{World, Binds}
-use Rattle.go_tree.specs.GoTypes.TypeNames.{resolved}
-use Rattle.go_tree.specs.GoTypes.Programs.{spec_of, func_of, Headed, env_of}
-use Rattle.go_tree.specs.GoTypes.TypeDeclarations.{DeclaredType, DeclaredTypes, declared_as}
-use Rattle.go_tree.specs.GoTypes.MethodDeclarations.{MethodName, DeclaredMethod, has_method_name, is_new_method, fields_under, methods_on, receiver_type, method_header, declared_on, methods_from}
-use Rattle.go_tree.specs.GoTypes.Collect.{type_declared, declared_types, binds_or_refused, block_by}
+use Rattle.go_rules.specs.ScopeNames.Means.{is_blank}
+use Rattle.go_rules.specs.GoTypes.Answers.{given, only_if, is_among, and_also}
+use Rattle.go_rules.specs.GoTypes.Types.{GoType}
+use Rattle.go_rules.specs.GoTypes.Defined.{Method, Defined}
+use Rattle.go_rules.specs.GoTypes.Entities.{World, Binds}
+use Rattle.go_rules.specs.GoTypes.TypeNames.{resolved}
+use Rattle.go_rules.specs.GoTypes.Programs.{spec_of, func_of, Headed, env_of}
+use Rattle.go_rules.specs.GoTypes.TypeDeclarations.{DeclaredType, DeclaredTypes, declared_as}
+use Rattle.go_rules.specs.GoTypes.MethodDeclarations.{MethodName, DeclaredMethod, has_method_name, is_new_method, fields_under, methods_on, receiver_type, method_header, declared_on, methods_from}
+use Rattle.go_rules.specs.GoTypes.Collect.{type_declared, declared_types, binds_or_refused, block_by}
 
 pub nat_same : (a b : ℕ) → nat_eq a b ≡ true → a ≡ b
 nat_same a b e = grind (arith, e)

@@ -2,11 +2,11 @@
 use Rattle.std.specs.Prelude.{◌≡◌}
 use Rattle.std.specs.Prelude.{◌||◌, List, Option, if◌then◌else◌}
 use Rattle.go_tree.specs.Tree.{Exprs}
-use Rattle.go_tree.specs.GoTypes.Answers.{meets, is_empty}
-use Rattle.go_tree.specs.GoTypes.Entities.{Env}
-use Rattle.go_tree.specs.GoTypes.Operands.{Operand, spread}
-use Rattle.go_tree.specs.GoTypes.Bodies.{no_values, returns, Ctx}
-use Rattle.go_tree.specs.GoTypes.Entities.{World}
+use Rattle.go_rules.specs.GoTypes.Answers.{meets, is_empty}
+use Rattle.go_rules.specs.GoTypes.Entities.{Env}
+use Rattle.go_rules.specs.GoTypes.Operands.{Operand, spread}
+use Rattle.go_rules.specs.GoTypes.Bodies.{no_values, returns, Ctx}
+use Rattle.go_rules.specs.GoTypes.Entities.{World}
 use Rattle.typed_in_place.specs.SameWorlds.SameWorlds.{SameWorld, at}
 use Rattle.typed_in_place.proofs.SameWorlds.OperandsSame.{takes_all-same}
 

@@ -1,10 +1,10 @@
 -- What defined types, package blocks and comparable types are is read by look-ups alone.
 use Rattle.std.proofs.Common.{refl}
 use Rattle.std.specs.Prelude.{◌≡◌, ℕ, zero, suc, true, ◌&&◌, List, None, [], if◌then◌else◌}
-use Rattle.go_tree.specs.ScopeNames.Means.{means}
-use Rattle.go_tree.specs.GoTypes.Types.{GoType, basic, named_type, pointer_to, slice_of, map_of, struct_of, tuple_of, untyped, untyped_nil, GoFields, no_go_fields, go_field}
-use Rattle.go_tree.specs.GoTypes.Defined.{under_of, under, declared_methods, methods, comparable_by, comparable_within, comparable, has_keys, fields_have_keys}
-use Rattle.go_tree.specs.GoTypes.Entities.{World, exported, is_exported}
+use Rattle.go_rules.specs.ScopeNames.Means.{means}
+use Rattle.go_rules.specs.GoTypes.Types.{GoType, basic, named_type, pointer_to, slice_of, map_of, struct_of, tuple_of, untyped, untyped_nil, GoFields, no_go_fields, go_field}
+use Rattle.go_rules.specs.GoTypes.Defined.{under_of, under, declared_methods, methods, comparable_by, comparable_within, comparable, has_keys, fields_have_keys}
+use Rattle.go_rules.specs.GoTypes.Entities.{World, exported, is_exported}
 use Rattle.typed_in_place.specs.SameWorlds.SameWorlds.{SameWorld}
 
 module _ (left right : World) (same : SameWorld left right) where

@@ -2,12 +2,12 @@
 use Rattle.std.proofs.Common.{refl, sym, ◌∙◌, arith}
 use Rattle.std.specs.Prelude.{◌≡◌, ℕ, suc, Bool, true, false, ◌||◌, List, [], ◌∷◌, ◌++◌, length, Option, Some, None, if◌then◌else◌, nat_eq}
 use Rattle.std.specs.List.{list_any}
-use Rattle.go_tree.specs.ScopeNames.Means.{Environment}
-use Rattle.go_tree.specs.GoTypes.Answers.{and_also}
-use Rattle.go_tree.specs.GoTypes.Entities.{Entity, World}
-use Rattle.go_tree.specs.GoTypes.Programs.{Header, SourceFile, SourcePackage, Program, Headed, all_headers, block_names, names_in, header_names, file_block, headed_file, headed_files, headed_package, headed, is_main}
-use Rattle.go_tree.specs.GoTypes.TypeDeclarations.{DeclaredType, DeclaredTypes}
-use Rattle.go_tree.specs.GoTypes.Collect.{type_declared, declared_types}
+use Rattle.go_rules.specs.ScopeNames.Means.{Environment}
+use Rattle.go_rules.specs.GoTypes.Answers.{and_also}
+use Rattle.go_rules.specs.GoTypes.Entities.{Entity, World}
+use Rattle.go_rules.specs.GoTypes.Programs.{Header, SourceFile, SourcePackage, Program, Headed, all_headers, block_names, names_in, header_names, file_block, headed_file, headed_files, headed_package, headed, is_main}
+use Rattle.go_rules.specs.GoTypes.TypeDeclarations.{DeclaredType, DeclaredTypes}
+use Rattle.go_rules.specs.GoTypes.Collect.{type_declared, declared_types}
 use Rattle.typed_in_place.specs.SameWorlds.SameWorlds.{Reordered, no_packages, same_first, swapped, one_after_another}
 use Rattle.typed_in_place.proofs.SameWorlds.AtHome.{nat_same, at_home}
 

@@ -4,20 +4,20 @@ use Rattle.std.specs.Prelude.{◌≡◌, ℕ, zero, suc, not, ◌&&◌, ◌||◌
 use Rattle.std.specs.List.{list_any}
 use Rattle.go_tree.specs.Tree.{NameAt, TypeExpr, Exprs}
 use Rattle.go_tree.specs.File.{TypeSpec, Receiver, Func}
-use Rattle.go_tree.specs.ScopeNames.FreeNames.{names_of}
-use Rattle.go_tree.specs.ScopeNames.Means.{Environment, is_blank, binding}
-use Rattle.go_tree.specs.GoTypes.Answers.{given, both, meets, only_if, is_among, and_also}
-use Rattle.go_tree.specs.GoTypes.Types.{GoType, named_type, base_of, fields_of, field_names, type_name_of}
-use Rattle.go_tree.specs.GoTypes.Entities.{Entity, variable, function, universe, World, Env, Binds, meaning, type_of_name}
-use Rattle.go_tree.specs.GoTypes.TypeNames.{resolved, func_type}
-use Rattle.go_tree.specs.GoTypes.Operands.{all_typed}
-use Rattle.go_tree.specs.GoTypes.Declarations.{bind_all, bind_each}
-use Rattle.go_tree.specs.GoTypes.Bodies.{body_binds, no_values}
-use Rattle.go_tree.specs.GoTypes.Bodiless.{all_bodiless}
-use Rattle.go_tree.specs.GoTypes.Programs.{constants, variables, a_type_spec, a_func, spec_of, func_of, Headed, env_of}
-use Rattle.go_tree.specs.GoTypes.TypeDeclarations.{DeclaredTypes, declared_as, under_within, is_finite_by, is_finite_within, is_finite}
-use Rattle.go_tree.specs.GoTypes.MethodDeclarations.{MethodName, fields_under, has_method_name, is_new_method, receiver_type, receiver_binds, method_declared, method_header, declared_on, methods_from}
-use Rattle.go_tree.specs.GoTypes.Collect.{type_entity, spec_type, alias_entity, type_declared, declared_types, is_good_type, good_entity, package_constants, package_variables, may_be_main, function_declared, declared_by}
+use Rattle.go_rules.specs.ScopeNames.FreeNames.{names_of}
+use Rattle.go_rules.specs.ScopeNames.Means.{Environment, is_blank, binding}
+use Rattle.go_rules.specs.GoTypes.Answers.{given, both, meets, only_if, is_among, and_also}
+use Rattle.go_rules.specs.GoTypes.Types.{GoType, named_type, base_of, fields_of, field_names, type_name_of}
+use Rattle.go_rules.specs.GoTypes.Entities.{Entity, variable, function, universe, World, Env, Binds, meaning, type_of_name}
+use Rattle.go_rules.specs.GoTypes.TypeNames.{resolved, func_type}
+use Rattle.go_rules.specs.GoTypes.Operands.{all_typed}
+use Rattle.go_rules.specs.GoTypes.Declarations.{bind_all, bind_each}
+use Rattle.go_rules.specs.GoTypes.Bodies.{body_binds, no_values}
+use Rattle.go_rules.specs.GoTypes.Bodiless.{all_bodiless}
+use Rattle.go_rules.specs.GoTypes.Programs.{constants, variables, a_type_spec, a_func, spec_of, func_of, Headed, env_of}
+use Rattle.go_rules.specs.GoTypes.TypeDeclarations.{DeclaredTypes, declared_as, under_within, is_finite_by, is_finite_within, is_finite}
+use Rattle.go_rules.specs.GoTypes.MethodDeclarations.{MethodName, fields_under, has_method_name, is_new_method, receiver_type, receiver_binds, method_declared, method_header, declared_on, methods_from}
+use Rattle.go_rules.specs.GoTypes.Collect.{type_entity, spec_type, alias_entity, type_declared, declared_types, is_good_type, good_entity, package_constants, package_variables, may_be_main, function_declared, declared_by}
 use Rattle.typed_in_place.specs.SameWorlds.SameWorlds.{SameWorld}
 use Rattle.typed_in_place.proofs.SameWorlds.DefinedSame.{under-same, has_keys-same}
 use Rattle.typed_in_place.proofs.SameWorlds.DeclarationsSame.{constant_entity-same, variable_entity-same}

@@ -2,13 +2,13 @@
 use Rattle.std.specs.Prelude.{◌≡◌}
 use Rattle.std.specs.Prelude.{true, false, ◌&&◌, ◌||◌, Option, Some, is_some, if◌then◌else◌}
 use Rattle.go_tree.specs.Tree.{Expr, ident, composite, call, unary, Exprs, no_exprs, expr_and, Elems, no_elems, elem, Value, plain, braced, ValueOption, no_value, some_value}
-use Rattle.go_tree.specs.GoTypes.Answers.{given, meets}
-use Rattle.go_tree.specs.GoTypes.Types.{GoType}
-use Rattle.go_tree.specs.GoTypes.Entities.{Env, meaning}
-use Rattle.go_tree.specs.GoTypes.Operands.{typed, constant_of}
-use Rattle.go_tree.specs.GoTypes.Literals.{is_struct}
-use Rattle.go_tree.specs.GoTypes.Initial.{means_maker, means_nil, is_address, is_constant, all_constant, sizes_constant, is_nil_name, is_maker, is_composite, is_initial, initial_elems, initial_key, initial_value, all_initial}
-use Rattle.go_tree.specs.GoTypes.Entities.{World}
+use Rattle.go_rules.specs.GoTypes.Answers.{given, meets}
+use Rattle.go_rules.specs.GoTypes.Types.{GoType}
+use Rattle.go_rules.specs.GoTypes.Entities.{Env, meaning}
+use Rattle.go_rules.specs.GoTypes.Operands.{typed, constant_of}
+use Rattle.go_rules.specs.GoTypes.Literals.{is_struct}
+use Rattle.go_rules.specs.GoTypes.Initial.{means_maker, means_nil, is_address, is_constant, all_constant, sizes_constant, is_nil_name, is_maker, is_composite, is_initial, initial_elems, initial_key, initial_value, all_initial}
+use Rattle.go_rules.specs.GoTypes.Entities.{World}
 use Rattle.typed_in_place.specs.SameWorlds.SameWorlds.{SameWorld, at}
 use Rattle.typed_in_place.proofs.SameWorlds.DefinedSame.{under-same}
 use Rattle.typed_in_place.proofs.SameWorlds.LiteralsSame.{key_type-same, inner_type-same, literal_type-same}

@@ -2,17 +2,17 @@
 use Rattle.std.specs.Prelude.{◌≡◌}
 use Rattle.std.specs.Prelude.{ℕ, ◌+◌, Bool, true, false, not, ◌&&◌, List, [], ◌∷◌, Option, Some, None, nat_eq, bytes_eq, pos}
 use Rattle.std.specs.List.{list_all}
-use Rattle.go_tree.specs.declared.const_eval.kinds.Kind.TheVariants as kind
-use Rattle.go_tree.specs.declared.const_eval.consts.Const.TheVariants.{Whole}
-use Rattle.go_tree.specs.ConstEval.Exact.{represents}
-use Rattle.go_tree.specs.ScopeNames.Means.{is_blank}
-use Rattle.go_tree.specs.GoTypes.Answers.{given, meets, only_if, distinct_by}
-use Rattle.go_tree.specs.GoTypes.Types.{GoType, GoFields, no_go_fields, go_field, base_of, element_of, map_parts, fields_of}
-use Rattle.go_tree.specs.GoTypes.Entities.{exact}
-use Rattle.go_tree.specs.GoTypes.Operands.{Operand, value, plain_value}
-use Rattle.go_tree.specs.GoTypes.Primary.{sees, find_field}
-use Rattle.go_tree.specs.GoTypes.Literals.{distinct_consts, constant_keys, element_value, fills, sets_field, fields_set, struct_takes, constant_index, index_or, indices, slice_takes, has_key, map_takes, literal_takes, built, key_type, inner_type, literal_type, built_inside, Element, unkeyed, of_field, keyed}
-use Rattle.go_tree.specs.GoTypes.Entities.{World}
+use Rattle.go_rules.specs.declared.const_eval.kinds.Kind.TheVariants as kind
+use Rattle.go_rules.specs.declared.const_eval.consts.Const.TheVariants.{Whole}
+use Rattle.go_rules.specs.ConstEval.Exact.{represents}
+use Rattle.go_rules.specs.ScopeNames.Means.{is_blank}
+use Rattle.go_rules.specs.GoTypes.Answers.{given, meets, only_if, distinct_by}
+use Rattle.go_rules.specs.GoTypes.Types.{GoType, GoFields, no_go_fields, go_field, base_of, element_of, map_parts, fields_of}
+use Rattle.go_rules.specs.GoTypes.Entities.{exact}
+use Rattle.go_rules.specs.GoTypes.Operands.{Operand, value, plain_value}
+use Rattle.go_rules.specs.GoTypes.Primary.{sees, find_field}
+use Rattle.go_rules.specs.GoTypes.Literals.{distinct_consts, constant_keys, element_value, fills, sets_field, fields_set, struct_takes, constant_index, index_or, indices, slice_takes, has_key, map_takes, literal_takes, built, key_type, inner_type, literal_type, built_inside, Element, unkeyed, of_field, keyed}
+use Rattle.go_rules.specs.GoTypes.Entities.{World}
 use Rattle.typed_in_place.specs.SameWorlds.SameWorlds.{SameWorld}
 use Rattle.typed_in_place.proofs.SameWorlds.DefinedSame.{under-same}
 use Rattle.typed_in_place.proofs.SameWorlds.OperandsSame.{takes-same}

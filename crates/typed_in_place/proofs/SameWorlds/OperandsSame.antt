@@ -2,16 +2,16 @@
 use Rattle.std.specs.Prelude.{◌≡◌}
 use Rattle.std.specs.Prelude.{Bool, true, false, ◌&&◌, List, [], ◌∷◌, Option, Some, None, if◌then◌else◌, pos}
 use Rattle.std.specs.List.{list_all}
-use Rattle.go_tree.specs.declared.const_eval.kinds.Kind.{Kind}
-use Rattle.go_tree.specs.declared.const_eval.kinds.Kind.TheVariants as kind
-use Rattle.go_tree.specs.declared.const_eval.consts.Const.{Const}
-use Rattle.go_tree.specs.declared.const_eval.consts.Const.TheVariants.{Whole}
-use Rattle.go_tree.specs.ConstEval.Exact.{represents}
-use Rattle.go_tree.specs.GoTypes.Answers.{given, meets, only_if}
-use Rattle.go_tree.specs.GoTypes.Types.{GoType, basic, untyped, untyped_nil, basic_kind, is_untyped, default_kind}
-use Rattle.go_tree.specs.GoTypes.Entities.{run, exact, shift, Entity, variable, constant, stand_in, type_name, function, package_name, builtin, nil_name, iota_name, refused, Env}
-use Rattle.go_tree.specs.GoTypes.Operands.{Typed, typed, named_operand, kind_of, kind_passes, represented, fits, takes, takes_all, default_type, settled, Operand, value, a_type, a_function, a_builtin}
-use Rattle.go_tree.specs.GoTypes.Entities.{World}
+use Rattle.go_rules.specs.declared.const_eval.kinds.Kind.{Kind}
+use Rattle.go_rules.specs.declared.const_eval.kinds.Kind.TheVariants as kind
+use Rattle.go_rules.specs.declared.const_eval.consts.Const.{Const}
+use Rattle.go_rules.specs.declared.const_eval.consts.Const.TheVariants.{Whole}
+use Rattle.go_rules.specs.ConstEval.Exact.{represents}
+use Rattle.go_rules.specs.GoTypes.Answers.{given, meets, only_if}
+use Rattle.go_rules.specs.GoTypes.Types.{GoType, basic, untyped, untyped_nil, basic_kind, is_untyped, default_kind}
+use Rattle.go_rules.specs.GoTypes.Entities.{run, exact, shift, Entity, variable, constant, stand_in, type_name, function, package_name, builtin, nil_name, iota_name, refused, Env}
+use Rattle.go_rules.specs.GoTypes.Operands.{Typed, typed, named_operand, kind_of, kind_passes, represented, fits, takes, takes_all, default_type, settled, Operand, value, a_type, a_function, a_builtin}
+use Rattle.go_rules.specs.GoTypes.Entities.{World}
 use Rattle.typed_in_place.specs.SameWorlds.SameWorlds.{SameWorld, at}
 use Rattle.typed_in_place.proofs.SameWorlds.DefinedSame.{under-same}
 use Rattle.typed_in_place.proofs.SameWorlds.RelationsSame.{is_whole_number-same, assignable-same}

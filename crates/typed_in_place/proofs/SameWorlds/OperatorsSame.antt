@@ -5,19 +5,19 @@ use Rattle.go_tree.specs.declared.operators.UnOp.{UnOp}
 use Rattle.go_tree.specs.declared.operators.UnOp.TheVariants.{Address}
 use Rattle.go_tree.specs.declared.operators.BinOp.{BinOp}
 use Rattle.go_tree.specs.declared.operators.BinOp.TheVariants.{Shl, Shr, Eq, Ne, LogAnd, LogOr}
-use Rattle.go_tree.specs.declared.const_eval.kinds.Kind.{Kind}
-use Rattle.go_tree.specs.declared.const_eval.kinds.Kind.TheVariants as kind
-use Rattle.go_tree.specs.declared.const_eval.consts.Const.TheVariants.{Whole, Truth, Bytes}
-use Rattle.go_tree.specs.ConstEval.Conditions.{unary_applies, binary_applies, is_number_kind}
-use Rattle.go_tree.specs.ConstEval.Operators.{unary_value, binary_value, is_comparison}
-use Rattle.go_tree.specs.GoTypes.Answers.{given, both, only_if}
-use Rattle.go_tree.specs.GoTypes.Types.{GoType, untyped, untyped_nil, pointer_to, is_untyped, is_nil, base_of}
-use Rattle.go_tree.specs.GoTypes.Identical.{identical}
-use Rattle.go_tree.specs.GoTypes.Relations.{has_nil, akin}
-use Rattle.go_tree.specs.GoTypes.Entities.{Content, run, exact, shift, Place}
-use Rattle.go_tree.specs.GoTypes.Operands.{Operand, value, a_type, recovered, Typed, typed, with_value, constant_value, leaves, is_shift}
-use Rattle.go_tree.specs.GoTypes.Operators.{a_comparison, not_constant, divides_by_zero, greater_kind, has_address, common_with_untyped, common_type, joins, calculated_operand, arithmetic, truth_operand, logic, compared_at, joins_comparison, equal_applies, comparison_applies, comparison, is_count, shifted_operand, shifting, other_binary, binary_value_operand, is_equality, recover_compared, binary_of, changed_operand, unary_value_operand, address_of, unary_of, star_of}
-use Rattle.go_tree.specs.GoTypes.Entities.{World}
+use Rattle.go_rules.specs.declared.const_eval.kinds.Kind.{Kind}
+use Rattle.go_rules.specs.declared.const_eval.kinds.Kind.TheVariants as kind
+use Rattle.go_rules.specs.declared.const_eval.consts.Const.TheVariants.{Whole, Truth, Bytes}
+use Rattle.go_rules.specs.ConstEval.Conditions.{unary_applies, binary_applies, is_number_kind}
+use Rattle.go_rules.specs.ConstEval.Operators.{unary_value, binary_value, is_comparison}
+use Rattle.go_rules.specs.GoTypes.Answers.{given, both, only_if}
+use Rattle.go_rules.specs.GoTypes.Types.{GoType, untyped, untyped_nil, pointer_to, is_untyped, is_nil, base_of}
+use Rattle.go_rules.specs.GoTypes.Identical.{identical}
+use Rattle.go_rules.specs.GoTypes.Relations.{has_nil, akin}
+use Rattle.go_rules.specs.GoTypes.Entities.{Content, run, exact, shift, Place}
+use Rattle.go_rules.specs.GoTypes.Operands.{Operand, value, a_type, recovered, Typed, typed, with_value, constant_value, leaves, is_shift}
+use Rattle.go_rules.specs.GoTypes.Operators.{a_comparison, not_constant, divides_by_zero, greater_kind, has_address, common_with_untyped, common_type, joins, calculated_operand, arithmetic, truth_operand, logic, compared_at, joins_comparison, equal_applies, comparison_applies, comparison, is_count, shifted_operand, shifting, other_binary, binary_value_operand, is_equality, recover_compared, binary_of, changed_operand, unary_value_operand, address_of, unary_of, star_of}
+use Rattle.go_rules.specs.GoTypes.Entities.{World}
 use Rattle.typed_in_place.specs.SameWorlds.SameWorlds.{SameWorld}
 use Rattle.typed_in_place.proofs.SameWorlds.DefinedSame.{under-same, comparable-same}
 use Rattle.typed_in_place.proofs.SameWorlds.OperandsSame.{kind_of-same, kind_passes-same, fits-same, default_type-same}

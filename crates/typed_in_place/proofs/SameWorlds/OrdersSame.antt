@@ -2,14 +2,14 @@
 use Rattle.std.proofs.Common.{refl, sym, ◌∙◌, subst}
 use Rattle.std.proofs.lemmas.Slice.Eq.{bytes_eq-Decides}
 use Rattle.std.specs.Prelude.{◌≡◌, ℕ, zero, suc, Bool, true, false, ◌&&◌, ◌||◌, List, [], ◌∷◌, ◌++◌, map, length, Option, Some, None, if◌then◌else◌, bytes_eq, nat_eq}
-use Rattle.go_tree.specs.GoTypes.Answers.{given}
-use Rattle.go_tree.specs.GoTypes.Defined.{Defined, find_defined}
-use Rattle.go_tree.specs.GoTypes.Entities.{Entity, World, Binds, block_of}
-use Rattle.go_tree.specs.GoTypes.Programs.{Header, Program, Headed, headed}
-use Rattle.go_tree.specs.GoTypes.TypeDeclarations.{DeclaredTypes, declared_as, under_within, underlying}
-use Rattle.go_tree.specs.GoTypes.MethodDeclarations.{DeclaredMethod, methods_on, with_methods, methods_from}
-use Rattle.go_tree.specs.GoTypes.Collect.{times, declared_types, alias_entity, good_entity, declared_by, entity_binds, block_by, blocks_by, alias_round, type_round, value_round, refused_world, rounds, aliased_world, types_declared, typed_world, named_world, valued_world, world_of, collected}
-use Rattle.go_tree.specs.GoTypes.SingleNames.{single_names, with_header, singly, by_names}
+use Rattle.go_rules.specs.GoTypes.Answers.{given}
+use Rattle.go_rules.specs.GoTypes.Defined.{Defined, find_defined}
+use Rattle.go_rules.specs.GoTypes.Entities.{Entity, World, Binds, block_of}
+use Rattle.go_rules.specs.GoTypes.Programs.{Header, Program, Headed, headed}
+use Rattle.go_rules.specs.GoTypes.TypeDeclarations.{DeclaredTypes, declared_as, under_within, underlying}
+use Rattle.go_rules.specs.GoTypes.MethodDeclarations.{DeclaredMethod, methods_on, with_methods, methods_from}
+use Rattle.go_rules.specs.GoTypes.Collect.{times, declared_types, alias_entity, good_entity, declared_by, entity_binds, block_by, blocks_by, alias_round, type_round, value_round, refused_world, rounds, aliased_world, types_declared, typed_world, named_world, valued_world, world_of, collected}
+use Rattle.go_rules.specs.GoTypes.SingleNames.{single_names, with_header, singly, by_names}
 use Rattle.typed_in_place.specs.SameWorlds.SameWorlds.{SameWorld, Reordered}
 use Rattle.typed_in_place.proofs.SameWorlds.HeadersSame.{SameDeclared, under_all-same, alias_entity-same, declared_types-same, good_entity-same, declared_by-same, methods_from-same}
 use Rattle.typed_in_place.proofs.SameWorlds.AtHome.{nat_same, block_at_home, types_at_home, methods_at_home}

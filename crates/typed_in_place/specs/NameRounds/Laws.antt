@@ -4,14 +4,14 @@ use Rattle.std.specs.List.{list_all}
 use Rattle.go_tree.specs.declared.spans.Span.{Span}
 use Rattle.go_tree.specs.Tree.{NameAt, Expr}
 use Rattle.go_tree.specs.File.{TypeSpec}
-use Rattle.go_tree.specs.ScopeNames.Means.{means}
-use Rattle.go_tree.specs.GoTypes.Entities.{Entity, type_of_name, World, block_of, Binds}
-use Rattle.go_tree.specs.GoTypes.TypeNames.{type_meant}
-use Rattle.go_tree.specs.GoTypes.TypeDeclarations.{DeclaredTypes}
-use Rattle.go_tree.specs.GoTypes.Programs.{Headed, Program, headed, env_of}
-use Rattle.go_tree.specs.GoTypes.SingleNames.{singly, by_names}
-use Rattle.go_tree.specs.GoTypes.Collect.{times, declared_by, value_round, types_declared, typed_world, name_round}
-use Rattle.go_tree.specs.GoTypes.Collect.{named_world, valued_world, collected}
+use Rattle.go_rules.specs.ScopeNames.Means.{means}
+use Rattle.go_rules.specs.GoTypes.Entities.{Entity, type_of_name, World, block_of, Binds}
+use Rattle.go_rules.specs.GoTypes.TypeNames.{type_meant}
+use Rattle.go_rules.specs.GoTypes.TypeDeclarations.{DeclaredTypes}
+use Rattle.go_rules.specs.GoTypes.Programs.{Headed, Program, headed, env_of}
+use Rattle.go_rules.specs.GoTypes.SingleNames.{singly, by_names}
+use Rattle.go_rules.specs.GoTypes.Collect.{times, declared_by, value_round, types_declared, typed_world, name_round}
+use Rattle.go_rules.specs.GoTypes.Collect.{named_world, valued_world, collected}
 use Rattle.typed_in_place.specs.Known.{BlocksClearer}
 use Rattle.typed_in_place.specs.Declared.{RoundsEnd, NamesConstant}
 use Rattle.typed_in_place.specs.Aliases.{DeclaresAlias}

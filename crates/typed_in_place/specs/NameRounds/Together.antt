@@ -1,8 +1,8 @@
 -- What several headers declare, one after the other (Go specification, Declarations and scope).
 use Rattle.std.specs.Prelude.{List, [], ◌∷◌, ◌++◌, Option}
-use Rattle.go_tree.specs.GoTypes.Entities.{Binds}
-use Rattle.go_tree.specs.GoTypes.Programs.{Headed}
-use Rattle.go_tree.specs.GoTypes.Collect.{binds_or_refused}
+use Rattle.go_rules.specs.GoTypes.Entities.{Binds}
+use Rattle.go_rules.specs.GoTypes.Programs.{Headed}
+use Rattle.go_rules.specs.GoTypes.Collect.{binds_or_refused}
 
 module _ {S : Type 0} where
   -- the names of each header with what they mean

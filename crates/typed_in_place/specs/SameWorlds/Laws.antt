@@ -2,11 +2,11 @@
 use Rattle.std.specs.Prelude.{◌≡◌, Bool}
 use Rattle.go_tree.specs.declared.spans.Span.{Span}
 use Rattle.go_tree.specs.Tree.{Expr, Stmt, Stmts}
-use Rattle.go_tree.specs.GoTypes.Entities.{World, Env}
-use Rattle.go_tree.specs.GoTypes.Bodies.{Ctx}
-use Rattle.go_tree.specs.GoTypes.Typing.{parts, place, declares, stmts, used_stmts}
-use Rattle.go_tree.specs.GoTypes.Programs.{Program}
-use Rattle.go_tree.specs.GoTypes.Collect.{collected}
+use Rattle.go_rules.specs.GoTypes.Entities.{World, Env}
+use Rattle.go_rules.specs.GoTypes.Bodies.{Ctx}
+use Rattle.go_rules.specs.GoTypes.Typing.{parts, place, declares, stmts, used_stmts}
+use Rattle.go_rules.specs.GoTypes.Programs.{Program}
+use Rattle.go_rules.specs.GoTypes.Collect.{collected}
 use Rattle.typed_in_place.specs.SameWorlds.SameWorlds.{at, SameWorld, Reordered}
 
 -- ---- typing (Expressions; Statements; Type definitions; Qualified identifiers)

@@ -1,9 +1,9 @@
 -- Worlds in which the same is found, whatever the order in which packages stand in them (Go specification, Packages;
 -- Type definitions; Declarations and scope; Program initialization).
 use Rattle.std.specs.Prelude.{◌≡◌, ℕ, false, List, [], ◌∷◌, length, nat_eq}
-use Rattle.go_tree.specs.GoTypes.Defined.{find_defined}
-use Rattle.go_tree.specs.GoTypes.Entities.{World, Env, block_of}
-use Rattle.go_tree.specs.GoTypes.Programs.{SourcePackage, Program}
+use Rattle.go_rules.specs.GoTypes.Defined.{find_defined}
+use Rattle.go_rules.specs.GoTypes.Entities.{World, Env, block_of}
+use Rattle.go_rules.specs.GoTypes.Programs.{SourcePackage, Program}
 
 -- the place with another world around it
 abbrev pub at : World → Env → Env

@@ -4,12 +4,12 @@ use Rattle.std.specs.Prelude.{ℕ, true, false, List, [], ◌∷◌, ◌++◌, O
 use Rattle.go_tree.specs.declared.operators.UnOp.TheVariants.{Minus, Flip}
 use Rattle.go_tree.specs.declared.operators.BinOp.TheVariants.{Mul, Div, Shl, Add, Gt}
 use Rattle.go_tree.specs.Tree.{Expr}
-use Rattle.go_tree.specs.declared.const_eval.kinds.Kind.TheVariants as kind
-use Rattle.go_tree.specs.declared.const_eval.consts.Const.{Const}
-use Rattle.go_tree.specs.declared.const_eval.consts.Const.TheVariants.{Whole, Truth, Bytes}
-use Rattle.go_tree.specs.GoTypes.Types.{GoType, basic, pointer_to, slice_of, untyped}
-use Rattle.go_tree.specs.GoTypes.Entities.{run, exact}
-use Rattle.go_tree.specs.GoTypes.Operands.{Operand, value}
+use Rattle.go_rules.specs.declared.const_eval.kinds.Kind.TheVariants as kind
+use Rattle.go_rules.specs.declared.const_eval.consts.Const.{Const}
+use Rattle.go_rules.specs.declared.const_eval.consts.Const.TheVariants.{Whole, Truth, Bytes}
+use Rattle.go_rules.specs.GoTypes.Types.{GoType, basic, pointer_to, slice_of, untyped}
+use Rattle.go_rules.specs.GoTypes.Entities.{run, exact}
+use Rattle.go_rules.specs.GoTypes.Operands.{Operand, value}
 use Rattle.typed_in_place.specs.SpecificationExamples.Sources.{between, literal, name, number, of, operand, rune}
 use Rattle.typed_in_place.specs.SpecificationExamples.Sources.{slice_of_type, starred, text, type_of, with}
 use Rattle.typed_in_place.specs.SpecificationExamples.Setting.{AllAre, AllRepresented, named}

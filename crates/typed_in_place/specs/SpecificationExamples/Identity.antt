@@ -4,14 +4,14 @@ use Rattle.std.specs.Prelude.{◌≡◌, ℕ, Bool, true, false, if◌then◌els
 use Rattle.std.specs.Prelude.{Some, None, codes}
 use Rattle.go_tree.specs.Tree.{TypeExpr, Expr}
 use Rattle.go_tree.specs.File.{Decl}
-use Rattle.go_tree.specs.GoTypes.Answers.{both}
-use Rattle.go_tree.specs.GoTypes.Identical.{identical}
-use Rattle.go_tree.specs.GoTypes.Entities.{Env}
-use Rattle.go_tree.specs.GoTypes.TypeNames.{type_meant}
-use Rattle.go_tree.specs.GoTypes.Operands.{several}
-use Rattle.go_tree.specs.GoTypes.Typing.{parts}
-use Rattle.go_tree.specs.GoTypes.Programs.{Program, file_env}
-use Rattle.go_tree.specs.GoTypes.Collect.{collected}
+use Rattle.go_rules.specs.GoTypes.Answers.{both}
+use Rattle.go_rules.specs.GoTypes.Identical.{identical}
+use Rattle.go_rules.specs.GoTypes.Entities.{Env}
+use Rattle.go_rules.specs.GoTypes.TypeNames.{type_meant}
+use Rattle.go_rules.specs.GoTypes.Operands.{several}
+use Rattle.go_rules.specs.GoTypes.Typing.{parts}
+use Rattle.go_rules.specs.GoTypes.Programs.{Program, file_env}
+use Rattle.go_rules.specs.GoTypes.Collect.{collected}
 use Rattle.typed_in_place.specs.SpecificationExamples.Sources.{called, defines, literal, method, name, of, pointer_type}
 use Rattle.typed_in_place.specs.SpecificationExamples.Sources.{renames, slice_of_type, starred, struct_with, type_of}
 

@@ -3,19 +3,19 @@
 --   var ( p *struct{ Name string }; v uint16 )
 --   const ( Huge = 1 << 100; Four int8 = Huge >> 98 )
 use Rattle.std.specs.Prelude.{◌≡◌, ℕ, Bool, List, [], ◌∷◌, map, Option, Some, None, pos, codes}
-use Rattle.go_tree.specs.declared.const_eval.kinds.Kind.{Kind}
-use Rattle.go_tree.specs.declared.const_eval.kinds.Kind.TheVariants as kind
-use Rattle.go_tree.specs.declared.const_eval.consts.Const.TheVariants.{Whole}
+use Rattle.go_rules.specs.declared.const_eval.kinds.Kind.{Kind}
+use Rattle.go_rules.specs.declared.const_eval.kinds.Kind.TheVariants as kind
+use Rattle.go_rules.specs.declared.const_eval.consts.Const.TheVariants.{Whole}
 use Rattle.go_tree.specs.Tree.{Expr}
-use Rattle.go_tree.specs.ScopeNames.Means.{Environment}
-use Rattle.go_tree.specs.GoTypes.Answers.{meets}
-use Rattle.go_tree.specs.GoTypes.Types.{GoType, basic, named_type, pointer_to, slice_of, struct_of, no_go_fields}
-use Rattle.go_tree.specs.GoTypes.Types.{go_field, untyped}
-use Rattle.go_tree.specs.GoTypes.Defined.{Defined}
-use Rattle.go_tree.specs.GoTypes.Entities.{Entity, variable, constant, type_name, Env}
-use Rattle.go_tree.specs.GoTypes.Operands.{Operand, takes}
-use Rattle.go_tree.specs.GoTypes.Programs.{file_env}
-use Rattle.go_tree.specs.GoTypes.Typing.{parts}
+use Rattle.go_rules.specs.ScopeNames.Means.{Environment}
+use Rattle.go_rules.specs.GoTypes.Answers.{meets}
+use Rattle.go_rules.specs.GoTypes.Types.{GoType, basic, named_type, pointer_to, slice_of, struct_of, no_go_fields}
+use Rattle.go_rules.specs.GoTypes.Types.{go_field, untyped}
+use Rattle.go_rules.specs.GoTypes.Defined.{Defined}
+use Rattle.go_rules.specs.GoTypes.Entities.{Entity, variable, constant, type_name, Env}
+use Rattle.go_rules.specs.GoTypes.Operands.{Operand, takes}
+use Rattle.go_rules.specs.GoTypes.Programs.{file_env}
+use Rattle.go_rules.specs.GoTypes.Typing.{parts}
 
 -- a defined type of the package
 abbrev pub named : List ℕ → GoType

@@ -3,11 +3,11 @@ use Rattle.std.proofs.Common.{◌≡◌, ◌∙◌, ◌&&◌, ◌||◌, not, ℕ
 use Rattle.std.proofs.lemmas.Bool.{true≢false}
 use Rattle.std.proofs.lemmas.Slice.Eq.{bytes_eq-Decides}
 use Rattle.go_tree.specs.Tree.{Fields, no_fields, field}
-use Rattle.go_tree.specs.ScopeNames.Means.{is_blank}
-use Rattle.go_tree.specs.GoTypes.Answers.{both, given, only_if, is_among}
-use Rattle.go_tree.specs.GoTypes.Types.{GoType, GoFields, go_field, field_names, struct_of}
-use Rattle.go_tree.specs.GoTypes.Entities.{Env}
-use Rattle.go_tree.specs.GoTypes.TypeNames.{field_before, field_package, resolved, resolved_fields}
+use Rattle.go_rules.specs.ScopeNames.Means.{is_blank}
+use Rattle.go_rules.specs.GoTypes.Answers.{both, given, only_if, is_among}
+use Rattle.go_rules.specs.GoTypes.Types.{GoType, GoFields, go_field, field_names, struct_of}
+use Rattle.go_rules.specs.GoTypes.Entities.{Env}
+use Rattle.go_rules.specs.GoTypes.TypeNames.{field_before, field_package, resolved, resolved_fields}
 use Rattle.typed_names.specs.TypeExprs.Fields.{any_fields, are_new}
 
 abbrev clear : List ℕ → List (List ℕ) → Bool

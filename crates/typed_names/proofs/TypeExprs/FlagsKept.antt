@@ -1,8 +1,8 @@
 -- Flags stay right when types are added.
 use Rattle.std.proofs.Common.{◌≡◌, ◌∙◌, ◌<◌, ◌≤◌, ℕ, zero, suc, Bool, true, false, cond, List, [], ◌∷◌, Option, Some, Result, Ok, Err, refl, sym, ap, ap₂, subst, length, slice_get, arith}
-use Rattle.go_tree.specs.GoTypes.Answers.{given, only_if}
-use Rattle.go_tree.specs.GoTypes.Types.{GoType}
-use Rattle.go_tree.specs.GoTypes.Defined.{comparable, has_keys}
+use Rattle.go_rules.specs.GoTypes.Answers.{given, only_if}
+use Rattle.go_rules.specs.GoTypes.Types.{GoType}
+use Rattle.go_rules.specs.GoTypes.Defined.{comparable, has_keys}
 use Rattle.type_table.specs.TypeRelations.Environment.{Environment, env_type, defined_types}
 use Rattle.type_flags.specs.declared.grown.TypeFlags.{TypeFlags}
 use Rattle.type_flags.specs.Comparable.{AreComparable}

@@ -1,6 +1,6 @@
 -- A block tells which names are new.
 use Rattle.std.proofs.Common.{◌≡◌, ◌∙◌, ◌<◌, ◌+◌, ◌||◌, ◌&&◌, not, ℕ, zero, suc, ◌≤◌, arith, Bool, true, false, cond, List, [], ◌∷◌, Option, Some, refl, sym, ap, ap₂, is_some, length, drop, get_or, add-one, drop-cons, bytes_eq}
-use Rattle.go_tree.specs.ScopeNames.Means.{is_blank, means}
+use Rattle.go_rules.specs.ScopeNames.Means.{is_blank, means}
 use Rattle.typed_names.specs.declared.entities.Entity.{Entity}
 use Rattle.typed_names.specs.Meanings.{Names}
 use Rattle.typed_names.proofs.NameLaws.{turned}

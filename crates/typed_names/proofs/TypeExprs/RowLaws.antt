@@ -1,7 +1,7 @@
 -- A row that is interned gives its type.
 use Rattle.std.proofs.Common.{◌≡◌, ◌<◌, ◌≤◌, ◌++◌, ℕ, Bool, true, false, cond, List, [], ◌∷◌, sym, ap, subst, length, length-append, arith}
 use Rattle.std.specs.List.{list_any}
-use Rattle.go_tree.specs.GoTypes.Table.{TypeNode}
+use Rattle.go_rules.specs.GoTypes.Table.{TypeNode}
 use Rattle.type_table.specs.Interned.{with_row}
 use Rattle.type_table.specs.SameRows.{same_row}
 use Rattle.type_table.specs.TypeRelations.Environment.{Environment, env_type, defined_types, with_type}

@@ -1,7 +1,7 @@
 -- What an answer tells after a step.
 use Rattle.std.proofs.Common.{◌<◌, List, Option, Result, Ok, Err, IfOk, ap, length}
-use Rattle.go_tree.specs.GoTypes.Answers.{both, given}
-use Rattle.go_tree.specs.GoTypes.Types.{GoType, GoFields}
+use Rattle.go_rules.specs.GoTypes.Answers.{both, given}
+use Rattle.go_rules.specs.GoTypes.Types.{GoType, GoFields}
 use Rattle.type_table.specs.TypeRelations.Environment.{Environment}
 use Rattle.type_table.specs.declared.nodes.TypeId.{TypeId}
 use Rattle.type_table.specs.declared.nodes.Field.{Field}

@@ -1,8 +1,8 @@
 -- Tables of types of values, to which rows are added.
 use Rattle.std.proofs.Common.{◌≡◌, ◌<◌, ℕ, true, false, length}
 use Rattle.std.specs.Prelude.{refl}
-use Rattle.go_tree.specs.GoTypes.Types.{GoType, is_untyped, untyped_nil}
-use Rattle.go_tree.specs.GoTypes.Table.{TypeNode, basic_node, named_node, pointer_node, slice_node, map_node, struct_node, tuple_node, untyped_node, nil_node}
+use Rattle.go_rules.specs.GoTypes.Types.{GoType, is_untyped, untyped_nil}
+use Rattle.go_rules.specs.GoTypes.Table.{TypeNode, basic_node, named_node, pointer_node, slice_node, map_node, struct_node, tuple_node, untyped_node, nil_node}
 use Rattle.type_table.specs.TypesAt.{type_by}
 use Rattle.type_table.specs.TypeRelations.Environment.{Environment, env_type, with_type}
 use Rattle.type_table.specs.ValueTypes.ValueTypes.{HasValueTypes, is_value_row}

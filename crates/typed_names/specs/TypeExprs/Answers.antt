@@ -1,6 +1,6 @@
 -- What an answer tells of a type that is meant (Go specification, Types).
 use Rattle.std.specs.Prelude.{◌≡◌, List, map, length, Option, Some, None, Result, Ok, Err}
-use Rattle.go_tree.specs.GoTypes.Types.{GoType, GoFields}
+use Rattle.go_rules.specs.GoTypes.Types.{GoType, GoFields}
 use Rattle.type_table.specs.TypeRelations.Environment.{Environment, env_type}
 use Rattle.type_table.specs.declared.nodes.TypeId.{TypeId}
 use Rattle.type_table.specs.declared.nodes.Field.{Field}

@@ -1,9 +1,9 @@
 //! What a type in the source means, whatever the keys of maps are (Go specification, Types).
 
 ghost use Rattle.std.specs.Prelude.{List};
-ghost use Rattle.go_tree.specs.declared.const_eval.consts.Const.{Const};
+ghost use Rattle.go_rules.specs.declared.const_eval.consts.Const.{Const};
 ghost use Rattle.go_tree.specs.View.{type_of, fields_of};
-ghost use Rattle.go_tree.specs.GoTypes.TypeNames as go;
+ghost use Rattle.go_rules.specs.GoTypes.TypeNames as go;
 ghost use Rattle.typed_names.specs.Known.{KnowsTypes};
 ghost use Rattle.typed_names.specs.Scopes.{env_at};
 ghost use Rattle.type_table.specs.ValueTypes.ValueTypes.{HasValueTypes};

@@ -1,10 +1,10 @@
 //! Fields of structs (Go specification, Struct types; Exported identifiers).
 
 ghost use Rattle.std.specs.Prelude.{◌≡◌, ◌||◌, [], not, is_some, length, map, Option, Some, IfOk};
-ghost use Rattle.go_tree.specs.GoTypes.Answers.{given, only_if};
-ghost use Rattle.go_tree.specs.GoTypes.Types.{GoFields, field_names, struct_of};
-ghost use Rattle.go_tree.specs.GoTypes.TypeNames.{field_package};
-ghost use Rattle.go_tree.specs.ScopeNames.Means.{is_blank, means};
+ghost use Rattle.go_rules.specs.GoTypes.Answers.{given, only_if};
+ghost use Rattle.go_rules.specs.GoTypes.Types.{GoFields, field_names, struct_of};
+ghost use Rattle.go_rules.specs.GoTypes.TypeNames.{field_package};
+ghost use Rattle.go_rules.specs.ScopeNames.Means.{is_blank, means};
 ghost use Rattle.type_table.specs.TypeRelations.Environment.{env_type};
 ghost use Rattle.type_table.specs.Rows.{FieldsBelow, field_of};
 ghost use Rattle.type_table.specs.TypesAt.{fields_by};

@@ -2,8 +2,8 @@
 //! types).
 
 ghost use Rattle.std.specs.Prelude.{◌≡◌, ◌<◌, length, Option, Some, IfOk};
-ghost use Rattle.go_tree.specs.GoTypes.Answers.{both, given};
-ghost use Rattle.go_tree.specs.GoTypes.Types.{GoType, map_of, pointer_to, slice_of};
+ghost use Rattle.go_rules.specs.GoTypes.Answers.{both, given};
+ghost use Rattle.go_rules.specs.GoTypes.Types.{GoType, map_of, pointer_to, slice_of};
 ghost use Rattle.type_table.specs.TypeRelations.Environment.{env_type};
 ghost use Rattle.type_table.specs.ValueTypes.ValueTypes.{HasValueTypes};
 ghost use Rattle.typed_names.specs.TypeExprs.Answers.{GivesType};

@@ -1,12 +1,12 @@
 //! What types in the source mean (Go specification, Types; Map types).
 
 ghost use Rattle.std.specs.Prelude.{◌≡◌, ◌<◌, List, length, Option, Some, IfOk, Ok, Err, if◌then◌else◌};
-ghost use Rattle.go_tree.specs.declared.const_eval.consts.Const.{Const};
+ghost use Rattle.go_rules.specs.declared.const_eval.consts.Const.{Const};
 ghost use Rattle.go_tree.specs.View.{type_of};
-ghost use Rattle.go_tree.specs.GoTypes.Answers.{given, only_if};
-ghost use Rattle.go_tree.specs.GoTypes.Defined.{has_keys};
-ghost use Rattle.go_tree.specs.GoTypes.TypeNames as go;
-ghost use Rattle.go_tree.specs.GoTypes.Types.{GoType};
+ghost use Rattle.go_rules.specs.GoTypes.Answers.{given, only_if};
+ghost use Rattle.go_rules.specs.GoTypes.Defined.{has_keys};
+ghost use Rattle.go_rules.specs.GoTypes.TypeNames as go;
+ghost use Rattle.go_rules.specs.GoTypes.Types.{GoType};
 ghost use Rattle.type_table.specs.TypeRelations.Environment.{defined_types};
 ghost use Rattle.type_table.specs.declared.operand_rules.values.Refusal.TheVariants.{NotTyped};
 ghost use Rattle.type_flags.specs.Flags.{flag_at};

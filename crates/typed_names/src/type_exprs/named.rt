@@ -3,10 +3,10 @@
 
 ghost use Rattle.std.specs.Prelude.{◌≡◌, List, IfSome, Some};
 ghost use Rattle.std.specs.Option.{option_map};
-ghost use Rattle.go_tree.specs.declared.const_eval.consts.Const.{Const};
+ghost use Rattle.go_rules.specs.declared.const_eval.consts.Const.{Const};
 ghost use Rattle.go_tree.specs.View.{name_at_of};
-ghost use Rattle.go_tree.specs.GoTypes.Entities.{type_of_name};
-ghost use Rattle.go_tree.specs.GoTypes.TypeNames.{named_meaning};
+ghost use Rattle.go_rules.specs.GoTypes.Entities.{type_of_name};
+ghost use Rattle.go_rules.specs.GoTypes.TypeNames.{named_meaning};
 ghost use Rattle.type_table.specs.TypeRelations.Environment.{Environment};
 ghost use Rattle.universe_block.specs.Meanings.{entity_of};
 ghost use Rattle.typed_names.specs.Known.{HasTypes, KnowsTypes};

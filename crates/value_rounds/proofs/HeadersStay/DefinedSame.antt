@@ -1,9 +1,9 @@
 -- What defined types, package blocks and comparable types are doesn't ask which methods are declared.
 use Rattle.std.specs.Prelude.{◌≡◌, ℕ, List, None, if◌then◌else◌}
-use Rattle.go_tree.specs.ScopeNames.Means.{means}
-use Rattle.go_tree.specs.GoTypes.Types.{GoType}
-use Rattle.go_tree.specs.GoTypes.Defined.{under, comparable, has_keys}
-use Rattle.go_tree.specs.GoTypes.Entities.{World, exported, is_exported}
+use Rattle.go_rules.specs.ScopeNames.Means.{means}
+use Rattle.go_rules.specs.GoTypes.Types.{GoType}
+use Rattle.go_rules.specs.GoTypes.Defined.{under, comparable, has_keys}
+use Rattle.go_rules.specs.GoTypes.Entities.{World, exported, is_exported}
 use Rattle.value_rounds.specs.HeadersStay.SameRules.{SameRules}
 
 module _ (left right : World) (same : SameRules left right) where

@@ -1,11 +1,11 @@
 -- What constants and variables are declared as doesn't ask which methods are declared.
 use Rattle.std.specs.Prelude.{◌≡◌}
 use Rattle.std.specs.Prelude.{◌&&◌, Option, Some, None, is_some}
-use Rattle.go_tree.specs.GoTypes.Answers.{given, only_if}
-use Rattle.go_tree.specs.GoTypes.Types.{GoType, basic_kind}
-use Rattle.go_tree.specs.GoTypes.Entities.{run, exact, shift, variable, constant, World}
-use Rattle.go_tree.specs.GoTypes.Operands.{Typed}
-use Rattle.go_tree.specs.GoTypes.Declarations.{constant_entity, variable_entity}
+use Rattle.go_rules.specs.GoTypes.Answers.{given, only_if}
+use Rattle.go_rules.specs.GoTypes.Types.{GoType, basic_kind}
+use Rattle.go_rules.specs.GoTypes.Entities.{run, exact, shift, variable, constant, World}
+use Rattle.go_rules.specs.GoTypes.Operands.{Typed}
+use Rattle.go_rules.specs.GoTypes.Declarations.{constant_entity, variable_entity}
 use Rattle.value_rounds.specs.HeadersStay.SameRules.{SameRules}
 use Rattle.value_rounds.proofs.HeadersStay.DefinedSame.{under-same}
 use Rattle.value_rounds.proofs.HeadersStay.OperandsSame.{fits-same, settled-same}

@@ -4,18 +4,18 @@ use mathlib.Core.Path.{ap, ap₂, sym, ◌∙◌, subst}
 use Rattle.std.proofs.Common.{arith}
 use Rattle.go_tree.specs.declared.operators.UnOp.{UnOp}
 use Rattle.go_tree.specs.Tree.{TypeExpr, Expr, ident, int_lit, rune_lit, str_lit, composite, selector, index, slice, call, func_lit, type_operand, unary, binary, star, Exprs, no_exprs, expr_and, Elems, no_elems, elem, Value, plain, braced, ValueOption, no_value, some_value}
-use Rattle.go_tree.specs.GoTypes.Answers.{given, both, meets}
-use Rattle.go_tree.specs.GoTypes.Types.{GoType}
-use Rattle.go_tree.specs.GoTypes.Defined.{Defined, under, methods}
-use Rattle.go_tree.specs.GoTypes.Entities.{Make, New, Entity, builtin, run, exact, shift, World, Env, meaning}
-use Rattle.go_tree.specs.GoTypes.TypeNames.{type_meant}
-use Rattle.go_tree.specs.GoTypes.Operands.{Operand, value, several, a_type, a_function, a_builtin, recovered, typed, constant_of, named_operand}
-use Rattle.go_tree.specs.GoTypes.Operators.{unary_of}
-use Rattle.go_tree.specs.GoTypes.Primary.{call_of}
-use Rattle.go_tree.specs.GoTypes.Literals.{of_field, keyed, is_struct, field_key, built, built_inside, key_type, inner_type, literal_type}
-use Rattle.go_tree.specs.GoTypes.Typing.{parts, all_parts, elements, element, with_key, place}
-use Rattle.go_tree.specs.GoTypes.Bodiless.{bodiless, all_bodiless, bodiless_elems, bodiless_value, bodiless_key}
-use Rattle.go_tree.specs.GoTypes.Initial.{means_maker, is_address, is_constant, all_constant, sizes_constant, is_nil_name, is_maker, is_composite, is_initial, initial_elems, initial_key, initial_value, all_initial}
+use Rattle.go_rules.specs.GoTypes.Answers.{given, both, meets}
+use Rattle.go_rules.specs.GoTypes.Types.{GoType}
+use Rattle.go_rules.specs.GoTypes.Defined.{Defined, under, methods}
+use Rattle.go_rules.specs.GoTypes.Entities.{Make, New, Entity, builtin, run, exact, shift, World, Env, meaning}
+use Rattle.go_rules.specs.GoTypes.TypeNames.{type_meant}
+use Rattle.go_rules.specs.GoTypes.Operands.{Operand, value, several, a_type, a_function, a_builtin, recovered, typed, constant_of, named_operand}
+use Rattle.go_rules.specs.GoTypes.Operators.{unary_of}
+use Rattle.go_rules.specs.GoTypes.Primary.{call_of}
+use Rattle.go_rules.specs.GoTypes.Literals.{of_field, keyed, is_struct, field_key, built, built_inside, key_type, inner_type, literal_type}
+use Rattle.go_rules.specs.GoTypes.Typing.{parts, all_parts, elements, element, with_key, place}
+use Rattle.go_rules.specs.GoTypes.Bodiless.{bodiless, all_bodiless, bodiless_elems, bodiless_value, bodiless_key}
+use Rattle.go_rules.specs.GoTypes.Initial.{means_maker, is_address, is_constant, all_constant, sizes_constant, is_nil_name, is_maker, is_composite, is_initial, initial_elems, initial_key, initial_value, all_initial}
 use Rattle.typed_in_place.proofs.Rising.{and_first, and_second}
 use Rattle.typed_in_place.proofs.Bodiless.{fixed, fixed_in}
 use Rattle.value_rounds.specs.HeadersStay.SameRules.{SameRules, at}

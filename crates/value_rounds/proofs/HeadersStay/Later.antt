@@ -4,19 +4,19 @@ use Rattle.std.specs.Prelude.{◌≡◌, refl, ℕ, Bool, true, false, not, ◌&
 use mathlib.Core.Path.{ap, sym, ◌∙◌, subst}
 use Rattle.std.proofs.Common.{arith}
 use Rattle.go_tree.specs.Tree.{Expr, ident, int_lit, rune_lit, str_lit, composite, selector, index, slice, call, func_lit, type_operand, unary, binary, star, Exprs, no_exprs, expr_and, ExprOption, no_expr, some_expr, Elems, no_elems, elem, Value, plain, braced, ValueOption, no_value, some_value}
-use Rattle.go_tree.specs.ScopeNames.Means.{is_blank}
-use Rattle.go_tree.specs.GoTypes.Answers.{given, both, only_if}
-use Rattle.go_tree.specs.GoTypes.Types.{GoType, base_of}
-use Rattle.go_tree.specs.GoTypes.Defined.{under, methods}
-use Rattle.go_tree.specs.GoTypes.Entities.{Place, World, Env, meaning, exported, is_exported, addressable}
-use Rattle.go_tree.specs.GoTypes.TypeNames.{type_meant}
-use Rattle.go_tree.specs.GoTypes.Operands.{Operand, a_type, a_function, Typed, typed, with_value, plain_value, named_operand, named_place, place_by}
-use Rattle.go_tree.specs.GoTypes.Operators.{star_of}
-use Rattle.go_tree.specs.GoTypes.Primary.{sees, find_method, home_of, field_type, method_of, method_value, is_addressable, selected, selected_place, index_of, index_place}
-use Rattle.go_tree.specs.GoTypes.Literals.{is_struct, key_type, inner_type, literal_type}
-use Rattle.go_tree.specs.GoTypes.Statements.{package_before}
-use Rattle.go_tree.specs.GoTypes.Typing.{parts, all_parts, bound, elements, element, with_key, place}
-use Rattle.go_tree.specs.GoTypes.Bodiless.{bodiless, all_bodiless, bodiless_option, bodiless_elems, bodiless_value, bodiless_key}
+use Rattle.go_rules.specs.ScopeNames.Means.{is_blank}
+use Rattle.go_rules.specs.GoTypes.Answers.{given, both, only_if}
+use Rattle.go_rules.specs.GoTypes.Types.{GoType, base_of}
+use Rattle.go_rules.specs.GoTypes.Defined.{under, methods}
+use Rattle.go_rules.specs.GoTypes.Entities.{Place, World, Env, meaning, exported, is_exported, addressable}
+use Rattle.go_rules.specs.GoTypes.TypeNames.{type_meant}
+use Rattle.go_rules.specs.GoTypes.Operands.{Operand, a_type, a_function, Typed, typed, with_value, plain_value, named_operand, named_place, place_by}
+use Rattle.go_rules.specs.GoTypes.Operators.{star_of}
+use Rattle.go_rules.specs.GoTypes.Primary.{sees, find_method, home_of, field_type, method_of, method_value, is_addressable, selected, selected_place, index_of, index_place}
+use Rattle.go_rules.specs.GoTypes.Literals.{is_struct, key_type, inner_type, literal_type}
+use Rattle.go_rules.specs.GoTypes.Statements.{package_before}
+use Rattle.go_rules.specs.GoTypes.Typing.{parts, all_parts, bound, elements, element, with_key, place}
+use Rattle.go_rules.specs.GoTypes.Bodiless.{bodiless, all_bodiless, bodiless_option, bodiless_elems, bodiless_value, bodiless_key}
 use Rattle.typed_in_place.specs.Known.{Keeps, no_answer, kept}
 use Rattle.typed_in_place.proofs.SameUses.{from_given, from_both}
 use Rattle.typed_in_place.proofs.Rising.{keeps_given, keeps_both, keeps_either, and_first, and_second}

@@ -2,18 +2,18 @@
 use Rattle.std.specs.Prelude.{◌≡◌}
 use Rattle.std.specs.Prelude.{ℕ, true, false, not, ◌&&◌, ◌||◌, List, [], ◌∷◌, length, Option, Some, None, nat_le, nat_lt, if◌then◌else◌, is_some, pos, negsuc}
 use Rattle.std.specs.List.{list_all}
-use Rattle.go_tree.specs.declared.const_eval.kinds.Kind.TheVariants as kind
-use Rattle.go_tree.specs.declared.const_eval.consts.Const.{Const}
-use Rattle.go_tree.specs.declared.const_eval.consts.Const.TheVariants.{Whole, Truth, Bytes}
-use Rattle.go_tree.specs.ConstEval.Exact.{number, represents, is_text_kind}
-use Rattle.go_tree.specs.ScopeNames.Means.{is_blank}
-use Rattle.go_tree.specs.GoTypes.Answers.{given, meets, only_if}
-use Rattle.go_tree.specs.GoTypes.Types.{GoType, basic, pointer_to, slice_of, map_of, GoFields, base_of, element_of, map_parts, fields_of, basic_kind}
-use Rattle.go_tree.specs.GoTypes.Identical.{identical}
-use Rattle.go_tree.specs.GoTypes.Entities.{Builtin, Append, Cap, Copy, Delete, Len, Make, New, Panic, Print, Println, Recover, Content, run, exact, shift, Place, addressable, map_element, elsewhere}
-use Rattle.go_tree.specs.GoTypes.Operands.{Operand, value, several, a_type, a_function, a_builtin, recovered, Typed, all_typed, with_value, plain_value, constant_value, spread, results_operand}
-use Rattle.go_tree.specs.GoTypes.Primary.{find_field, is_addressable, fields_in, field_type, field_place, selected_place, is_index, lies_in, string_element, index_of, index_place, rise, is_bound, sliced_type, sliced, converted_constant, converted, conversion, nothing_back, append_call, cap_call, length_of, has_length, len_call, copies_from, copy_call, delete_call, panic_call, is_printed, print_call, recover_call, make_sizes, make_call, new_call, on_values, builtin_call, call_of}
-use Rattle.go_tree.specs.GoTypes.Entities.{World}
+use Rattle.go_rules.specs.declared.const_eval.kinds.Kind.TheVariants as kind
+use Rattle.go_rules.specs.declared.const_eval.consts.Const.{Const}
+use Rattle.go_rules.specs.declared.const_eval.consts.Const.TheVariants.{Whole, Truth, Bytes}
+use Rattle.go_rules.specs.ConstEval.Exact.{number, represents, is_text_kind}
+use Rattle.go_rules.specs.ScopeNames.Means.{is_blank}
+use Rattle.go_rules.specs.GoTypes.Answers.{given, meets, only_if}
+use Rattle.go_rules.specs.GoTypes.Types.{GoType, basic, pointer_to, slice_of, map_of, GoFields, base_of, element_of, map_parts, fields_of, basic_kind}
+use Rattle.go_rules.specs.GoTypes.Identical.{identical}
+use Rattle.go_rules.specs.GoTypes.Entities.{Builtin, Append, Cap, Copy, Delete, Len, Make, New, Panic, Print, Println, Recover, Content, run, exact, shift, Place, addressable, map_element, elsewhere}
+use Rattle.go_rules.specs.GoTypes.Operands.{Operand, value, several, a_type, a_function, a_builtin, recovered, Typed, all_typed, with_value, plain_value, constant_value, spread, results_operand}
+use Rattle.go_rules.specs.GoTypes.Primary.{find_field, is_addressable, fields_in, field_type, field_place, selected_place, is_index, lies_in, string_element, index_of, index_place, rise, is_bound, sliced_type, sliced, converted_constant, converted, conversion, nothing_back, append_call, cap_call, length_of, has_length, len_call, copies_from, copy_call, delete_call, panic_call, is_printed, print_call, recover_call, make_sizes, make_call, new_call, on_values, builtin_call, call_of}
+use Rattle.go_rules.specs.GoTypes.Entities.{World}
 use Rattle.value_rounds.specs.HeadersStay.SameRules.{SameRules}
 use Rattle.value_rounds.proofs.HeadersStay.DefinedSame.{under-same}
 use Rattle.value_rounds.proofs.HeadersStay.OperandsSame.{kind_passes-same, fits-same, takes_all-same, default_type-same, settled-same}

@@ -1,15 +1,15 @@
 -- Which types are assignable and convertible doesn't ask which methods are declared.
 use Rattle.std.specs.Prelude.{◌≡◌}
 use Rattle.std.specs.Prelude.{Bool, false, not, ◌&&◌, ◌||◌}
-use Rattle.go_tree.specs.declared.const_eval.kinds.Kind.{Kind}
-use Rattle.go_tree.specs.declared.const_eval.kinds.Kind.TheVariants as kind
-use Rattle.go_tree.specs.ConstEval.Conditions.{is_number_kind}
-use Rattle.go_tree.specs.ConstEval.Exact.{is_truth_kind, is_text_kind}
-use Rattle.go_tree.specs.GoTypes.Answers.{meets}
-use Rattle.go_tree.specs.GoTypes.Types.{GoType, untyped, untyped_nil, basic_kind, base_of, element_of, has_name, same_kind}
-use Rattle.go_tree.specs.GoTypes.Identical.{identical}
-use Rattle.go_tree.specs.GoTypes.Relations.{has_nil, akin, has_kind, is_whole_number, is_string, is_truth, is_byte_slice, same_underlying, assignable, similar_pointers, becomes, convertible}
-use Rattle.go_tree.specs.GoTypes.Entities.{World}
+use Rattle.go_rules.specs.declared.const_eval.kinds.Kind.{Kind}
+use Rattle.go_rules.specs.declared.const_eval.kinds.Kind.TheVariants as kind
+use Rattle.go_rules.specs.ConstEval.Conditions.{is_number_kind}
+use Rattle.go_rules.specs.ConstEval.Exact.{is_truth_kind, is_text_kind}
+use Rattle.go_rules.specs.GoTypes.Answers.{meets}
+use Rattle.go_rules.specs.GoTypes.Types.{GoType, untyped, untyped_nil, basic_kind, base_of, element_of, has_name, same_kind}
+use Rattle.go_rules.specs.GoTypes.Identical.{identical}
+use Rattle.go_rules.specs.GoTypes.Relations.{has_nil, akin, has_kind, is_whole_number, is_string, is_truth, is_byte_slice, same_underlying, assignable, similar_pointers, becomes, convertible}
+use Rattle.go_rules.specs.GoTypes.Entities.{World}
 use Rattle.value_rounds.specs.HeadersStay.SameRules.{SameRules}
 use Rattle.value_rounds.proofs.HeadersStay.DefinedSame.{under-same}
 

@@ -5,12 +5,12 @@ use mathlib.Core.Path.{ap, sym, ◌∙◌, subst}
 use Rattle.std.proofs.Common.{arith, inl, inr}
 use Rattle.go_tree.specs.declared.spans.Span.{Span}
 use Rattle.go_tree.specs.Tree.{NameAt, Exprs, no_exprs, expr_and}
-use Rattle.go_tree.specs.ScopeNames.Means.{Environment, is_blank}
-use Rattle.go_tree.specs.ScopeNames.FreeNames.{names_of}
-use Rattle.go_tree.specs.GoTypes.Answers.{is_among, is_empty}
-use Rattle.go_tree.specs.GoTypes.Entities.{Entity}
-use Rattle.go_tree.specs.GoTypes.Declarations.{names_once}
-use Rattle.go_tree.specs.GoTypes.Programs.{Header, constants, variables, a_type_spec, a_func, SourceFile, Headed, header_names, is_init, Program, all_headers, block_names, file_block, headed, headed_file, headed_files, headed_package, is_main, names_in}
+use Rattle.go_rules.specs.ScopeNames.Means.{Environment, is_blank}
+use Rattle.go_rules.specs.ScopeNames.FreeNames.{names_of}
+use Rattle.go_rules.specs.GoTypes.Answers.{is_among, is_empty}
+use Rattle.go_rules.specs.GoTypes.Entities.{Entity}
+use Rattle.go_rules.specs.GoTypes.Declarations.{names_once}
+use Rattle.go_rules.specs.GoTypes.Programs.{Header, constants, variables, a_type_spec, a_func, SourceFile, Headed, header_names, is_init, Program, all_headers, block_names, file_block, headed, headed_file, headed_files, headed_package, is_main, names_in}
 use Rattle.pkg_graph.specs.declared.packages.Package.{Package}
 use Rattle.typed_in_place.specs.Declared.{FirstWith, this_one, a_later_one, HasNumber}
 use Rattle.typed_in_place.specs.ProgramReplaced.{All, all_of_none, all_and}
@@ -18,7 +18,7 @@ use Rattle.typed_in_place.proofs.Rising.{and_first, and_second}
 use Rattle.package_blocks.proofs.FirstLemmas.{AllNumbers, all_numbers}
 use Rattle.package_blocks.specs.FuncHeaders.Functions.{program_of}
 use Rattle.value_rounds.specs.Values.{is_value}
-use Rattle.go_tree.specs.GoTypes.SingleNames.{has_value_each, each_alone, single_names, with_header, singly, by_names}
+use Rattle.go_rules.specs.GoTypes.SingleNames.{has_value_each, each_alone, single_names, with_header, singly, by_names}
 use Rattle.value_rounds.specs.NameRounds.Passes.{named_headers}
 use Rattle.value_rounds.specs.NameRounds.Steps.{DeclaresFirst}
 use Rattle.value_rounds.proofs.Firsts.{apart, is_first, self}

@@ -3,14 +3,14 @@ use Rattle.std.specs.Prelude.{◌≡◌, refl, ℕ, Bool, true, false, not, ◌&
 use mathlib.Core.Path.{ap, ap₂, sym, ◌∙◌, subst}
 use Rattle.std.proofs.Common.{arith, inl, inr}
 use Rattle.go_tree.specs.declared.spans.Span.{Span}
-use Rattle.go_tree.specs.ScopeNames.Means.{is_blank, means}
-use Rattle.go_tree.specs.GoTypes.Answers.{only_if, is_among}
-use Rattle.go_tree.specs.GoTypes.Defined.{under, has_keys}
-use Rattle.go_tree.specs.GoTypes.Entities.{Entity, refused, World, block_of, Binds}
-use Rattle.go_tree.specs.GoTypes.Declarations.{bind_each}
-use Rattle.go_tree.specs.GoTypes.Programs.{Headed, header_names, Program, headed}
-use Rattle.go_tree.specs.GoTypes.TypeDeclarations.{DeclaredTypes}
-use Rattle.go_tree.specs.GoTypes.Collect.{good_entity, declared_by, binds_or_refused, blocks_by, types_declared, typed_world, named_world, valued_world}
+use Rattle.go_rules.specs.ScopeNames.Means.{is_blank, means}
+use Rattle.go_rules.specs.GoTypes.Answers.{only_if, is_among}
+use Rattle.go_rules.specs.GoTypes.Defined.{under, has_keys}
+use Rattle.go_rules.specs.GoTypes.Entities.{Entity, refused, World, block_of, Binds}
+use Rattle.go_rules.specs.GoTypes.Declarations.{bind_each}
+use Rattle.go_rules.specs.GoTypes.Programs.{Headed, header_names, Program, headed}
+use Rattle.go_rules.specs.GoTypes.TypeDeclarations.{DeclaredTypes}
+use Rattle.go_rules.specs.GoTypes.Collect.{good_entity, declared_by, binds_or_refused, blocks_by, types_declared, typed_world, named_world, valued_world}
 use Rattle.pkg_graph.specs.declared.packages.Package.{Package}
 use Rattle.typed_in_place.specs.Known.{Clearer, as_before, refused_before}
 use Rattle.typed_in_place.specs.Declared.{FirstWith, HasNumber}
@@ -22,7 +22,7 @@ use Rattle.package_blocks.specs.FuncHeaders.Functions.{declaring, program_of}
 use Rattle.package_blocks.proofs.FuncHeaders.FirstFunctions.{NamedFirst, first_named}
 use Rattle.value_rounds.specs.Values.{is_value}
 use Rattle.value_rounds.specs.Steps.{over}
-use Rattle.go_tree.specs.GoTypes.SingleNames.{by_names}
+use Rattle.go_rules.specs.GoTypes.SingleNames.{by_names}
 use Rattle.value_rounds.specs.NameRounds.Steps.{AllLooked, Below, DeclaredThere, DeclaresFirst, RefusedSoFar, RefusesNames}
 use Rattle.value_rounds.specs.NameRounds.Passes.{AllHeadersLooked, HeaderRefused, HeaderStands, NameLeft, NamesRefused}
 use Rattle.value_rounds.proofs.Ends.{same_named}

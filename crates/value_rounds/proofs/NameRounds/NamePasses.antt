@@ -3,12 +3,12 @@ use Rattle.std.specs.Prelude.{◌≡◌, refl, ℕ, Bool, true, false, not, ◌&
 use mathlib.Core.Path.{ap, sym, ◌∙◌, subst}
 use Rattle.std.proofs.Common.{arith, inl, inr}
 use Rattle.go_tree.specs.declared.spans.Span.{Span}
-use Rattle.go_tree.specs.ScopeNames.Means.{is_blank, means}
-use Rattle.go_tree.specs.GoTypes.Answers.{only_if, is_among}
-use Rattle.go_tree.specs.GoTypes.Entities.{Entity, refused, World, Binds}
-use Rattle.go_tree.specs.GoTypes.Programs.{Headed, header_names, Program, headed}
-use Rattle.go_tree.specs.GoTypes.TypeDeclarations.{DeclaredTypes}
-use Rattle.go_tree.specs.GoTypes.Collect.{good_entity, declared_by, types_declared, typed_world, named_world, valued_world}
+use Rattle.go_rules.specs.ScopeNames.Means.{is_blank, means}
+use Rattle.go_rules.specs.GoTypes.Answers.{only_if, is_among}
+use Rattle.go_rules.specs.GoTypes.Entities.{Entity, refused, World, Binds}
+use Rattle.go_rules.specs.GoTypes.Programs.{Headed, header_names, Program, headed}
+use Rattle.go_rules.specs.GoTypes.TypeDeclarations.{DeclaredTypes}
+use Rattle.go_rules.specs.GoTypes.Collect.{good_entity, declared_by, types_declared, typed_world, named_world, valued_world}
 use Rattle.pkg_graph.specs.declared.packages.Package.{Package}
 use Rattle.typed_in_place.specs.Known.{Clearer, as_before, refused_before}
 use Rattle.typed_in_place.specs.Declared.{HasNumber}
@@ -19,7 +19,7 @@ use Rattle.declared_types.specs.Members.{SameMembers, member}
 use Rattle.package_blocks.specs.FuncHeaders.Functions.{names_function, program_of}
 use Rattle.value_rounds.specs.Values.{OthersAreDeclared, is_value, names_value}
 use Rattle.value_rounds.specs.Steps.{ValuesSet, over, rebound}
-use Rattle.go_tree.specs.GoTypes.SingleNames.{by_names}
+use Rattle.go_rules.specs.GoTypes.SingleNames.{by_names}
 use Rattle.value_rounds.specs.NameRounds.Steps.{AllFound, BindsNames, DeclaresFirst, FoundSoFar, RefusedThere}
 use Rattle.value_rounds.specs.NameRounds.Passes.{AllNamesLooked, NameFound, NameLeft, NamesSoFar, NamesStay, named_headers}
 use Rattle.value_rounds.proofs.Ends.{same_named}

@@ -6,13 +6,13 @@ use Rattle.std.proofs.Common.{arith}
 use Rattle.std.proofs.lemmas.Slice.Eq.{bytes_eq-Decides}
 use Rattle.go_tree.specs.declared.spans.Span.{Span}
 use Rattle.go_tree.specs.File.{Func, Receiver}
-use Rattle.go_tree.specs.ScopeNames.Means.{Environment, means, is_blank, binding}
-use Rattle.go_tree.specs.GoTypes.Answers.{given, meets, only_if, is_among}
-use Rattle.go_tree.specs.GoTypes.Entities.{Entity, refused, World, block_of, Binds}
-use Rattle.go_tree.specs.GoTypes.Declarations.{bind_each}
-use Rattle.go_tree.specs.GoTypes.Programs.{Header, constants, variables, a_type_spec, a_func, Headed, header_names, Program, headed}
-use Rattle.go_tree.specs.GoTypes.TypeDeclarations.{DeclaredTypes}
-use Rattle.go_tree.specs.GoTypes.Collect.{function_declared, declared_by, binds_or_refused, blocks_by, value_round, types_declared, typed_world, named_world, valued_world}
+use Rattle.go_rules.specs.ScopeNames.Means.{Environment, means, is_blank, binding}
+use Rattle.go_rules.specs.GoTypes.Answers.{given, meets, only_if, is_among}
+use Rattle.go_rules.specs.GoTypes.Entities.{Entity, refused, World, block_of, Binds}
+use Rattle.go_rules.specs.GoTypes.Declarations.{bind_each}
+use Rattle.go_rules.specs.GoTypes.Programs.{Header, constants, variables, a_type_spec, a_func, Headed, header_names, Program, headed}
+use Rattle.go_rules.specs.GoTypes.TypeDeclarations.{DeclaredTypes}
+use Rattle.go_rules.specs.GoTypes.Collect.{function_declared, declared_by, binds_or_refused, blocks_by, value_round, types_declared, typed_world, named_world, valued_world}
 use Rattle.typed_in_place.specs.Known.{Clearer, as_before, refused_before}
 use Rattle.typed_in_place.specs.Declared.{FirstWith, HasNumber}
 use Rattle.typed_in_place.proofs.Blocks.{Fits}
@@ -24,7 +24,7 @@ use Rattle.package_blocks.specs.FuncHeaders.Functions.{declaring, is_function, n
 use Rattle.package_blocks.proofs.FuncHeaders.FirstFunctions.{NamedFirst, first_named, names_are}
 use Rattle.package_blocks.proofs.FuncHeaders.MethodsAside.{declares_same}
 use Rattle.package_blocks.proofs.FuncHeaders.SameTypeLaws.{types_back, types_on}
-use Rattle.go_tree.specs.GoTypes.SingleNames.{single_names, with_header, singly, by_names}
+use Rattle.go_rules.specs.GoTypes.SingleNames.{single_names, with_header, singly, by_names}
 use Rattle.value_rounds.specs.Values.{is_value, names_value}
 use Rattle.value_rounds.proofs.Firsts.{among_bound, and_parts, apart, at_first, blank_not_declared, bound_one, first_numbered, not_declared, refused_one}
 use Rattle.typed_in_place.proofs.NameRounds.FirstNames.{first_by_names}

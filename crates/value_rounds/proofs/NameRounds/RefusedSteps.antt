@@ -3,13 +3,13 @@ use Rattle.std.specs.Prelude.{◌≡◌, refl, ℕ, zero, suc, Bool, true, false
 use mathlib.Core.Path.{ap, sym, ◌∙◌, subst}
 use Rattle.std.proofs.lemmas.Slice.Eq.{bytes_eq-Decides}
 use Rattle.std.proofs.Common.{inl, inr, arith}
-use Rattle.go_tree.specs.ScopeNames.Means.{Environment, means, or_else, is_blank}
-use Rattle.go_tree.specs.GoTypes.Answers.{is_among}
-use Rattle.go_tree.specs.GoTypes.Entities.{Entity, refused, World, block_of, Binds}
-use Rattle.go_tree.specs.GoTypes.Declarations.{bind_each}
-use Rattle.go_tree.specs.GoTypes.TypeDeclarations.{DeclaredTypes}
-use Rattle.go_tree.specs.GoTypes.Programs.{Headed, header_names, Program}
-use Rattle.go_tree.specs.GoTypes.Collect.{times, declared_by, binds_or_refused, rounds, types_declared, typed_world}
+use Rattle.go_rules.specs.ScopeNames.Means.{Environment, means, or_else, is_blank}
+use Rattle.go_rules.specs.GoTypes.Answers.{is_among}
+use Rattle.go_rules.specs.GoTypes.Entities.{Entity, refused, World, block_of, Binds}
+use Rattle.go_rules.specs.GoTypes.Declarations.{bind_each}
+use Rattle.go_rules.specs.GoTypes.TypeDeclarations.{DeclaredTypes}
+use Rattle.go_rules.specs.GoTypes.Programs.{Headed, header_names, Program}
+use Rattle.go_rules.specs.GoTypes.Collect.{times, declared_by, binds_or_refused, rounds, types_declared, typed_world}
 use Rattle.typed_in_place.specs.Known.{Keeps, no_answer, kept, Clearer, as_before, refused_before, BlockClearer, end_of_block, was_refused, was_known, BlocksClearer}
 use Rattle.typed_in_place.specs.Declared.{FirstWith, HasNumber}
 use Rattle.typed_in_place.proofs.Rising.{keeps_some}
@@ -17,7 +17,7 @@ use Rattle.typed_in_place.proofs.Blocks.{Blocks, name_clearer, block_of_clearer}
 use Rattle.typed_in_place.proofs.Phases.{step_clearer}
 use Rattle.typed_in_place.proofs.Headers.{in_world, value_answers, value_phase}
 use Rattle.typed_in_place.proofs.SettledNames.{first_means, block_of_package}
-use Rattle.go_tree.specs.GoTypes.Collect.{named_world, valued_world}
+use Rattle.go_rules.specs.GoTypes.Collect.{named_world, valued_world}
 use Rattle.value_rounds.specs.NameRounds.Steps.{is_known, meant, Below, DeclaresFirst, RefusedSoFar, RefusesNames, DeclaredThere, AllLooked}
 use Rattle.typed_in_place.proofs.NameRounds.Lists.{append_none, there_some}
 use Rattle.value_rounds.proofs.NameRounds.Known.{declared_known, known_means}

@@ -2,11 +2,11 @@
 use Rattle.std.specs.Prelude.{◌≡◌, refl, ℕ, zero, suc, ◌<◌, Bool, true, false, ◌&&◌, List, [], ◌∷◌, map, length, Option, Some, None, nat_eq, bytes_eq, if◌then◌else◌}
 use mathlib.Core.Path.{ap, sym, ◌∙◌, subst}
 use Rattle.std.proofs.Common.{arith}
-use Rattle.go_tree.specs.GoTypes.Types.{GoType, basic, named_type, pointer_to, slice_of, map_of, struct_of, tuple_of, untyped, untyped_nil}
-use Rattle.go_tree.specs.GoTypes.Identical.{identical}
-use Rattle.go_tree.specs.GoTypes.Table.{IsTable}
-use Rattle.go_tree.specs.GoTypes.TypeDeclarations as declared
-use Rattle.go_tree.specs.GoTypes.TypeDeclarations.{under_within}
+use Rattle.go_rules.specs.GoTypes.Types.{GoType, basic, named_type, pointer_to, slice_of, map_of, struct_of, tuple_of, untyped, untyped_nil}
+use Rattle.go_rules.specs.GoTypes.Identical.{identical}
+use Rattle.go_rules.specs.GoTypes.Table.{IsTable}
+use Rattle.go_rules.specs.GoTypes.TypeDeclarations as declared
+use Rattle.go_rules.specs.GoTypes.TypeDeclarations.{under_within}
 use Rattle.type_table.specs.TypeRelations.Environment.{Environment, env_type, is_named_type}
 use Rattle.type_table.specs.declared.nodes.TypeId.{TypeId}
 use Rattle.type_table.proofs.TypesAtLaws.{identical_at}

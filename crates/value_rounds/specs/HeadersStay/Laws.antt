@@ -2,10 +2,10 @@
 -- expressions; Package initialization; Method declarations). Each is a clause of a function of this crate.
 use Rattle.std.specs.Prelude.{◌≡◌, List}
 use Rattle.go_tree.specs.declared.spans.Span.{Span}
-use Rattle.go_tree.specs.GoTypes.Entities.{World}
-use Rattle.go_tree.specs.GoTypes.Programs.{Headed, Program, headed}
-use Rattle.go_tree.specs.GoTypes.TypeDeclarations.{DeclaredTypes}
-use Rattle.go_tree.specs.GoTypes.Collect.{declared_by, types_declared, world_of, valued_world}
+use Rattle.go_rules.specs.GoTypes.Entities.{World}
+use Rattle.go_rules.specs.GoTypes.Programs.{Headed, Program, headed}
+use Rattle.go_rules.specs.GoTypes.TypeDeclarations.{DeclaredTypes}
+use Rattle.go_rules.specs.GoTypes.Collect.{declared_by, types_declared, world_of, valued_world}
 use Rattle.value_rounds.specs.HeadersStay.SameRules.{NoMethods}
 
 -- a header declares the same once methods are known

@@ -1,9 +1,9 @@
 -- Worlds of which the rules of typing read the same, but for the methods of types (Go specification, Type definitions;
 -- Underlying types; Comparison operators; Method declarations).
 use Rattle.std.specs.Prelude.{◌≡◌, ℕ, []}
-use Rattle.go_tree.specs.GoTypes.Types.{GoType}
-use Rattle.go_tree.specs.GoTypes.Defined.{under, methods, comparable, has_keys}
-use Rattle.go_tree.specs.GoTypes.Entities.{World, block_of}
+use Rattle.go_rules.specs.GoTypes.Types.{GoType}
+use Rattle.go_rules.specs.GoTypes.Defined.{under, methods, comparable, has_keys}
+use Rattle.go_rules.specs.GoTypes.Entities.{World, block_of}
 pub use Rattle.typed_in_place.specs.SameWorlds.SameWorlds.{at}
 
 -- the same underlying types, the same comparable types, and the same package blocks

@@ -3,12 +3,12 @@
 use Rattle.std.specs.Prelude.{◌≡◌, ℕ, true, List, Some, None, ◌⊎◌}
 use Rattle.std.specs.List.{list_all}
 use Rattle.go_tree.specs.declared.spans.Span.{Span}
-use Rattle.go_tree.specs.GoTypes.Entities.{World, Binds}
-use Rattle.go_tree.specs.GoTypes.TypeDeclarations.{DeclaredTypes}
-use Rattle.go_tree.specs.GoTypes.Declarations.{names_once}
-use Rattle.go_tree.specs.GoTypes.Programs.{Headed, header_names, Program, headed}
-use Rattle.go_tree.specs.GoTypes.SingleNames.{singly, by_names}
-use Rattle.go_tree.specs.GoTypes.Collect.{declared_by, types_declared, typed_world, named_world, valued_world}
+use Rattle.go_rules.specs.GoTypes.Entities.{World, Binds}
+use Rattle.go_rules.specs.GoTypes.TypeDeclarations.{DeclaredTypes}
+use Rattle.go_rules.specs.GoTypes.Declarations.{names_once}
+use Rattle.go_rules.specs.GoTypes.Programs.{Headed, header_names, Program, headed}
+use Rattle.go_rules.specs.GoTypes.SingleNames.{singly, by_names}
+use Rattle.go_rules.specs.GoTypes.Collect.{declared_by, types_declared, typed_world, named_world, valued_world}
 use Rattle.typed_in_place.specs.ProgramReplaced.{All}
 use Rattle.value_rounds.specs.NameRounds.Steps.{is_known, meant, DeclaresFirst, FoundSoFar, BindsNames, AllFound}
 use Rattle.value_rounds.specs.NameRounds.Steps.{RefusedSoFar, RefusesNames, AllLooked}

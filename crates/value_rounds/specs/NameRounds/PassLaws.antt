@@ -2,9 +2,9 @@
 -- crate.
 use Rattle.std.specs.Prelude.{◌≡◌, ℕ, Bool, true, List, Some, slice_get}
 use Rattle.go_tree.specs.declared.spans.Span.{Span}
-use Rattle.go_tree.specs.GoTypes.Entities.{World}
-use Rattle.go_tree.specs.GoTypes.Programs.{Headed, Program, headed}
-use Rattle.go_tree.specs.GoTypes.Collect.{typed_world, named_world, valued_world}
+use Rattle.go_rules.specs.GoTypes.Entities.{World}
+use Rattle.go_rules.specs.GoTypes.Programs.{Headed, Program, headed}
+use Rattle.go_rules.specs.GoTypes.Collect.{typed_world, named_world, valued_world}
 use Rattle.pkg_graph.specs.declared.packages.Package.{Package}
 use Rattle.declared_types.specs.Members.{SameMembers}
 use Rattle.package_blocks.specs.FuncHeaders.Functions.{program_of}

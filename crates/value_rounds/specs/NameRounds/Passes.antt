@@ -2,17 +2,17 @@
 -- Constant declarations; Variable declarations; Declarations and scope).
 use Rattle.std.specs.Prelude.{◌≡◌, ℕ, Bool, true, false, ◌&&◌, List, Option, Some, None, if◌then◌else◌, nat_eq, is_some, slice_get, ◌⊎◌}
 use Rattle.go_tree.specs.declared.spans.Span.{Span}
-use Rattle.go_tree.specs.ScopeNames.Means.{is_blank, means}
-use Rattle.go_tree.specs.GoTypes.Answers.{is_among}
-use Rattle.go_tree.specs.GoTypes.Entities.{refused, World}
-use Rattle.go_tree.specs.GoTypes.Declarations.{bind_each}
-use Rattle.go_tree.specs.GoTypes.Programs.{Headed, header_names, Program, headed}
-use Rattle.go_tree.specs.GoTypes.Collect.{declared_by, types_declared, named_world, valued_world}
+use Rattle.go_rules.specs.ScopeNames.Means.{is_blank, means}
+use Rattle.go_rules.specs.GoTypes.Answers.{is_among}
+use Rattle.go_rules.specs.GoTypes.Entities.{refused, World}
+use Rattle.go_rules.specs.GoTypes.Declarations.{bind_each}
+use Rattle.go_rules.specs.GoTypes.Programs.{Headed, header_names, Program, headed}
+use Rattle.go_rules.specs.GoTypes.Collect.{declared_by, types_declared, named_world, valued_world}
 use Rattle.typed_in_place.specs.Declared.{FirstWith}
 use Rattle.declared_types.specs.Members.{member}
 use Rattle.value_rounds.specs.Values.{is_value, names_value}
 use Rattle.value_rounds.specs.Steps.{over}
-use Rattle.go_tree.specs.GoTypes.SingleNames.{by_names}
+use Rattle.go_rules.specs.GoTypes.SingleNames.{by_names}
 use Rattle.value_rounds.specs.NameRounds.Steps.{FoundSoFar, RefusedSoFar}
 
 -- the headers of the single names of a program

@@ -2,16 +2,16 @@
 -- specification, Constant declarations; Variable declarations; Declarations and scope).
 use Rattle.std.specs.Prelude.{◌≡◌, ℕ, Bool, true, false, not, ◌&&◌, List, Option, None, is_some, nat_eq}
 use Rattle.std.specs.Prelude.{◌⊎◌}
-use Rattle.go_tree.specs.ScopeNames.Means.{means, is_blank}
-use Rattle.go_tree.specs.GoTypes.Answers.{is_among}
-use Rattle.go_tree.specs.GoTypes.Entities.{Entity, variable, constant, stand_in, type_name, function, package_name}
-use Rattle.go_tree.specs.GoTypes.Entities.{builtin, nil_name, iota_name, refused, World, block_of, Binds}
-use Rattle.go_tree.specs.GoTypes.Programs.{Headed, header_names, Program}
-use Rattle.go_tree.specs.GoTypes.Collect.{declared_by, types_declared, typed_world}
+use Rattle.go_rules.specs.ScopeNames.Means.{means, is_blank}
+use Rattle.go_rules.specs.GoTypes.Answers.{is_among}
+use Rattle.go_rules.specs.GoTypes.Entities.{Entity, variable, constant, stand_in, type_name, function, package_name}
+use Rattle.go_rules.specs.GoTypes.Entities.{builtin, nil_name, iota_name, refused, World, block_of, Binds}
+use Rattle.go_rules.specs.GoTypes.Programs.{Headed, header_names, Program}
+use Rattle.go_rules.specs.GoTypes.Collect.{declared_by, types_declared, typed_world}
 use Rattle.typed_in_place.specs.Known.{Clearer}
 use Rattle.typed_in_place.specs.Declared.{FirstWith, HasNumber}
-use Rattle.go_tree.specs.GoTypes.SingleNames.{by_names}
-use Rattle.go_tree.specs.GoTypes.Collect.{named_world, valued_world}
+use Rattle.go_rules.specs.GoTypes.SingleNames.{by_names}
+use Rattle.go_rules.specs.GoTypes.Collect.{named_world, valued_world}
 
 -- an entity that isn't refused
 abbrev pub is_known : Entity → Bool

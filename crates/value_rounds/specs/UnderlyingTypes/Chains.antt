@@ -1,8 +1,8 @@
 -- Chains of declared types by their numbers (Go specification, Underlying types; Type definitions).
 use Rattle.std.specs.Prelude.{◌≡◌, ℕ, zero, suc, ◌<◌, ◌≤◌, List, [], ◌∷◌, map, length, Option}
 use Rattle.std.specs.Prelude.{Some, None, nat_eq, if◌then◌else◌}
-use Rattle.go_tree.specs.GoTypes.Table.{IsTable}
-use Rattle.go_tree.specs.GoTypes.TypeDeclarations.{under_within}
+use Rattle.go_rules.specs.GoTypes.Table.{IsTable}
+use Rattle.go_rules.specs.GoTypes.TypeDeclarations.{under_within}
 use Rattle.type_table.specs.TypeRelations.Environment.{Environment, env_type}
 use Rattle.type_table.specs.declared.nodes.TypeId.{TypeId}
 use Rattle.defined_types.specs.declared.declared.DeclaredType.{DeclaredType}

@@ -1,7 +1,7 @@
 use Rattle.std.specs.Vec.{vec_len}
 use Rattle.std.proofs.Common.{◌≡◌, ◌∙◌, Some, false, length, rules, subst}
-use Rattle.go_tree.specs.GoTypes.Answers.{meets, only_if}
-use Rattle.go_tree.specs.GoTypes.Statements.{right_values, stores_all}
+use Rattle.go_rules.specs.GoTypes.Answers.{meets, only_if}
+use Rattle.go_rules.specs.GoTypes.Statements.{right_values, stores_all}
 use Rattle.type_table.specs.TypeRelations.Environment.{defined_types}
 use Rattle.control_steps.specs.Ends.{EndsAs}
 use Rattle.assignment_steps.specs.Targets.{AreTargetsIfOk, GivesTargets, targets_of}

@@ -1,7 +1,7 @@
 use Rattle.std.proofs.Common.{◌≡◌, subst, sym}
 use Rattle.go_tree.specs.View.{expr_of}
-use Rattle.go_tree.specs.GoTypes.Statements.{is_blank_name}
-use Rattle.go_tree.specs.ScopeNames.Means.{is_blank}
+use Rattle.go_rules.specs.GoTypes.Statements.{is_blank_name}
+use Rattle.go_rules.specs.ScopeNames.Means.{is_blank}
 use Rattle.assignment_steps.proofs.targets.is_blank_name.Goals as goal
 
 pub returns-in-Ident : goal.returns-in-Ident

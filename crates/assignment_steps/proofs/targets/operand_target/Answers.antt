@@ -1,7 +1,7 @@
 use Rattle.std.proofs.Common.{◌∙◌, ap, subst, sym}
-use Rattle.go_tree.specs.GoTypes.Answers.{given}
-use Rattle.go_tree.specs.GoTypes.Operands.{with_value}
-use Rattle.go_tree.specs.GoTypes.Statements.{target_at}
+use Rattle.go_rules.specs.GoTypes.Answers.{given}
+use Rattle.go_rules.specs.GoTypes.Operands.{with_value}
+use Rattle.go_rules.specs.GoTypes.Statements.{target_at}
 use Rattle.operator_rules.specs.AccessRules.Places.{place_of}
 use Rattle.operand_modes.specs.Operands.{IsOperand, operand_at}
 use Rattle.operand_modes.specs.OperandAnswers.Located.{StandsAt}

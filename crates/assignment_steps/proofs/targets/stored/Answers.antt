@@ -1,5 +1,5 @@
 use Rattle.std.proofs.Common.{Some, ap, subst}
-use Rattle.go_tree.specs.GoTypes.Statements.{store}
+use Rattle.go_rules.specs.GoTypes.Statements.{store}
 use Rattle.type_table.specs.OperandRules.Values.{IsType, type_of}
 use Rattle.assignment_steps.proofs.TargetLemmas.{not_nil, not_untyped}
 use Rattle.assignment_steps.proofs.targets.stored.Goals as goal

@@ -1,5 +1,5 @@
 use Rattle.std.proofs.Common.{◌≡◌, subst, sym}
-use Rattle.go_tree.specs.GoTypes.Statements.{stores}
+use Rattle.go_rules.specs.GoTypes.Statements.{stores}
 use Rattle.type_table.specs.TypeRelations.Environment.{defined_types}
 use Rattle.type_table.specs.OperandRules.Values.{typed_of}
 use Rattle.assignment_steps.specs.Targets.{IsTarget, target_of}

@@ -1,7 +1,7 @@
 use Rattle.std.proofs.Common.{ap, false, refl, sym}
 use Rattle.go_tree.specs.View.{stmts_of}
-use Rattle.go_tree.specs.GoTypes.Bodies.{body_ctx}
-use Rattle.go_tree.specs.GoTypes.Typing as go
+use Rattle.go_rules.specs.GoTypes.Bodies.{body_ctx}
+use Rattle.go_rules.specs.GoTypes.Typing as go
 use Rattle.jump_rules.specs.Labels.{labels_at}
 use Rattle.jump_rules.specs.UsedLocals.Used.{and_names, used_of}
 use Rattle.block_walk.proofs.EndLemmas.{ends_alone}

@@ -1,6 +1,6 @@
 use Rattle.std.proofs.Common.{◌≡◌, ◌∙◌, sym, ap, length, nat_eq, rules}
 use Rattle.std.specs.Vec.{vec_len}
-use Rattle.go_tree.specs.GoTypes.Answers.{is_empty}
+use Rattle.go_rules.specs.GoTypes.Answers.{is_empty}
 use Rattle.block_walk.proofs.ConstantLiterals.{none_seen}
 use Rattle.block_walk.proofs.found.has_none.Goals as goal
 

@@ -1,6 +1,6 @@
 use Rattle.std.proofs.Common.{◌∙◌, sym}
 use Rattle.go_tree.specs.View.{const_specs_of}
-use Rattle.go_tree.specs.GoTypes.Declarations.{nothing_to_repeat}
+use Rattle.go_rules.specs.GoTypes.Declarations.{nothing_to_repeat}
 use Rattle.operand_modes.proofs.OperandAnswers.KeptLemmas.{keeps_self}
 use Rattle.statement_walk.proofs.BlockLemmas.{within_self}
 use Rattle.block_walk.proofs.ConstantLiterals.{specs_plain, specs_refused}

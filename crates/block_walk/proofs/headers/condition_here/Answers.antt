@@ -1,9 +1,9 @@
 use Rattle.std.proofs.Common.{◌∙◌, ap}
 use Rattle.go_tree.specs.View.{expr_of}
-use Rattle.go_tree.specs.GoTypes.Answers.{meets}
-use Rattle.go_tree.specs.GoTypes.Entities.{defined_in}
-use Rattle.go_tree.specs.GoTypes.Statements.{is_condition}
-use Rattle.go_tree.specs.GoTypes.Typing as go
+use Rattle.go_rules.specs.GoTypes.Answers.{meets}
+use Rattle.go_rules.specs.GoTypes.Entities.{defined_in}
+use Rattle.go_rules.specs.GoTypes.Statements.{is_condition}
+use Rattle.go_rules.specs.GoTypes.Typing as go
 use Rattle.statement_walk.proofs.LaterWalks.{walked_later}
 use Rattle.statement_walk.proofs.ExprArms.{at, expr_there}
 use Rattle.jump_rules.specs.UsedLocals.Used.{and_names, used_of}

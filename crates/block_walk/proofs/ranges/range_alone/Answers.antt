@@ -1,11 +1,11 @@
 use Rattle.std.proofs.Common.{◌∙◌, ap}
 use Rattle.go_tree.specs.Tree as tree
 use Rattle.go_tree.specs.View.{expr_of}
-use Rattle.go_tree.specs.GoTypes.Answers.{meets}
-use Rattle.go_tree.specs.GoTypes.Entities.{defined_in, in_block}
-use Rattle.go_tree.specs.GoTypes.Operands.{typed}
-use Rattle.go_tree.specs.GoTypes.Statements.{range_types}
-use Rattle.go_tree.specs.GoTypes.Typing as go
+use Rattle.go_rules.specs.GoTypes.Answers.{meets}
+use Rattle.go_rules.specs.GoTypes.Entities.{defined_in, in_block}
+use Rattle.go_rules.specs.GoTypes.Operands.{typed}
+use Rattle.go_rules.specs.GoTypes.Statements.{range_types}
+use Rattle.go_rules.specs.GoTypes.Typing as go
 use Rattle.std.specs.Prelude.{is_some}
 use Rattle.statement_walk.proofs.LaterWalks.{walked_later}
 use Rattle.statement_walk.proofs.ExprArms.{at, expr_there}

@@ -1,12 +1,12 @@
 use Rattle.std.proofs.Common.{◌≡◌, ◌∙◌, ap, map, subst, sym, true}
 use Rattle.go_tree.specs.Tree as tree
 use Rattle.go_tree.specs.View.{expr_of, name_at_of}
-use Rattle.go_tree.specs.GoTypes.Answers.{given}
-use Rattle.go_tree.specs.GoTypes.Declarations.{bound_names}
-use Rattle.go_tree.specs.GoTypes.Entities.{extend, in_block}
-use Rattle.go_tree.specs.GoTypes.Statements.{new_by_range}
-use Rattle.go_tree.specs.GoTypes.Typing as go
-use Rattle.go_tree.specs.ScopeNames.FreeNames.{names_of}
+use Rattle.go_rules.specs.GoTypes.Answers.{given}
+use Rattle.go_rules.specs.GoTypes.Declarations.{bound_names}
+use Rattle.go_rules.specs.GoTypes.Entities.{extend, in_block}
+use Rattle.go_rules.specs.GoTypes.Statements.{new_by_range}
+use Rattle.go_rules.specs.GoTypes.Typing as go
+use Rattle.go_rules.specs.ScopeNames.FreeNames.{names_of}
 use Rattle.statement_walk.specs.Specs.{GivesVariables}
 use Rattle.control_steps.specs.DeclarationSteps.Entities.{AreEntities, binds_at}
 use Rattle.control_steps.specs.LocalBlocks.Places.{IsPlace}

@@ -1,7 +1,7 @@
 use Rattle.std.proofs.Common.{◌++◌, subst, sym}
 use Rattle.go_tree.specs.View.{expr_of, range_left_of}
-use Rattle.go_tree.specs.GoTypes.Entities.{in_block}
-use Rattle.go_tree.specs.GoTypes.Typing as go
+use Rattle.go_rules.specs.GoTypes.Entities.{in_block}
+use Rattle.go_rules.specs.GoTypes.Typing as go
 use Rattle.statement_walk.proofs.BlockLemmas.{within_self}
 use Rattle.jump_rules.specs.UsedLocals.Used.{used_of}
 use Rattle.statement_walk.specs.Parts.{GivesRead}

@@ -1,7 +1,7 @@
 use Rattle.std.proofs.Common.{drop, map}
 use Rattle.go_tree.specs.Lists.{exprs_from}
 use Rattle.go_tree.specs.View.{expr_of}
-use Rattle.go_tree.specs.GoTypes.Typing.{used_left}
+use Rattle.go_rules.specs.GoTypes.Typing.{used_left}
 use Rattle.statement_walk.proofs.ExprArms.{at}
 use Rattle.jump_rules.specs.UsedLocals.Used.{and_names, used_of}
 use Rattle.statement_walk.specs.FunctionLiterals.Uses.{HaveUsedLiterals}

@@ -1,7 +1,7 @@
 use Rattle.std.proofs.Common.{◌≡◌, ◌∙◌, None, Ok, ap, refl, subst, sym}
 use Rattle.go_tree.specs.Tree as tree
 use Rattle.go_tree.specs.View.{expr_of, plain_expr_option_of}
-use Rattle.go_tree.specs.GoTypes.Typing as go
+use Rattle.go_rules.specs.GoTypes.Typing as go
 use Rattle.operand_modes.specs.OperandAnswers.AccessSteps.Bounds.{GivesBound}
 use Rattle.statement_walk.proofs.LaterWalks.{walked_later}
 use Rattle.statement_walk.proofs.ExprArms.{at, bound_arm, expr_there}

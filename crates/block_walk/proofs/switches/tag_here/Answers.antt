@@ -1,7 +1,7 @@
 use Rattle.std.proofs.Common.{◌≡◌, []}
 use Rattle.go_tree.specs.View.{plain_expr_option_of}
-use Rattle.go_tree.specs.GoTypes.Statements.{tag_of}
-use Rattle.go_tree.specs.GoTypes.Typing as go
+use Rattle.go_rules.specs.GoTypes.Statements.{tag_of}
+use Rattle.go_rules.specs.GoTypes.Typing as go
 use Rattle.jump_rules.specs.UsedLocals.Used.{and_names, used_of}
 use Rattle.operand_modes.proofs.OperandAnswers.KeptLemmas.{stands_kept}
 use Rattle.control_steps.specs.LocalBlocks.Places.{in_block_of}

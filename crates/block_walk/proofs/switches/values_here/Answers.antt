@@ -1,6 +1,6 @@
 use Rattle.std.proofs.Common.{◌∙◌, ap}
 use Rattle.go_tree.specs.View.{exprs_of}
-use Rattle.go_tree.specs.GoTypes.Typing as go
+use Rattle.go_rules.specs.GoTypes.Typing as go
 use Rattle.type_table.specs.OperandRules.Values.{typed_of}
 use Rattle.jump_rules.specs.UsedLocals.Used.{and_names, used_of}
 use Rattle.operand_modes.proofs.OperandAnswers.KeptLemmas.{keeps_on, stands_kept, value_on}

@@ -1,7 +1,7 @@
 use Rattle.std.proofs.Common.{subst, sym}
-use Rattle.go_tree.specs.GoTypes.Answers.{both}
-use Rattle.go_tree.specs.GoTypes.Entities as go_entity
-use Rattle.go_tree.specs.GoTypes.Primary.{call_of}
+use Rattle.go_rules.specs.GoTypes.Answers.{both}
+use Rattle.go_rules.specs.GoTypes.Entities as go_entity
+use Rattle.go_rules.specs.GoTypes.Primary.{call_of}
 use Rattle.type_table.specs.TypeRelations.Environment.{defined_types}
 use Rattle.operand_modes.specs.Operands.{AreOperands, GivesOperand, operand_at, operands_at}
 use Rattle.operand_modes.specs.OperandAnswers.Lists.{AreThereIfOk, GivesAll}

@@ -1,5 +1,5 @@
 use Rattle.std.proofs.Common.{subst, sym}
-use Rattle.go_tree.specs.GoTypes.Primary.{call_of}
+use Rattle.go_rules.specs.GoTypes.Primary.{call_of}
 use Rattle.type_table.specs.TypeRelations.Environment.{defined_types}
 use Rattle.operand_modes.specs.Operands.{GivesOperand, IsOperand, operand_at, operands_at}
 use Rattle.call_steps.proofs.calls.operand_call.Goals as goal

@@ -1,5 +1,5 @@
 use Rattle.std.proofs.Common.{◌∙◌, subst, sym}
-use Rattle.go_tree.specs.GoTypes.Primary.{conversion, converted}
+use Rattle.go_rules.specs.GoTypes.Primary.{conversion, converted}
 use Rattle.type_table.specs.TypeRelations.Environment.{defined_types, env_type}
 use Rattle.type_table.specs.OperandRules.Values.{typed_of}
 use Rattle.operand_modes.specs.Operands.{AreOperands, GivesOperand, operands_at}

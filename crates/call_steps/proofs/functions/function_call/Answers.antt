@@ -1,5 +1,5 @@
 use Rattle.std.proofs.Common.{◌∙◌, subst, sym}
-use Rattle.go_tree.specs.GoTypes.Operands.{takes_all}
+use Rattle.go_rules.specs.GoTypes.Operands.{takes_all}
 use Rattle.type_table.specs.TypeRelations.Environment.{defined_types}
 use Rattle.operator_rules.specs.AccessRules.Functions.{AreValues, operands_of}
 use Rattle.operand_modes.specs.Operands.{GivesOperand, operands_at, tuple_at}

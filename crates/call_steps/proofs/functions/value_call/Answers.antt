@@ -3,7 +3,7 @@ use Rattle.operand_modes.specs.Operands.{tuple_at}
 use Rattle.type_table.specs.TypeRelations.Environment.{defined_types}
 use Rattle.operand_modes.proofs.CheckerTables.PartLemmas.{parts_follow}
 use Rattle.call_steps.proofs.CallSteps.{called_by, values_called}
-use Rattle.go_tree.specs.GoTypes.Operands.{takes_all}
+use Rattle.go_rules.specs.GoTypes.Operands.{takes_all}
 use Rattle.operator_rules.specs.AccessRules.Functions.{operands_of}
 use Rattle.call_steps.proofs.functions.value_call.Goals as goal
 

@@ -1,13 +1,13 @@
 -- What declarations bind is alike where the same is found.
 use Rattle.std.specs.Prelude.{◌≡◌}
 use Rattle.std.specs.Prelude.{ℕ, Bool, false, ◌&&◌, List, [], ◌∷◌, ◌++◌, Option, Some, None, if◌then◌else◌, is_some}
-use Rattle.go_tree.specs.ScopeNames.Means.{binding}
-use Rattle.go_tree.specs.GoTypes.Answers.{given, both, only_if}
-use Rattle.go_tree.specs.GoTypes.Types.{GoType, basic_kind}
-use Rattle.go_tree.specs.GoTypes.Entities.{run, exact, shift, Entity, variable, constant, Env, meaning, is_declared_here}
-use Rattle.go_tree.specs.GoTypes.Operands.{Operand, Typed, all_typed}
-use Rattle.go_tree.specs.GoTypes.Declarations.{names_once, may_declare, constants_declared, variables_declared, some_declared, constant_entity, variable_entity, bind_all, bind_each, assigns_to, defined_by, new_constants, new_variables, new_by_define}
-use Rattle.go_tree.specs.GoTypes.Entities.{World}
+use Rattle.go_rules.specs.ScopeNames.Means.{binding}
+use Rattle.go_rules.specs.GoTypes.Answers.{given, both, only_if}
+use Rattle.go_rules.specs.GoTypes.Types.{GoType, basic_kind}
+use Rattle.go_rules.specs.GoTypes.Entities.{run, exact, shift, Entity, variable, constant, Env, meaning, is_declared_here}
+use Rattle.go_rules.specs.GoTypes.Operands.{Operand, Typed, all_typed}
+use Rattle.go_rules.specs.GoTypes.Declarations.{names_once, may_declare, constants_declared, variables_declared, some_declared, constant_entity, variable_entity, bind_all, bind_each, assigns_to, defined_by, new_constants, new_variables, new_by_define}
+use Rattle.go_rules.specs.GoTypes.Entities.{World}
 use Rattle.typed_in_place.specs.SameWorlds.SameWorlds.{at}
 use Rattle.checked_modules.specs.RefusedBodies.Worlds.{FindsTheSame}
 use Rattle.checked_modules.proofs.RefusedBodies.AlikeLemmas.{bare, rules}

@@ -1,8 +1,8 @@
 -- What is read of a world by look-ups is the same where the same is found.
 use Rattle.std.specs.Prelude.{◌≡◌, ℕ, List}
-use Rattle.go_tree.specs.GoTypes.Types.{GoType}
-use Rattle.go_tree.specs.GoTypes.Defined.{comparable, has_keys, under}
-use Rattle.go_tree.specs.GoTypes.Entities.{World, exported}
+use Rattle.go_rules.specs.GoTypes.Types.{GoType}
+use Rattle.go_rules.specs.GoTypes.Defined.{comparable, has_keys, under}
+use Rattle.go_rules.specs.GoTypes.Entities.{World, exported}
 use Rattle.checked_modules.specs.RefusedBodies.Worlds.{FindsTheSame}
 use Rattle.checked_modules.proofs.RefusedBodies.AlikeLemmas.{exported_same}
 

@@ -4,18 +4,18 @@ use Rattle.std.specs.Prelude.{ℕ, zero, suc, true, false, ◌&&◌, ◌||◌, L
 use Rattle.go_tree.specs.declared.operators.BinOp.{BinOp}
 use Rattle.go_tree.specs.declared.operators.BinOp.TheVariants.{Eq}
 use Rattle.go_tree.specs.Tree.{Expr, ident, call}
-use Rattle.go_tree.specs.declared.const_eval.kinds.Kind.TheVariants as kind
-use Rattle.go_tree.specs.declared.const_eval.consts.Const.TheVariants.{Truth}
-use Rattle.go_tree.specs.ConstEval.Exact.{is_truth_kind}
-use Rattle.go_tree.specs.ScopeNames.Means.{binding}
-use Rattle.go_tree.specs.GoTypes.Answers.{given, meets, only_if, unless_missing}
-use Rattle.go_tree.specs.GoTypes.Types.{GoType, basic, untyped, element_of, map_parts}
-use Rattle.go_tree.specs.GoTypes.Relations.{has_nil}
-use Rattle.go_tree.specs.GoTypes.Entities.{run, exact, Place, map_element, variable, Env, meaning, package_of}
-use Rattle.go_tree.specs.GoTypes.Operands.{Operand, value, Typed, typed, with_value, values_of}
-use Rattle.go_tree.specs.GoTypes.Declarations.{names_once, some_declared}
-use Rattle.go_tree.specs.GoTypes.Statements.{target_at, stores, stores_all, assigned_values, updates, right_values, is_condition, is_test, range_types, range_stores, range_assigns, range_binds, new_by_range, tag_value, case_value, tag_of, means_panic, package_before, is_panic, Target, blank, store}
-use Rattle.go_tree.specs.GoTypes.Entities.{World}
+use Rattle.go_rules.specs.declared.const_eval.kinds.Kind.TheVariants as kind
+use Rattle.go_rules.specs.declared.const_eval.consts.Const.TheVariants.{Truth}
+use Rattle.go_rules.specs.ConstEval.Exact.{is_truth_kind}
+use Rattle.go_rules.specs.ScopeNames.Means.{binding}
+use Rattle.go_rules.specs.GoTypes.Answers.{given, meets, only_if, unless_missing}
+use Rattle.go_rules.specs.GoTypes.Types.{GoType, basic, untyped, element_of, map_parts}
+use Rattle.go_rules.specs.GoTypes.Relations.{has_nil}
+use Rattle.go_rules.specs.GoTypes.Entities.{run, exact, Place, map_element, variable, Env, meaning, package_of}
+use Rattle.go_rules.specs.GoTypes.Operands.{Operand, value, Typed, typed, with_value, values_of}
+use Rattle.go_rules.specs.GoTypes.Declarations.{names_once, some_declared}
+use Rattle.go_rules.specs.GoTypes.Statements.{target_at, stores, stores_all, assigned_values, updates, right_values, is_condition, is_test, range_types, range_stores, range_assigns, range_binds, new_by_range, tag_value, case_value, tag_of, means_panic, package_before, is_panic, Target, blank, store}
+use Rattle.go_rules.specs.GoTypes.Entities.{World}
 use Rattle.typed_in_place.specs.SameWorlds.SameWorlds.{at}
 use Rattle.checked_modules.specs.RefusedBodies.Worlds.{FindsTheSame}
 use Rattle.checked_modules.proofs.RefusedBodies.AlikeLemmas.{bare, rules}

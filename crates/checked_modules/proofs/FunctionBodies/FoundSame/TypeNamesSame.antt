@@ -2,11 +2,11 @@
 use Rattle.std.specs.Prelude.{◌≡◌}
 use Rattle.std.specs.Prelude.{List, Option, Some, None}
 use Rattle.go_tree.specs.Tree.{NameAt, TypeExpr, named, pointer, slice_type, map_type, struct_type, Fields, no_fields, field, Param, Sig}
-use Rattle.go_tree.specs.GoTypes.Answers.{given, both, only_if, answers_of}
-use Rattle.go_tree.specs.GoTypes.Types.{pointer_to, slice_of, map_of, struct_of, no_go_fields}
-use Rattle.go_tree.specs.GoTypes.Entities.{Env, meaning, package_of, type_of_name}
-use Rattle.go_tree.specs.GoTypes.TypeNames.{field_before, named_meaning, resolved, resolved_fields, type_meant, params_meant, func_type, written_type}
-use Rattle.go_tree.specs.GoTypes.Entities.{World}
+use Rattle.go_rules.specs.GoTypes.Answers.{given, both, only_if, answers_of}
+use Rattle.go_rules.specs.GoTypes.Types.{pointer_to, slice_of, map_of, struct_of, no_go_fields}
+use Rattle.go_rules.specs.GoTypes.Entities.{Env, meaning, package_of, type_of_name}
+use Rattle.go_rules.specs.GoTypes.TypeNames.{field_before, named_meaning, resolved, resolved_fields, type_meant, params_meant, func_type, written_type}
+use Rattle.go_rules.specs.GoTypes.Entities.{World}
 use Rattle.typed_in_place.specs.SameWorlds.SameWorlds.{at}
 use Rattle.checked_modules.specs.RefusedBodies.Worlds.{FindsTheSame}
 use Rattle.checked_modules.proofs.FunctionBodies.FoundSame.DefinedSame.{has_keys-same, exported-same}

@@ -3,28 +3,28 @@ use Rattle.std.specs.Prelude.{◌≡◌}
 use Rattle.std.specs.Prelude.{ℕ, ◌+◌, Bool, true, false, not, ◌&&◌, List, [], ◌∷◌, ◌++◌, length, Option, Some, None, if◌then◌else◌, is_some, pos}
 use Rattle.std.specs.List.{list_all}
 use Rattle.go_tree.specs.Tree.{Expr, ident, int_lit, rune_lit, str_lit, composite, selector, index, slice, call, func_lit, type_operand, unary, binary, star, Exprs, no_exprs, expr_and, ExprOption, no_expr, some_expr, Elems, no_elems, elem, Value, plain, braced, ValueOption, no_value, some_value, Stmt, const_decl, var_decl, empty, eval, step, assign, define, return_, break_, continue_, inner, if_, for_, range_, switch, defer, label, Stmts, no_stmts, stmt_and, StmtOption, no_stmt, some_stmt, BlockOption, no_block, some_block, RangeLeft, nothing, assigns, defines, Arms, no_arms, arm, Cases, no_cases, case, ValueSpecs, no_specs, spec}
-use Rattle.go_tree.specs.declared.const_eval.kinds.Kind.TheVariants as kind
-use Rattle.go_tree.specs.ConstEval.Exact.{number, text}
-use Rattle.go_tree.specs.ConstEval.Literals.{integer_value, literal_value}
+use Rattle.go_rules.specs.declared.const_eval.kinds.Kind.TheVariants as kind
+use Rattle.go_rules.specs.ConstEval.Exact.{number, text}
+use Rattle.go_rules.specs.ConstEval.Literals.{integer_value, literal_value}
 use Rattle.go_tree.specs.GoWords.Texts.{text_value}
-use Rattle.go_tree.specs.ScopeNames.FreeNames.{names_of, sig_names, free_type, free_type_option, free_params, declared, declared_option, defined}
-use Rattle.go_tree.specs.GoTypes.Answers.{given, both, meets, only_if, without}
-use Rattle.go_tree.specs.GoTypes.Types.{GoType}
-use Rattle.go_tree.specs.GoTypes.Entities.{Place, addressable, literal, elsewhere, refused, Env, meaning, Binds, extend, in_block}
-use Rattle.go_tree.specs.GoTypes.TypeNames.{written_type}
-use Rattle.go_tree.specs.GoTypes.Operands.{Operand, a_type, a_function, Typed, typed, all_typed, with_value, named_place, literal_operand}
-use Rattle.go_tree.specs.GoTypes.Primary.{stands_alone, may_be_deferred}
-use Rattle.go_tree.specs.GoTypes.Literals.{unkeyed, of_field, keyed, is_struct, field_key}
-use Rattle.go_tree.specs.GoTypes.Jumps.{breaks, breaks_in}
-use Rattle.go_tree.specs.GoTypes.Operands.{place_by}
-use Rattle.go_tree.specs.GoTypes.Declarations.{and_then, unused_after, binds_or, binds_of, beyond, Repeated, nothing_to_repeat, all_used}
-use Rattle.go_tree.specs.GoTypes.Bodies.{is_body, labelled}
-use Rattle.go_tree.specs.GoTypes.Statements.{one_more, step_op, choice, is_default}
-use Rattle.go_tree.specs.GoTypes.Declarations.{no_names, bind_each}
-use Rattle.go_tree.specs.GoTypes.Bodies.{Ctx, in_loop, in_switch, may_break, may_continue, body_binds, body_ctx, no_values}
-use Rattle.go_tree.specs.GoTypes.Statements.{blank, target_at, case_constants, is_blank_name, is_absent, is_define, is_empty_stmt, has_last}
-use Rattle.go_tree.specs.GoTypes.Typing.{parts, all_parts, bound, elements, element, with_key, place, places, used, used_all, used_option, used_elems, used_key, used_value, used_left, used_stmt, used_stmts, used_first, used_block, used_range, used_arms, used_cases, used_constants, used_variables, declares, declares_first, declares_constants, declares_variables, range_declares, targets, stmt, stmts, first, block, is_call, ranges, arms, clauses}
-use Rattle.go_tree.specs.GoTypes.Entities.{World}
+use Rattle.go_rules.specs.ScopeNames.FreeNames.{names_of, sig_names, free_type, free_type_option, free_params, declared, declared_option, defined}
+use Rattle.go_rules.specs.GoTypes.Answers.{given, both, meets, only_if, without}
+use Rattle.go_rules.specs.GoTypes.Types.{GoType}
+use Rattle.go_rules.specs.GoTypes.Entities.{Place, addressable, literal, elsewhere, refused, Env, meaning, Binds, extend, in_block}
+use Rattle.go_rules.specs.GoTypes.TypeNames.{written_type}
+use Rattle.go_rules.specs.GoTypes.Operands.{Operand, a_type, a_function, Typed, typed, all_typed, with_value, named_place, literal_operand}
+use Rattle.go_rules.specs.GoTypes.Primary.{stands_alone, may_be_deferred}
+use Rattle.go_rules.specs.GoTypes.Literals.{unkeyed, of_field, keyed, is_struct, field_key}
+use Rattle.go_rules.specs.GoTypes.Jumps.{breaks, breaks_in}
+use Rattle.go_rules.specs.GoTypes.Operands.{place_by}
+use Rattle.go_rules.specs.GoTypes.Declarations.{and_then, unused_after, binds_or, binds_of, beyond, Repeated, nothing_to_repeat, all_used}
+use Rattle.go_rules.specs.GoTypes.Bodies.{is_body, labelled}
+use Rattle.go_rules.specs.GoTypes.Statements.{one_more, step_op, choice, is_default}
+use Rattle.go_rules.specs.GoTypes.Declarations.{no_names, bind_each}
+use Rattle.go_rules.specs.GoTypes.Bodies.{Ctx, in_loop, in_switch, may_break, may_continue, body_binds, body_ctx, no_values}
+use Rattle.go_rules.specs.GoTypes.Statements.{blank, target_at, case_constants, is_blank_name, is_absent, is_define, is_empty_stmt, has_last}
+use Rattle.go_rules.specs.GoTypes.Typing.{parts, all_parts, bound, elements, element, with_key, place, places, used, used_all, used_option, used_elems, used_key, used_value, used_left, used_stmt, used_stmts, used_first, used_block, used_range, used_arms, used_cases, used_constants, used_variables, declares, declares_first, declares_constants, declares_variables, range_declares, targets, stmt, stmts, first, block, is_call, ranges, arms, clauses}
+use Rattle.go_rules.specs.GoTypes.Entities.{World}
 use Rattle.typed_in_place.specs.SameWorlds.SameWorlds.{at}
 use Rattle.checked_modules.specs.RefusedBodies.Worlds.{FindsTheSame}
 use Rattle.checked_modules.proofs.RefusedBodies.AlikeLemmas.{bare, rules}

@@ -1,6 +1,6 @@
 use Rattle.std.proofs.Common.{◌∙◌, ap}
-use Rattle.go_tree.specs.GoTypes.Answers.{one_of}
-use Rattle.go_tree.specs.GoTypes.WellTyped.{lacks_main}
+use Rattle.go_rules.specs.GoTypes.Answers.{one_of}
+use Rattle.go_rules.specs.GoTypes.WellTyped.{lacks_main}
 use Rattle.checked_modules.specs.Firsts.{package_of}
 use Rattle.checked_modules.proofs.firsts.body_place.Goals as goal
 

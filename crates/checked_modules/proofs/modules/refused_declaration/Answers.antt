@@ -1,7 +1,7 @@
 use Rattle.std.proofs.Common.{subst, sym}
 use Rattle.go_tree.specs.declared.spans.Span.{Span}
-use Rattle.go_tree.specs.GoTypes.Programs.{Program, headed}
-use Rattle.go_tree.specs.GoTypes.Collect.{collected}
+use Rattle.go_rules.specs.GoTypes.Programs.{Program, headed}
+use Rattle.go_rules.specs.GoTypes.Collect.{collected}
 use Rattle.package_blocks.specs.FuncHeaders.Functions.{program_of}
 use Rattle.collected.specs.Firsts.{AllUsed}
 use Rattle.collected.specs.Declarations.{AreFirstImports}

@@ -1,7 +1,7 @@
 use Rattle.std.proofs.Common.{[], ◌∙◌, List, map, subst, sym}
-use Rattle.go_tree.specs.declared.const_eval.consts.Const.{Const}
-use Rattle.go_tree.specs.GoTypes.Programs.{headed}
-use Rattle.go_tree.specs.GoTypes.Collect.{collected}
+use Rattle.go_rules.specs.declared.const_eval.consts.Const.{Const}
+use Rattle.go_rules.specs.GoTypes.Programs.{headed}
+use Rattle.go_rules.specs.GoTypes.Collect.{collected}
 use Rattle.typed_names.specs.Meanings.{world_at}
 use Rattle.declared_types.specs.Members.{SameMembers}
 use Rattle.declared_types.specs.Steps.{KnowsPlaces}

@@ -1,6 +1,6 @@
 use Rattle.std.proofs.Common.{◌∙◌, None, ap, map, refl}
 use Rattle.go_tree.specs.View.{name_at_of}
-use Rattle.go_tree.specs.GoTypes.Programs.{constants}
+use Rattle.go_rules.specs.GoTypes.Programs.{constants}
 use Rattle.package_blocks.specs.declared.headers.HeaderKind.TheVariants as kind
 use Rattle.package_blocks.specs.Headers.{header_of, repeated_type, repeated_values}
 use Rattle.collected.proofs.SingleHeaders.Added.{alone_as, none_repeated, whole_added}

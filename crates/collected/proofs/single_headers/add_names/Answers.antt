@@ -1,8 +1,8 @@
 use Rattle.std.proofs.Common.{◌∙◌, ap, map, not, sym}
 use Rattle.std.specs.Option.{option_map}
 use Rattle.go_tree.specs.View.{exprs_of, name_at_of, type_of}
-use Rattle.go_tree.specs.GoTypes.Answers.{is_empty}
-use Rattle.go_tree.specs.GoTypes.SingleNames.{has_value_each, single_names}
+use Rattle.go_rules.specs.GoTypes.Answers.{is_empty}
+use Rattle.go_rules.specs.GoTypes.SingleNames.{has_value_each, single_names}
 use Rattle.package_blocks.specs.Headers.{header_of, listed_of}
 use Rattle.typed_in_place.proofs.Rising.{and_second}
 use Rattle.collected.specs.SingleHeaders.Singles.{each_of, in_place}

@@ -1,6 +1,6 @@
 use Rattle.std.proofs.Common.{◌∙◌, ◌&&◌, ap, ap₂, length, map, nat_eq, not, sym}
 use Rattle.go_tree.specs.View.{exprs_of, name_at_of}
-use Rattle.go_tree.specs.GoTypes.SingleNames.{has_value_each}
+use Rattle.go_rules.specs.GoTypes.SingleNames.{has_value_each}
 use Rattle.collected.proofs.SingleHeaders.Added.{names_none, values_each}
 use Rattle.collected.proofs.single_headers.has_value_each.Goals as goal
 

@@ -1,5 +1,5 @@
 use Rattle.std.proofs.Common.{sym, subst}
-use Rattle.go_tree.specs.GoTypes.Programs.{headed}
+use Rattle.go_rules.specs.GoTypes.Programs.{headed}
 use Rattle.run_rules.specs.Programs.{linked}
 use Rattle.declared_types.specs.Headers.{AreTypeHeaders}
 use Rattle.collected.proofs.TypeLemmas.{still_known, types_are_found}

@@ -1,6 +1,6 @@
 use Rattle.std.proofs.Common.{Some, subst}
-use Rattle.go_tree.specs.GoTypes.Answers.{given}
-use Rattle.go_tree.specs.GoTypes.Literals.{keyed}
+use Rattle.go_rules.specs.GoTypes.Answers.{given}
+use Rattle.go_rules.specs.GoTypes.Literals.{keyed}
 use Rattle.operand_modes.specs.Operands.{GivesOperand}
 use Rattle.composite_steps.proofs.ElementLemmas.{element_refused, key_refused, keyed_given}
 use Rattle.composite_steps.proofs.elements.keyed.Goals as goal

@@ -1,8 +1,8 @@
 use Rattle.std.proofs.Common.{◌∙◌, Some, ap, refl, subst, sym}
 use Rattle.std.specs.Option.{option_map}
 use Rattle.go_tree.specs.View.{value_of}
-use Rattle.go_tree.specs.GoTypes.Answers.{given}
-use Rattle.go_tree.specs.GoTypes.Literals.{field_key, of_field}
+use Rattle.go_rules.specs.GoTypes.Answers.{given}
+use Rattle.go_rules.specs.GoTypes.Literals.{field_key, of_field}
 use Rattle.composite_steps.specs.declared.literal_rules.elements.Key.TheVariants.{Field}
 use Rattle.operand_modes.specs.Operands.{GivesOperand}
 use Rattle.composite_steps.proofs.ElementLemmas.{element_refused, field_given, no_field}

@@ -1,5 +1,5 @@
 use Rattle.std.proofs.Common.{Some, subst}
-use Rattle.go_tree.specs.GoTypes.Literals.{unkeyed}
+use Rattle.go_rules.specs.GoTypes.Literals.{unkeyed}
 use Rattle.operand_modes.specs.Operands.{GivesOperand}
 use Rattle.composite_steps.proofs.ElementLemmas.{element_refused, unkeyed_given}
 use Rattle.composite_steps.proofs.elements.unkeyed.Goals as goal

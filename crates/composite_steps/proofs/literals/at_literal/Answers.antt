@@ -1,7 +1,7 @@
 use Rattle.std.proofs.Common.{subst}
-use Rattle.go_tree.specs.GoTypes.Answers.{only_if}
-use Rattle.go_tree.specs.GoTypes.Entities as go_entity
-use Rattle.go_tree.specs.GoTypes.Operands.{plain_value}
+use Rattle.go_rules.specs.GoTypes.Answers.{only_if}
+use Rattle.go_rules.specs.GoTypes.Entities as go_entity
+use Rattle.go_rules.specs.GoTypes.Operands.{plain_value}
 use Rattle.type_table.specs.OperandRules.Values.{Gives}
 use Rattle.composite_steps.proofs.ElementLemmas.{literal_located, literal_refused}
 use Rattle.composite_steps.proofs.literals.at_literal.Goals as goal

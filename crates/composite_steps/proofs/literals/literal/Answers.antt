@@ -1,7 +1,7 @@
 use Rattle.std.proofs.Common.{subst, sym}
-use Rattle.go_tree.specs.GoTypes.Defined.{under}
-use Rattle.go_tree.specs.GoTypes.Entities as go_entity
-use Rattle.go_tree.specs.GoTypes.Literals.{built, literal_takes}
+use Rattle.go_rules.specs.GoTypes.Defined.{under}
+use Rattle.go_rules.specs.GoTypes.Entities as go_entity
+use Rattle.go_rules.specs.GoTypes.Literals.{built, literal_takes}
 use Rattle.type_table.specs.TypeRelations.Environment.{defined_types, env_type}
 use Rattle.type_table.specs.OperandRules.Values.{Gives}
 use Rattle.composite_steps.specs.LiteralRules.Elements.{AreElements, elements_at}

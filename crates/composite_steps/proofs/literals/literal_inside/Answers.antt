@@ -1,5 +1,5 @@
 use Rattle.std.proofs.Common.{subst, sym}
-use Rattle.go_tree.specs.GoTypes.Literals.{built_inside}
+use Rattle.go_rules.specs.GoTypes.Literals.{built_inside}
 use Rattle.type_table.specs.TypeRelations.Environment.{defined_types, env_type}
 use Rattle.type_table.specs.OperandRules.Values.{Gives}
 use Rattle.composite_steps.specs.LiteralRules.Elements.{AreElements, elements_at}

@@ -5,10 +5,10 @@ use Rattle.std.proofs.lemmas.Option.{slice_get-map, same_Some}
 use Rattle.go_tree.specs.declared.spans.Span.{Span}
 use Rattle.go_tree.specs.Tree.{NameAt}
 use Rattle.go_tree.specs.File.{ImportDecl, Decl, File}
-use Rattle.go_tree.specs.declared.scope_names.names.Entity.{Entity}
-use Rattle.go_tree.specs.declared.scope_names.names.Entity.TheVariants.{Import, Package as Member, Universe}
-use Rattle.go_tree.specs.declared.scope_names.names.ImportName.{ImportName}
-use Rattle.go_tree.specs.ScopeNames.Means.{Environment, or_else, means, binding, is_blank, numbered, predeclared, outermost}
+use Rattle.go_rules.specs.declared.scope_names.names.Entity.{Entity}
+use Rattle.go_rules.specs.declared.scope_names.names.Entity.TheVariants.{Import, Package as Member, Universe}
+use Rattle.go_rules.specs.declared.scope_names.names.ImportName.{ImportName}
+use Rattle.go_rules.specs.ScopeNames.Means.{Environment, or_else, means, binding, is_blank, numbered, predeclared, outermost}
 use Rattle.pkg_graph.specs.Package.{SourceTree, Package, import_specs, specs_in}
 use Rattle.pkg_graph.specs.Members.{Target, imported, member, predeclared as predeclared_name, import_name, items_from, decls_from, files_from, block_names, package_block, outside, names_of_file}
 use Rattle.run_rules.specs.ImportRules.Unused.{spec_spans, AreImportsOf}

@@ -6,15 +6,15 @@ use Rattle.go_tree.specs.declared.spans.Span.{Span}
 use Rattle.go_tree.specs.Tree.{NameAt}
 use Rattle.go_tree.specs.File.{ImportSpec, ImportDecl, File}
 use Rattle.go_tree.specs.GoWords.Tokens.Pieces.{is_among, keyword_spellings}
-use Rattle.go_tree.specs.declared.scope_names.names.Entity.{Entity}
-use Rattle.go_tree.specs.declared.scope_names.names.Entity.TheVariants.{Local}
-use Rattle.go_tree.specs.declared.scope_names.names.FileNames.{FileNames}
-use Rattle.go_tree.specs.declared.scope_names.names.ImportName.{ImportName}
-use Rattle.go_tree.specs.ScopeNames.FreeNames.{names_of}
-use Rattle.go_tree.specs.ScopeNames.Identifiers.{identifiers}
-use Rattle.go_tree.specs.ScopeNames.Means.{Environment, means, file_environment, outermost, predeclared}
-use Rattle.go_tree.specs.declared.scope_names.names.Entity.TheVariants as entity
-use Rattle.go_tree.specs.ScopeNames.Fresh.{candidate, is_new, IsFresh}
+use Rattle.go_rules.specs.declared.scope_names.names.Entity.{Entity}
+use Rattle.go_rules.specs.declared.scope_names.names.Entity.TheVariants.{Local}
+use Rattle.go_rules.specs.declared.scope_names.names.FileNames.{FileNames}
+use Rattle.go_rules.specs.declared.scope_names.names.ImportName.{ImportName}
+use Rattle.go_rules.specs.ScopeNames.FreeNames.{names_of}
+use Rattle.go_rules.specs.ScopeNames.Identifiers.{identifiers}
+use Rattle.go_rules.specs.ScopeNames.Means.{Environment, means, file_environment, outermost, predeclared}
+use Rattle.go_rules.specs.declared.scope_names.names.Entity.TheVariants as entity
+use Rattle.go_rules.specs.ScopeNames.Fresh.{candidate, is_new, IsFresh}
 use Rattle.pkg_graph.specs.Package.{Package, import_specs, specs_in}
 use Rattle.pkg_graph.specs.Members.{import_name}
 use Rattle.run_rules.specs.declared.import_rules.new_import.Needed.{Needed}

@@ -2,7 +2,7 @@
 use Rattle.std.proofs.Common.{◌≡◌, refl, subst, ℕ, suc, Bool, List, [], ◌∷◌, ◌++◌, Option, Some, None}
 use Rattle.go_tree.specs.Tree.{TypeExpr}
 use Rattle.go_tree.specs.File.{Decl, Func}
-use Rattle.go_tree.specs.ScopeNames.Identifiers.{identifiers, imports_identifiers, decl_identifiers, decls_identifiers}
+use Rattle.go_rules.specs.ScopeNames.Identifiers.{identifiers, imports_identifiers, decl_identifiers, decls_identifiers}
 use Rattle.pkg_graph.specs.Package.{SourceTree, Package}
 use Rattle.run_rules.specs.Surroundings.{Use, Place, Seen, seen, seen_type, seen_stmt, other}
 use Rattle.run_rules.specs.Programs.{numbered, numbered_from, in_dependency_order, decl_seen}
@@ -15,7 +15,7 @@ use Rattle.run_rules.specs.Forms.{form_tree}
 use Rattle.run_rules.specs.Obstacles.{Obstacle}
 use Rattle.run_rules.specs.Reduced.{Reduced, becomes, kept, range_of, needed_by, names_in_form, call_obstacle, first_free, kept_by, reduced_to, reduced_call, call_at, name_obstacle, named_form, reduced_name, home_place, constant_form, alias_form, reduced_function, reduced_in, reduced}
 use Rattle.run_rules.specs.Steps.{At, same_here, Found, found_by, first_found, first_step}
-use Rattle.go_tree.specs.GoTypes.Answers.{given, one_of}
+use Rattle.go_rules.specs.GoTypes.Answers.{given, one_of}
 use Rattle.constant_steps.specs.FormImports.ImportLaws.Steps.{binders_in, binders_of}
 use Rattle.constant_steps.proofs.FormImports.ImportLaws.PlacesBound.{NamesIn, names_in, front_in, back_in, In, BoundIn, AllBound, decl_bound}
 

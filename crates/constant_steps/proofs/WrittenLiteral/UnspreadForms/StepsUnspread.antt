@@ -7,7 +7,7 @@ use Rattle.go_tree.specs.File.{TypeSpec, Func, Receiver, Decl, values, types, fu
 use Rattle.go_tree.specs.Bare.{bare_expr, bare_stmt}
 use Rattle.pkg_graph.specs.Package.{SourceTree, Package}
 use Rattle.pkg_graph.specs.ModuleFiles.Pieces.{comes_before}
-use Rattle.go_tree.specs.GoTypes.Answers.{given}
+use Rattle.go_rules.specs.GoTypes.Answers.{given}
 use Rattle.splice_laws.specs.Dots.{ExprDots, ExprsDots, StmtDots, StmtsDots, SpecsDots, DeclDots, DeclsDots}
 use Rattle.splice_laws.specs.Swaps.{an_operand, a_callee, a_stmt, a_deferred}
 use Rattle.splice_laws.specs.ImportSplices.TypedDots.TypedDots.{AnyExpr}

@@ -3,10 +3,10 @@
 use Rattle.std.specs.Prelude.{◌≡◌, ℕ, ◌↔◌, Bool, List, Some}
 use Rattle.go_tree.specs.declared.spans.Span.{Span}
 use Rattle.go_tree.specs.File.{File}
-use Rattle.go_tree.specs.declared.scope_names.names.Entity.TheVariants.{Import}
-use Rattle.go_tree.specs.declared.scope_names.names.FileNames.{FileNames}
-use Rattle.go_tree.specs.ScopeNames.Means.{means, outermost}
-use Rattle.go_tree.specs.ScopeNames.Scopes.{environment_at}
+use Rattle.go_rules.specs.declared.scope_names.names.Entity.TheVariants.{Import}
+use Rattle.go_rules.specs.declared.scope_names.names.FileNames.{FileNames}
+use Rattle.go_rules.specs.ScopeNames.Means.{means, outermost}
+use Rattle.go_rules.specs.ScopeNames.Scopes.{environment_at}
 use Rattle.pkg_graph.specs.Package.{SourceTree, Package}
 use Rattle.pkg_graph.specs.Members.{imported, outside, names_of_file}
 use Rattle.pkg_graph.specs.Reads.{Source}

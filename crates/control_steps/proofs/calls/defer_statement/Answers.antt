@@ -1,5 +1,5 @@
 use Rattle.std.proofs.Common.{◌∙◌, false, refl, subst, sym}
-use Rattle.go_tree.specs.GoTypes.Primary.{may_be_deferred}
+use Rattle.go_rules.specs.GoTypes.Primary.{may_be_deferred}
 use Rattle.operand_modes.specs.OperandAnswers.Located.{GivesAt}
 use Rattle.control_steps.proofs.OperandTests.{call_fails, call_passes, callee_alike, callee_refused}
 use Rattle.control_steps.proofs.calls.defer_statement.Goals as goal

@@ -1,5 +1,5 @@
 use Rattle.std.proofs.Common.{◌∙◌, refl, subst, sym}
-use Rattle.go_tree.specs.GoTypes.Primary.{stands_alone}
+use Rattle.go_rules.specs.GoTypes.Primary.{stands_alone}
 use Rattle.operand_modes.specs.OperandAnswers.Located.{GivesAt}
 use Rattle.control_steps.proofs.OperandTests.{call_fails, call_passes, callee_alike, callee_refused}
 use Rattle.control_steps.proofs.calls.expression_statement.Goals as goal

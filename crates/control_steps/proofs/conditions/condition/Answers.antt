@@ -1,5 +1,5 @@
 use Rattle.std.proofs.Common.{◌∙◌, subst}
-use Rattle.go_tree.specs.GoTypes.Statements.{is_condition}
+use Rattle.go_rules.specs.GoTypes.Statements.{is_condition}
 use Rattle.type_table.specs.TypeRelations.Environment.{defined_types}
 use Rattle.operand_modes.specs.OperandAnswers.Located.{GivesAt, IsThereIfOk}
 use Rattle.control_steps.proofs.OperandTests.{condition_alike, met, not_met}

@@ -1,5 +1,5 @@
 use Rattle.std.proofs.Common.{◌∙◌, ap, subst, sym}
-use Rattle.go_tree.specs.GoTypes.Statements.{is_condition}
+use Rattle.go_rules.specs.GoTypes.Statements.{is_condition}
 use Rattle.type_table.specs.TypeRelations.Environment.{defined_types}
 use Rattle.operand_modes.specs.Operands.{IsOperand, operand_at}
 use Rattle.operand_modes.proofs.OperandAnswers.AnswerLemmas.{single_is}

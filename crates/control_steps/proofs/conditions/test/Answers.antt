@@ -1,5 +1,5 @@
 use Rattle.std.proofs.Common.{◌≡◌, ◌∙◌, IfOk, subst, sym}
-use Rattle.go_tree.specs.GoTypes.Answers.{meets}
+use Rattle.go_rules.specs.GoTypes.Answers.{meets}
 use Rattle.type_table.specs.TypeRelations.Environment.{defined_types}
 use Rattle.operand_modes.specs.OperandAnswers.AccessSteps.Bounds.{GivesBound, IsBoundIfOk}
 use Rattle.control_steps.proofs.OperandTests.{passes_test, test_met, test_not_met}

@@ -1,8 +1,8 @@
 use Rattle.std.proofs.Common.{◌≡◌, ◌∙◌, ap, subst, sym}
 use Rattle.go_tree.specs.Tree.{call}
 use Rattle.go_tree.specs.View.{expr_of}
-use Rattle.go_tree.specs.GoTypes.Entities.{meaning}
-use Rattle.go_tree.specs.GoTypes.Statements.{is_panic, means_panic}
+use Rattle.go_rules.specs.GoTypes.Entities.{meaning}
+use Rattle.go_rules.specs.GoTypes.Statements.{is_panic, means_panic}
 use Rattle.typed_names.specs.Scopes.{env_at}
 use Rattle.control_steps.proofs.panics.is_panic.Goals as goal
 

@@ -1,5 +1,5 @@
 use Rattle.std.proofs.Common.{◌≡◌, ◌∙◌, IfOk, Some, ap, subst, sym}
-use Rattle.go_tree.specs.GoTypes.Answers.{only_if}
+use Rattle.go_rules.specs.GoTypes.Answers.{only_if}
 use Rattle.control_steps.proofs.refused.ends_if.Goals as goal
 
 pub returns-then-passes : goal.returns-then-passes

@@ -1,5 +1,5 @@
 use Rattle.std.proofs.Common.{◌≡◌, IfOk, subst, sym}
-use Rattle.go_tree.specs.GoTypes.Operands.{spread, takes_all}
+use Rattle.go_rules.specs.GoTypes.Operands.{spread, takes_all}
 use Rattle.type_table.specs.TypeRelations.Environment.{defined_types}
 use Rattle.operator_rules.specs.AccessRules.Functions.{types_at}
 use Rattle.operand_modes.specs.Operands.{AreOperands, operands_at}

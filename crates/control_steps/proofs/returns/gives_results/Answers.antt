@@ -1,7 +1,7 @@
 use Rattle.std.proofs.Common.{◌≡◌, ◌∙◌, IfOk, subst, sym}
 use Rattle.go_tree.specs.View.{exprs_of}
-use Rattle.go_tree.specs.GoTypes.Answers.{meets}
-use Rattle.go_tree.specs.GoTypes.Operands.{spread, takes_all}
+use Rattle.go_rules.specs.GoTypes.Answers.{meets}
+use Rattle.go_rules.specs.GoTypes.Operands.{spread, takes_all}
 use Rattle.type_table.specs.TypeRelations.Environment.{defined_types}
 use Rattle.operator_rules.specs.AccessRules.Functions.{AreTypes, types_at}
 use Rattle.control_steps.proofs.TakenLemmas.{bare, not_bare}

@@ -1,5 +1,5 @@
 use Rattle.go_tree.specs.View.{exprs_of}
-use Rattle.go_tree.specs.GoTypes.Bodies as go
+use Rattle.go_rules.specs.GoTypes.Bodies as go
 use Rattle.control_steps.proofs.returns.return_statement.Goals as goal
 
 pub returns : goal.returns

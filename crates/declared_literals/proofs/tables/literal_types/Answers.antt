@@ -1,6 +1,6 @@
 use Rattle.std.proofs.Common.{map, subst, sym, List}
 use Rattle.std.proofs.lemmas.Result.{IfOk-weaker}
-use Rattle.go_tree.specs.GoTypes.Programs.{headed}
+use Rattle.go_rules.specs.GoTypes.Programs.{headed}
 use Rattle.run_rules.specs.Programs.{linked}
 use Rattle.typed_names.specs.declared.scopes.Scope.{Scope}
 use Rattle.package_blocks.specs.declared.headers.PackageHeader.{PackageHeader}

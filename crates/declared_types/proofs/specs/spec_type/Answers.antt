@@ -1,7 +1,7 @@
 use Rattle.std.proofs.Common.{cond, subst, sym, Some}
 use Rattle.go_tree.specs.FileView.{type_spec_of}
-use Rattle.go_tree.specs.GoTypes.TypeNames.{resolved}
-use Rattle.go_tree.specs.GoTypes.Types.{named_type}
+use Rattle.go_rules.specs.GoTypes.TypeNames.{resolved}
+use Rattle.go_rules.specs.GoTypes.Types.{named_type}
 use Rattle.typed_names.specs.Scopes.{env_at}
 use Rattle.typed_names.specs.TypeExprs.Answers.{GivesType}
 use Rattle.declared_types.proofs.specs.spec_type.Goals as goal

@@ -1,5 +1,5 @@
 use Rattle.std.proofs.Common.{◌+◌, ◌∙◌, drop, subst}
-use Rattle.go_tree.specs.GoTypes.Collect.{aliased_world}
+use Rattle.go_rules.specs.GoTypes.Collect.{aliased_world}
 use Rattle.typed_names.proofs.TypeExprs.NewNames.{drop_all, drop_item}
 use Rattle.defined_types.specs.DeclaredTypes.{TypesRead}
 use Rattle.defined_types.proofs.OfPrograms.{declared_there}

@@ -1,7 +1,7 @@
 use Rattle.std.proofs.Common.{◌≡◌, ◌<◌, ◌∙◌, true, length, is_none, sym, ap, rules}
 use Rattle.go_tree.specs.declared.exprs.Expr.{Expr}
 use Rattle.go_tree.specs.View.{expr_of}
-use Rattle.go_tree.specs.ScopeNames.Means.{outermost}
+use Rattle.go_rules.specs.ScopeNames.Means.{outermost}
 use Rattle.directive_scan.specs.Items.{names_constant}
 use Rattle.directive_scan.proofs.ItemLaws.{verdict_good}
 use Rattle.directive_scan.proofs.items.value_verdict.Goals as goal

@@ -2,21 +2,21 @@ use Rattle.std.proofs.Common.{false, ◌∙◌, ◌+◌, [], List, IfSome, Ok, E
 use Rattle.go_tree.specs.Tree as tree
 use Rattle.go_tree.specs.Lists.{elems_from, exprs_from}
 use Rattle.go_tree.specs.View.{sig_of, stmts_of, boxed_expr_option_of, elem_of, elems_of, expr_of, exprs_of, held_value_option_of, name_at_of, type_of, value_of}
-use Rattle.go_tree.specs.declared.const_eval.kinds.Kind.TheVariants as kind
-use Rattle.go_tree.specs.ConstEval.Exact.{number, text}
-use Rattle.go_tree.specs.ConstEval.Literals.{integer_value, literal_value}
+use Rattle.go_rules.specs.declared.const_eval.kinds.Kind.TheVariants as kind
+use Rattle.go_rules.specs.ConstEval.Exact.{number, text}
+use Rattle.go_rules.specs.ConstEval.Literals.{integer_value, literal_value}
 use Rattle.go_tree.specs.GoWords.Texts.{text_value}
-use Rattle.go_tree.specs.GoTypes.Answers.{given}
-use Rattle.go_tree.specs.GoTypes.Defined.{under}
-use Rattle.go_tree.specs.GoTypes.Entities as go_entity
-use Rattle.go_tree.specs.GoTypes.Bodies.{body_binds, body_ctx, is_body}
-use Rattle.go_tree.specs.GoTypes.Entities.{defined_in, exported, extend, in_block, meaning}
-use Rattle.go_tree.specs.GoTypes.Literals.{built, field_key, is_struct, key_type, keyed, of_field}
-use Rattle.go_tree.specs.GoTypes.Operands.{literal_operand, named_operand, named_place, place_by, with_value}
-use Rattle.go_tree.specs.GoTypes.Primary as go
-use Rattle.go_tree.specs.GoTypes.TypeNames.{func_type, type_meant}
-use Rattle.go_tree.specs.GoTypes.Typing as go_typing
-use Rattle.go_tree.specs.GoTypes.Typing.{bound}
+use Rattle.go_rules.specs.GoTypes.Answers.{given}
+use Rattle.go_rules.specs.GoTypes.Defined.{under}
+use Rattle.go_rules.specs.GoTypes.Entities as go_entity
+use Rattle.go_rules.specs.GoTypes.Bodies.{body_binds, body_ctx, is_body}
+use Rattle.go_rules.specs.GoTypes.Entities.{defined_in, exported, extend, in_block, meaning}
+use Rattle.go_rules.specs.GoTypes.Literals.{built, field_key, is_struct, key_type, keyed, of_field}
+use Rattle.go_rules.specs.GoTypes.Operands.{literal_operand, named_operand, named_place, place_by, with_value}
+use Rattle.go_rules.specs.GoTypes.Primary as go
+use Rattle.go_rules.specs.GoTypes.TypeNames.{func_type, type_meant}
+use Rattle.go_rules.specs.GoTypes.Typing as go_typing
+use Rattle.go_rules.specs.GoTypes.Typing.{bound}
 use Rattle.type_table.specs.TypeRelations.Environment.{defined_types, env_type}
 use Rattle.typed_names.proofs.TypeExprs.NewNames.{drop_all, drop_item}
 use Rattle.type_table.specs.declared.operand_rules.values.ValueType.TheVariants.{Typed}

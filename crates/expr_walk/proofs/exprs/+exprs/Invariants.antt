@@ -1,7 +1,7 @@
 use Rattle.std.proofs.Common.{◌+◌, drop, map}
 use Rattle.go_tree.specs.Lists.{elems_from, exprs_from}
 use Rattle.go_tree.specs.View.{boxed_expr_option_of, elem_of, elems_of, expr_of, exprs_of, held_value_option_of, value_of}
-use Rattle.go_tree.specs.GoTypes.Defined.{under}
+use Rattle.go_rules.specs.GoTypes.Defined.{under}
 use Rattle.type_table.specs.TypeRelations.Environment.{defined_types, env_type}
 use Rattle.expr_walk.specs.WalkArms.Elements.{AreElementsWalked}
 use Rattle.expr_walk.specs.WalkArms.Lists.{AreWalked}

@@ -1,6 +1,6 @@
 use Rattle.std.proofs.Common.{◌∙◌, List, ap, ap₂}
-use Rattle.go_tree.specs.GoTypes.Types.{GoType, FuncType}
-use Rattle.go_tree.specs.GoTypes.Entities as go
+use Rattle.go_rules.specs.GoTypes.Types.{GoType, FuncType}
+use Rattle.go_rules.specs.GoTypes.Entities as go
 use Rattle.typed_names.specs.Meanings.{tuple_list}
 use Rattle.func_types.proofs.ParamSteps.{types_below, types_kept, types_same}
 use Rattle.func_types.proofs.entities.function_entity.Goals as goal

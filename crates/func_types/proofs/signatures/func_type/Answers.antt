@@ -1,6 +1,6 @@
 use Rattle.std.proofs.Common.{Ok, map, subst}
 use Rattle.go_tree.specs.View.{param_of}
-use Rattle.go_tree.specs.GoTypes.TypeNames as go
+use Rattle.go_rules.specs.GoTypes.TypeNames as go
 use Rattle.typed_names.specs.Scopes.{env_at}
 use Rattle.typed_names.proofs.TypeExprs.GrownLaws.{env_same}
 use Rattle.func_types.specs.Answers.{GivesTypes}

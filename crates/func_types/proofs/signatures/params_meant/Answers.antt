@@ -1,6 +1,6 @@
 use Rattle.std.proofs.Common.{◌∙◌, ◌+◌, Err, ap, drop, map, subst, sym}
 use Rattle.go_tree.specs.View.{param_of, type_of}
-use Rattle.go_tree.specs.GoTypes.TypeNames as go
+use Rattle.go_rules.specs.GoTypes.TypeNames as go
 use Rattle.typed_names.specs.Scopes.{env_at}
 use Rattle.typed_names.specs.TypeExprs.Answers.{GivesType}
 use Rattle.typed_names.proofs.TypeExprs.GrownLaws.{known_on}

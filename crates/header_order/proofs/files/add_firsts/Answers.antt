@@ -1,6 +1,6 @@
 use Rattle.std.proofs.Common.{[], ◌∷◌, ◌+◌, ap, drop, length, map, subst}
 use Rattle.go_tree.specs.FileView.{decl_of}
-use Rattle.go_tree.specs.GoTypes.Programs.{all_headers}
+use Rattle.go_rules.specs.GoTypes.Programs.{all_headers}
 use Rattle.typed_names.proofs.TypeExprs.NewNames.{drop_all, drop_item}
 use Rattle.header_order.specs.Files.{FilesPassed, header_counts}
 use Rattle.header_order.proofs.CodeLemmas.{one_added, passed_all, passed_more, passed_none}

@@ -1,6 +1,6 @@
 use Rattle.std.proofs.Common.{◌∙◌, ap, length, sym}
 use Rattle.go_tree.specs.FileView.{decl_of}
-use Rattle.go_tree.specs.GoTypes.Programs.{headers}
+use Rattle.go_rules.specs.GoTypes.Programs.{headers}
 use Rattle.header_order.proofs.CodeLemmas.{const_length, var_length}
 use Rattle.header_order.proofs.files.header_count.Goals as goal
 

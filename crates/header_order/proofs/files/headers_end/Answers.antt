@@ -1,6 +1,6 @@
 use Rattle.std.proofs.Common.{◌≡◌, ◌∙◌, ◌≤◌, ◌+◌, ap, arith, drop, length, map, subst, sym}
 use Rattle.go_tree.specs.FileView.{decl_of}
-use Rattle.go_tree.specs.GoTypes.Programs.{all_headers, headers}
+use Rattle.go_rules.specs.GoTypes.Programs.{all_headers, headers}
 use Rattle.typed_names.proofs.TypeExprs.NewNames.{drop_all, drop_item}
 use Rattle.header_order.proofs.CodeLemmas.{end_more, end_reached}
 use Rattle.header_order.proofs.files.headers_end.Goals as goal

@@ -1,6 +1,6 @@
 use Rattle.std.proofs.Common.{◌≡◌, ◌≤◌, ◌+◌, drop, length, map}
 use Rattle.go_tree.specs.FileView.{decl_of}
-use Rattle.go_tree.specs.GoTypes.Programs.{all_headers}
+use Rattle.go_rules.specs.GoTypes.Programs.{all_headers}
 use Rattle.header_order.proofs.files.headers_end.Given as goal
 
 abbrev pub invariant-loop-decl : goal.invariant-loop-decl

@@ -1,7 +1,7 @@
 use Rattle.std.proofs.Common.{◌≡◌, map}
 use Rattle.go_tree.specs.Lists.{elems_from, exprs_from}
 use Rattle.go_tree.specs.View.{elem_of, expr_of}
-use Rattle.go_tree.specs.GoTypes.Bodiless.{all_bodiless, bodiless_elems}
+use Rattle.go_rules.specs.GoTypes.Bodiless.{all_bodiless, bodiless_elems}
 use Rattle.initial_values.proofs.BodilessLemmas.{rest_bodiless, rest_elems}
 use Rattle.initial_values.proofs.bodiless.+bodiless.Given as goal
 

@@ -1,7 +1,7 @@
 use Rattle.std.proofs.Common.{◌∙◌, ◌+◌, drop, map, subst, sym}
 use Rattle.go_tree.specs.Lists.{exprs_from}
 use Rattle.go_tree.specs.View.{expr_of}
-use Rattle.go_tree.specs.GoTypes.Initial.{all_constant, is_constant}
+use Rattle.go_rules.specs.GoTypes.Initial.{all_constant, is_constant}
 use Rattle.expr_walk.proofs.Parts.{expr_walked}
 use Rattle.expr_walk.proofs.WalkArms.ExprArms.{at}
 use Rattle.initial_values.specs.Steps.{IsPassed}

@@ -2,7 +2,7 @@ use Rattle.std.proofs.Common.{◌∙◌, ◌+◌, ap, arith, drop, map, subst, s
 use Rattle.go_tree.specs.Tree.{ident}
 use Rattle.go_tree.specs.Lists.{elems_from}
 use Rattle.go_tree.specs.View.{elem_of, elems_of, expr_of, exprs_of, held_value_option_of, type_of, value_of}
-use Rattle.go_tree.specs.GoTypes.Initial.{initial_elems, is_composite, is_constant, is_initial, is_maker, is_nil_name, sizes_constant}
+use Rattle.go_rules.specs.GoTypes.Initial.{initial_elems, is_composite, is_constant, is_initial, is_maker, is_nil_name, sizes_constant}
 use Rattle.operator_rules.specs.Settling.{typed_option}
 use Rattle.type_table.specs.TypeRelations.Environment.{defined_types}
 use Rattle.expr_walk.specs.Walked.{AreWalkedElems}

@@ -1,7 +1,7 @@
 use Rattle.std.proofs.Common.{◌+◌, drop, map}
 use Rattle.go_tree.specs.Lists.{elems_from}
 use Rattle.go_tree.specs.View.{elem_of, elems_of, expr_of, held_value_option_of, value_of}
-use Rattle.go_tree.specs.GoTypes.Initial.{initial_elems}
+use Rattle.go_rules.specs.GoTypes.Initial.{initial_elems}
 use Rattle.operator_rules.specs.Settling.{typed_option}
 use Rattle.type_table.specs.TypeRelations.Environment.{defined_types}
 use Rattle.expr_walk.specs.Walked.{size, size_elems, size_key, size_value}

@@ -1,7 +1,7 @@
 use Rattle.std.proofs.Common.{◌∙◌, ◌+◌, ap, drop, map, subst, sym}
 use Rattle.go_tree.specs.Lists.{exprs_from}
 use Rattle.go_tree.specs.View.{expr_of}
-use Rattle.go_tree.specs.GoTypes.Initial as go
+use Rattle.go_rules.specs.GoTypes.Initial as go
 use Rattle.expr_walk.specs.Walked.{AreAllWalked}
 use Rattle.expr_walk.proofs.Parts.{expr_walked}
 use Rattle.expr_walk.proofs.WalkArms.ExprArms.{at}

@@ -1,7 +1,7 @@
 use Rattle.std.proofs.Common.{map}
 use Rattle.go_tree.specs.Lists.{exprs_from}
 use Rattle.go_tree.specs.View.{expr_of}
-use Rattle.go_tree.specs.GoTypes.Initial as go
+use Rattle.go_rules.specs.GoTypes.Initial as go
 use Rattle.expr_walk.proofs.WalkArms.ExprArms.{at}
 use Rattle.initial_values.specs.Steps.{IsPassed}
 use Rattle.initial_values.proofs.PassedLemmas.{rest_initial}

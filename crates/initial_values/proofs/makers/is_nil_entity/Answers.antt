@@ -1,5 +1,5 @@
 use Rattle.std.proofs.Common.{◌∙◌, Some, ap, sym}
-use Rattle.go_tree.specs.GoTypes.Initial as go
+use Rattle.go_rules.specs.GoTypes.Initial as go
 use Rattle.typed_names.specs.Meanings.{entity_option}
 use Rattle.initial_values.proofs.makers.is_nil_entity.Goals as goal
 

@@ -1,6 +1,6 @@
 use Rattle.std.proofs.Common.{[], Err, subst, sym}
 use Rattle.go_tree.specs.View.{type_of}
-use Rattle.go_tree.specs.GoTypes.TypeNames.{type_meant}
+use Rattle.go_rules.specs.GoTypes.TypeNames.{type_meant}
 use Rattle.typed_names.specs.TypeExprs.Answers.{GivesType}
 use Rattle.operand_modes.proofs.OperandAnswers.KeptLemmas.{stands_kept}
 use Rattle.expr_walk.proofs.WalkArms.ExprArms.{at}

@@ -1,7 +1,7 @@
 use Rattle.std.proofs.Common.{◌≡◌, drop, map}
 use Rattle.go_tree.specs.View.{arm_of, case_of, stmt_of}
 use Rattle.go_tree.specs.Lists.{arms_from, cases_from, stmts_from}
-use Rattle.go_tree.specs.GoTypes.Jumps.{breaks_arms, breaks_cases, breaks_in}
+use Rattle.go_rules.specs.GoTypes.Jumps.{breaks_arms, breaks_cases, breaks_in}
 use Rattle.jump_rules.specs.Labels.{label_name}
 use Rattle.jump_rules.proofs.jumps.+jumps.Given as goal
 

@@ -1,14 +1,14 @@
 -- Selectors, indices, slices, conversions and calls on operands of open types give such operands.
 use Rattle.std.specs.Prelude.{ℕ, Bool, true, false, ◌&&◌, List, [], ◌∷◌, map, length, Option, Some, if◌then◌else◌, nat_eq, bytes_eq, pos}
-use Rattle.go_tree.specs.ConstEval.Exact.{number}
-use Rattle.go_tree.specs.declared.const_eval.consts.Const.TheVariants.{Bytes}
-use Rattle.go_tree.specs.declared.const_eval.kinds.Kind.TheVariants as kind
-use Rattle.go_tree.specs.GoTypes.Defined.{Defined, Method, find_defined, under_of, under, declared_methods, methods}
-use Rattle.go_tree.specs.GoTypes.Entities.{Builtin, Append, Cap, Copy, Delete, Len, Make, New, Panic, Print, Println, Recover, Content, run, exact, shift, Place}
-use Rattle.go_tree.specs.GoTypes.Operands.{Operand, value, several, a_type, a_function, a_builtin, recovered, Typed, typed, all_typed, spread, results_operand, default_type, settled, values_of}
-use Rattle.go_tree.specs.GoTypes.Primary.{find_field, find_method, fields_in, method_of, method_value, selected, index_of, sliced, converted, conversion, append_call, cap_call, length_of, len_call, copy_call, delete_call, panic_call, print_call, recover_call, make_call, new_call, on_values, builtin_call, call_of, is_addressable}
-use Rattle.go_tree.specs.GoTypes.Operators.{star_of}
-use Rattle.go_tree.specs.GoTypes.Types.{GoType, basic, named_type, pointer_to, slice_of, map_of, struct_of, tuple_of, untyped, untyped_nil, GoFields, no_go_fields, go_field, base_of, element_of, map_parts, fields_of, basic_kind}
+use Rattle.go_rules.specs.ConstEval.Exact.{number}
+use Rattle.go_rules.specs.declared.const_eval.consts.Const.TheVariants.{Bytes}
+use Rattle.go_rules.specs.declared.const_eval.kinds.Kind.TheVariants as kind
+use Rattle.go_rules.specs.GoTypes.Defined.{Defined, Method, find_defined, under_of, under, declared_methods, methods}
+use Rattle.go_rules.specs.GoTypes.Entities.{Builtin, Append, Cap, Copy, Delete, Len, Make, New, Panic, Print, Println, Recover, Content, run, exact, shift, Place}
+use Rattle.go_rules.specs.GoTypes.Operands.{Operand, value, several, a_type, a_function, a_builtin, recovered, Typed, typed, all_typed, spread, results_operand, default_type, settled, values_of}
+use Rattle.go_rules.specs.GoTypes.Primary.{find_field, find_method, fields_in, method_of, method_value, selected, index_of, sliced, converted, conversion, append_call, cap_call, length_of, len_call, copy_call, delete_call, panic_call, print_call, recover_call, make_call, new_call, on_values, builtin_call, call_of, is_addressable}
+use Rattle.go_rules.specs.GoTypes.Operators.{star_of}
+use Rattle.go_rules.specs.GoTypes.Types.{GoType, basic, named_type, pointer_to, slice_of, map_of, struct_of, tuple_of, untyped, untyped_nil, GoFields, no_go_fields, go_field, base_of, element_of, map_parts, fields_of, basic_kind}
 use Rattle.literal_steps.specs.ServedPackages.OpenTypes.{OpenType, OpenFields, AllOpen, OpenFunction, OpenMethods, OpenDefined, OpenOperand, OpenOperands, OpenTyped, OpenValues}
 use Rattle.literal_steps.proofs.ServedPackages.OpenTypes.Holds.{Holds, none, some, only_holds, either_holds, then_holds, elim_holds, both_hold}
 use Rattle.literal_steps.proofs.ServedPackages.OpenTypes.Operators.{any, typed_open, constant_open}

@@ -1,18 +1,18 @@
 -- What declarations in a body bind has open types, where names mean what has open types.
 use Rattle.std.specs.Prelude.{ℕ, suc, zero, ◌+◌, Bool, true, false, List, [], ◌∷◌, ◌++◌, length, Option, Some, None, if◌then◌else◌}
 use Rattle.go_tree.specs.Tree.{NameAt, Param, Sig, TypeExpr, Expr, Exprs, Stmt, const_decl, var_decl, empty, eval, step, assign, define, return_, break_, continue_, inner, if_, for_, range_, switch, defer, label, StmtOption, no_stmt, some_stmt, RangeLeft, nothing, assigns, defines, ValueSpecs, no_specs, spec}
-use Rattle.go_tree.specs.ScopeNames.FreeNames.{names_of, sig_names, declared, defined}
-use Rattle.go_tree.specs.ScopeNames.Means.{Environment, is_blank, binding}
-use Rattle.go_tree.specs.GoTypes.Answers.{given}
-use Rattle.go_tree.specs.GoTypes.Bodies.{param_binding, param_binds, body_binds, no_values}
-use Rattle.go_tree.specs.GoTypes.Declarations.{Declared, bind_all, bind_each, constant_entity, variable_entity, defined_by, variables_declared, some_declared, new_constants, new_variables, new_by_define, binds_or, binds_of, Repeated, nothing_to_repeat}
-use Rattle.go_tree.specs.GoTypes.Defined.{Defined, under}
-use Rattle.go_tree.specs.GoTypes.Entities.{run, exact, shift, Place, map_element, Entity, variable, refused, Env, Binds, defined_in, extend}
-use Rattle.go_tree.specs.GoTypes.Operands.{Operand, value, Typed}
-use Rattle.go_tree.specs.GoTypes.Statements.{assigned_values, right_values, range_types, range_binds, new_by_range}
-use Rattle.go_tree.specs.GoTypes.TypeNames.{func_type, written_type}
-use Rattle.go_tree.specs.GoTypes.Types.{GoType, FuncType}
-use Rattle.go_tree.specs.GoTypes.Typing.{parts, all_parts, places, declares, declares_constants, declares_variables, range_declares}
+use Rattle.go_rules.specs.ScopeNames.FreeNames.{names_of, sig_names, declared, defined}
+use Rattle.go_rules.specs.ScopeNames.Means.{Environment, is_blank, binding}
+use Rattle.go_rules.specs.GoTypes.Answers.{given}
+use Rattle.go_rules.specs.GoTypes.Bodies.{param_binding, param_binds, body_binds, no_values}
+use Rattle.go_rules.specs.GoTypes.Declarations.{Declared, bind_all, bind_each, constant_entity, variable_entity, defined_by, variables_declared, some_declared, new_constants, new_variables, new_by_define, binds_or, binds_of, Repeated, nothing_to_repeat}
+use Rattle.go_rules.specs.GoTypes.Defined.{Defined, under}
+use Rattle.go_rules.specs.GoTypes.Entities.{run, exact, shift, Place, map_element, Entity, variable, refused, Env, Binds, defined_in, extend}
+use Rattle.go_rules.specs.GoTypes.Operands.{Operand, value, Typed}
+use Rattle.go_rules.specs.GoTypes.Statements.{assigned_values, right_values, range_types, range_binds, new_by_range}
+use Rattle.go_rules.specs.GoTypes.TypeNames.{func_type, written_type}
+use Rattle.go_rules.specs.GoTypes.Types.{GoType, FuncType}
+use Rattle.go_rules.specs.GoTypes.Typing.{parts, all_parts, places, declares, declares_constants, declares_variables, range_declares}
 use Rattle.form_meaning.specs.FormInPlace.Bound.{stmt_binds, first_binds, range_left_binds, literal_binds, variable_binds}
 use Rattle.literal_steps.specs.ServedPackages.OpenTypes.{OpenType, AllOpen, OpenFunction, OpenDefined, OpenEntity, OpenNames, OpenPlace, OpenOperand, OpenOperands, OpenTyped, OpenValues}
 use Rattle.literal_steps.proofs.ServedPackages.OpenTypes.Calls.{element_open, map_open, all_typed_open, values_open, under_is_open, settled_open}

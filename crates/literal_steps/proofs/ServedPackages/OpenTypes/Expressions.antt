@@ -1,20 +1,20 @@
 -- Where names mean what has open types, so does what each type and each expression is.
 use Rattle.std.specs.Prelude.{◌≡◌, ℕ, Bool, true, false, List, [], ◌∷◌, Option, Some, None, if◌then◌else◌, nat_eq, pos}
 use mathlib.Core.Path.{ap}
-use Rattle.go_tree.specs.ConstEval.Exact.{number, text}
-use Rattle.go_tree.specs.ConstEval.Literals.{integer_value, literal_value}
-use Rattle.go_tree.specs.declared.const_eval.kinds.Kind.TheVariants as kind
+use Rattle.go_rules.specs.ConstEval.Exact.{number, text}
+use Rattle.go_rules.specs.ConstEval.Literals.{integer_value, literal_value}
+use Rattle.go_rules.specs.declared.const_eval.kinds.Kind.TheVariants as kind
 use Rattle.go_tree.specs.Tree.{Param, Sig, TypeExpr, named, pointer, slice_type, map_type, struct_type, Fields, no_fields, field, Expr, ident, int_lit, rune_lit, str_lit, composite, selector, index, slice, call, func_lit, type_operand, unary, binary, star, Exprs, no_exprs, expr_and}
 use Rattle.go_tree.specs.GoWords.Texts.{text_value}
-use Rattle.go_tree.specs.ScopeNames.Means.{Environment, means}
-use Rattle.go_tree.specs.GoTypes.Bodies.{body_binds}
-use Rattle.go_tree.specs.GoTypes.Defined.{under}
-use Rattle.go_tree.specs.GoTypes.Entities.{Entity, variable, constant, stand_in, type_name, function, package_name, builtin, nil_name, iota_name, refused, World, Env, meaning, block_of, exported, package_of, type_of_name, is_exported, defined_in}
-use Rattle.go_tree.specs.GoTypes.Operands.{typed, named_operand}
-use Rattle.go_tree.specs.GoTypes.Statements.{package_before}
-use Rattle.go_tree.specs.GoTypes.TypeNames.{field_package, resolved, resolved_fields, type_meant, params_meant, func_type, written_type}
-use Rattle.go_tree.specs.GoTypes.Types.{GoType, untyped}
-use Rattle.go_tree.specs.GoTypes.Typing.{parts, all_parts, bound, elements, place}
+use Rattle.go_rules.specs.ScopeNames.Means.{Environment, means}
+use Rattle.go_rules.specs.GoTypes.Bodies.{body_binds}
+use Rattle.go_rules.specs.GoTypes.Defined.{under}
+use Rattle.go_rules.specs.GoTypes.Entities.{Entity, variable, constant, stand_in, type_name, function, package_name, builtin, nil_name, iota_name, refused, World, Env, meaning, block_of, exported, package_of, type_of_name, is_exported, defined_in}
+use Rattle.go_rules.specs.GoTypes.Operands.{typed, named_operand}
+use Rattle.go_rules.specs.GoTypes.Statements.{package_before}
+use Rattle.go_rules.specs.GoTypes.TypeNames.{field_package, resolved, resolved_fields, type_meant, params_meant, func_type, written_type}
+use Rattle.go_rules.specs.GoTypes.Types.{GoType, untyped}
+use Rattle.go_rules.specs.GoTypes.Typing.{parts, all_parts, bound, elements, place}
 use Rattle.literal_steps.specs.ServedPackages.OpenTypes.{OpenType, OpenFields, AllOpen, OpenFunction, OpenEntity, OpenNames, OpenBlocks, OpenWorld, OpenPlace, OpenOperand, OpenOperands}
 use Rattle.literal_steps.proofs.ServedPackages.OpenTypes.Calls.{selected_open, index_open, sliced_open, star_open, call_open}
 use Rattle.literal_steps.proofs.ServedPackages.OpenTypes.Holds.{Holds, none, some, only_holds, either_holds, then_holds, elim_holds, both_hold}

@@ -3,11 +3,11 @@ use Rattle.std.specs.Prelude.{◌≡◌, refl, ℕ, Bool, true, false, not, ◌&
 use mathlib.Core.Path.{ap, sym, ◌∙◌}
 use Rattle.std.proofs.lemmas.Slice.Eq.{bytes_eq-Decides}
 use Rattle.go_tree.specs.Tree.{Expr}
-use Rattle.go_tree.specs.GoTypes.Entities.{Content, Env, is_exported, defined_in}
-use Rattle.go_tree.specs.GoTypes.Operands.{value}
-use Rattle.go_tree.specs.GoTypes.Primary.{fields_in}
-use Rattle.go_tree.specs.GoTypes.Types.{GoType, GoFields, no_go_fields, go_field}
-use Rattle.go_tree.specs.GoTypes.Typing.{parts}
+use Rattle.go_rules.specs.GoTypes.Entities.{Content, Env, is_exported, defined_in}
+use Rattle.go_rules.specs.GoTypes.Operands.{value}
+use Rattle.go_rules.specs.GoTypes.Primary.{fields_in}
+use Rattle.go_rules.specs.GoTypes.Types.{GoType, GoFields, no_go_fields, go_field}
+use Rattle.go_rules.specs.GoTypes.Typing.{parts}
 use Rattle.form_meaning.specs.FormInPlace.Places.{is_open, open_in}
 use Rattle.literal_steps.specs.ServedPackages.OpenTypes.{OpenFields, OpenPlace}
 use Rattle.literal_steps.proofs.ServedPackages.OpenTypes.Calls.{fields_in_open}

@@ -1,7 +1,7 @@
 -- Headers in files whose imports mean what has open types, and their single names.
 use Rattle.std.specs.Prelude.{List, [], ◌∷◌, ◌++◌, map}
-use Rattle.go_tree.specs.GoTypes.Programs.{Header, Headed}
-use Rattle.go_tree.specs.GoTypes.SingleNames.{single_names, with_header, singly, by_names}
+use Rattle.go_rules.specs.GoTypes.Programs.{Header, Headed}
+use Rattle.go_rules.specs.GoTypes.SingleNames.{single_names, with_header, singly, by_names}
 use Rattle.literal_steps.specs.ServedPackages.OpenTypes.{OpenNames}
 
 module _ {S : Type 0} where

@@ -1,7 +1,7 @@
 -- What holds of an answer, if there is one.
 use Rattle.std.specs.Prelude.{◌≡◌, Bool, true, false, Option, Some, None, if◌then◌else◌}
 use mathlib.Core.Path.{subst}
-use Rattle.go_tree.specs.GoTypes.Answers.{given, both, only_if}
+use Rattle.go_rules.specs.GoTypes.Answers.{given, both, only_if}
 
 -- it holds of the answer, if there is one
 pub data Holds {A : Type 0} (K : A → Type 0) : Option A → Type 0 where

@@ -4,15 +4,15 @@ use mathlib.Core.Path.{ap, sym, ◌∙◌, subst}
 use Rattle.std.proofs.Common.{arith}
 use Rattle.go_tree.specs.Tree.{TypeExpr, ident, Elems, no_elems, elem, Value, plain, braced, ValueOption, no_value, some_value}
 use Rattle.pkg_graph.specs.Package.{Package}
-use Rattle.go_tree.proofs.GoTypes.Agreeing.{from_given, from_both, some_same}
-use Rattle.go_tree.specs.GoTypes.Answers.{given, one_of}
-use Rattle.go_tree.specs.GoTypes.Defined.{under}
-use Rattle.go_tree.specs.GoTypes.Entities.{Env, is_exported, defined_in}
-use Rattle.go_tree.specs.GoTypes.Literals.{Element, unkeyed, of_field, keyed, field_key, key_type, inner_type, literal_type, built_inside}
-use Rattle.go_tree.specs.GoTypes.Operands.{Operand}
-use Rattle.go_tree.specs.GoTypes.TypeNames.{type_meant}
-use Rattle.go_tree.specs.GoTypes.Types.{GoType, GoFields, no_go_fields, go_field, base_of, fields_of}
-use Rattle.go_tree.specs.GoTypes.Typing.{elements, element, with_key}
+use Rattle.go_rules.proofs.GoTypes.Agreeing.{from_given, from_both, some_same}
+use Rattle.go_rules.specs.GoTypes.Answers.{given, one_of}
+use Rattle.go_rules.specs.GoTypes.Defined.{under}
+use Rattle.go_rules.specs.GoTypes.Entities.{Env, is_exported, defined_in}
+use Rattle.go_rules.specs.GoTypes.Literals.{Element, unkeyed, of_field, keyed, field_key, key_type, inner_type, literal_type, built_inside}
+use Rattle.go_rules.specs.GoTypes.Operands.{Operand}
+use Rattle.go_rules.specs.GoTypes.TypeNames.{type_meant}
+use Rattle.go_rules.specs.GoTypes.Types.{GoType, GoFields, no_go_fields, go_field, base_of, fields_of}
+use Rattle.go_rules.specs.GoTypes.Typing.{elements, element, with_key}
 use Rattle.form_meaning.specs.FormInPlace.Bound.{literal_under}
 use Rattle.form_meaning.specs.FormInPlace.Leaves.{LiteralAlike}
 use Rattle.form_meaning.specs.FormInPlace.Places.{Landing, SeenFields, key_name, KeysSeen, KeysIn, is_open}

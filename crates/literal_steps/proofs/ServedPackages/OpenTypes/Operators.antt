@@ -1,19 +1,19 @@
 -- Operators on values of open types give such values.
 use Rattle.std.specs.Prelude.{List, Option, Some, None}
-use Rattle.go_tree.specs.ConstEval.Exact.{Exact}
-use Rattle.go_tree.specs.ConstEval.Operators.{unary_value, binary_value}
-use Rattle.go_tree.specs.declared.const_eval.consts.Const.{Const}
-use Rattle.go_tree.specs.declared.const_eval.kinds.Kind.{Kind}
-use Rattle.go_tree.specs.declared.const_eval.kinds.Kind.TheVariants as kind
+use Rattle.go_rules.specs.ConstEval.Exact.{Exact}
+use Rattle.go_rules.specs.ConstEval.Operators.{unary_value, binary_value}
+use Rattle.go_rules.specs.declared.const_eval.consts.Const.{Const}
+use Rattle.go_rules.specs.declared.const_eval.kinds.Kind.{Kind}
+use Rattle.go_rules.specs.declared.const_eval.kinds.Kind.TheVariants as kind
 use Rattle.go_tree.specs.declared.operators.BinOp.{BinOp}
 use Rattle.go_tree.specs.declared.operators.BinOp.TheVariants.{Shl, Shr, LogAnd, LogOr}
 use Rattle.go_tree.specs.declared.operators.UnOp.{UnOp}
 use Rattle.go_tree.specs.declared.operators.UnOp.TheVariants.{Address}
-use Rattle.go_tree.specs.GoTypes.Defined.{Defined}
-use Rattle.go_tree.specs.GoTypes.Entities.{Content, exact, Place}
-use Rattle.go_tree.specs.GoTypes.Operands.{Operand, value, recovered, Typed, typed, constant_at, constant_value, kind_of}
-use Rattle.go_tree.specs.GoTypes.Operators.{not_constant, common_with_untyped, common_type, calculated_operand, arithmetic, truth_operand, logic, compared_at, comparison, shifted_operand, shifting, other_binary, binary_value_operand, recover_compared, binary_of, changed_operand, unary_value_operand, unary_of}
-use Rattle.go_tree.specs.GoTypes.Types.{GoType, untyped, untyped_nil}
+use Rattle.go_rules.specs.GoTypes.Defined.{Defined}
+use Rattle.go_rules.specs.GoTypes.Entities.{Content, exact, Place}
+use Rattle.go_rules.specs.GoTypes.Operands.{Operand, value, recovered, Typed, typed, constant_at, constant_value, kind_of}
+use Rattle.go_rules.specs.GoTypes.Operators.{not_constant, common_with_untyped, common_type, calculated_operand, arithmetic, truth_operand, logic, compared_at, comparison, shifted_operand, shifting, other_binary, binary_value_operand, recover_compared, binary_of, changed_operand, unary_value_operand, unary_of}
+use Rattle.go_rules.specs.GoTypes.Types.{GoType, untyped, untyped_nil}
 use Rattle.literal_steps.specs.ServedPackages.OpenTypes.{OpenType, OpenOperand, OpenTyped}
 use Rattle.literal_steps.proofs.ServedPackages.OpenTypes.Holds.{Holds, none, some, only_holds, either_holds, then_holds, both_hold}
 

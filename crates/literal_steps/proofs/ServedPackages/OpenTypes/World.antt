@@ -2,19 +2,19 @@
 use Rattle.std.specs.Prelude.{ℕ, zero, suc, Bool, true, false, ◌&&◌, List, [], ◌∷◌, ◌++◌, length, Option, Some, None, if◌then◌else◌, nat_eq, bytes_eq}
 use Rattle.go_tree.specs.Tree.{NameAt, TypeExpr, Exprs}
 use Rattle.go_tree.specs.File.{TypeSpec, Receiver, Func}
-use Rattle.go_tree.specs.ScopeNames.FreeNames.{names_of}
-use Rattle.go_tree.specs.ScopeNames.Means.{Environment, binding}
-use Rattle.go_tree.specs.GoTypes.Answers.{given, only_if, otherwise, and_also}
-use Rattle.go_tree.specs.GoTypes.Bodies.{body_binds}
-use Rattle.go_tree.specs.GoTypes.Collect.{times, type_entity, spec_type, alias_entity, type_declared, declared_types, good_entity, package_constants, package_variables, function_declared, func_declared, declared_by, binds_or_refused, entity_binds, block_by, blocks_by, alias_round, type_round, value_round, refused_world, rounds, aliased_world, types_declared, typed_world, named_world, valued_world, collected}
-use Rattle.go_tree.specs.GoTypes.SingleNames.{by_names}
-use Rattle.go_tree.specs.GoTypes.Declarations.{bind_each, constant_entity, variable_entity}
-use Rattle.go_tree.specs.GoTypes.Defined.{Defined, Method}
-use Rattle.go_tree.specs.GoTypes.Entities.{Entity, variable, function, refused, World, Env, Binds, universe, block_of, defined_in}
-use Rattle.go_tree.specs.GoTypes.MethodDeclarations.{MethodName, DeclaredMethod, methods_on, with_methods, receiver_type, method_header, methods_from, is_new_method, declared_on, receiver_binds}
-use Rattle.go_tree.specs.GoTypes.Programs.{Import, SourceFile, Program, Header, constants, variables, a_type_spec, a_func, spec_of, func_of, Headed, header_names, import_entity, import_sound, file_env, file_block, block_names, headed_file, headed_files, headed_package, headed, all_headers, names_in, is_main, env_of}
-use Rattle.go_tree.specs.GoTypes.TypeDeclarations.{DeclaredType, DeclaredTypes, declared_as, under_within, underlying}
-use Rattle.go_tree.specs.GoTypes.Types.{GoType, basic, named_type, pointer_to, slice_of, map_of, struct_of, tuple_of, untyped, untyped_nil}
+use Rattle.go_rules.specs.ScopeNames.FreeNames.{names_of}
+use Rattle.go_rules.specs.ScopeNames.Means.{Environment, binding}
+use Rattle.go_rules.specs.GoTypes.Answers.{given, only_if, otherwise, and_also}
+use Rattle.go_rules.specs.GoTypes.Bodies.{body_binds}
+use Rattle.go_rules.specs.GoTypes.Collect.{times, type_entity, spec_type, alias_entity, type_declared, declared_types, good_entity, package_constants, package_variables, function_declared, func_declared, declared_by, binds_or_refused, entity_binds, block_by, blocks_by, alias_round, type_round, value_round, refused_world, rounds, aliased_world, types_declared, typed_world, named_world, valued_world, collected}
+use Rattle.go_rules.specs.GoTypes.SingleNames.{by_names}
+use Rattle.go_rules.specs.GoTypes.Declarations.{bind_each, constant_entity, variable_entity}
+use Rattle.go_rules.specs.GoTypes.Defined.{Defined, Method}
+use Rattle.go_rules.specs.GoTypes.Entities.{Entity, variable, function, refused, World, Env, Binds, universe, block_of, defined_in}
+use Rattle.go_rules.specs.GoTypes.MethodDeclarations.{MethodName, DeclaredMethod, methods_on, with_methods, receiver_type, method_header, methods_from, is_new_method, declared_on, receiver_binds}
+use Rattle.go_rules.specs.GoTypes.Programs.{Import, SourceFile, Program, Header, constants, variables, a_type_spec, a_func, spec_of, func_of, Headed, header_names, import_entity, import_sound, file_env, file_block, block_names, headed_file, headed_files, headed_package, headed, all_headers, names_in, is_main, env_of}
+use Rattle.go_rules.specs.GoTypes.TypeDeclarations.{DeclaredType, DeclaredTypes, declared_as, under_within, underlying}
+use Rattle.go_rules.specs.GoTypes.Types.{GoType, basic, named_type, pointer_to, slice_of, map_of, struct_of, tuple_of, untyped, untyped_nil}
 use Rattle.literal_steps.proofs.ServedPackages.OpenTypes.Headers.{OpenHeaders, headers_joined, names_open}
 use Rattle.literal_steps.specs.ServedPackages.OpenTypes.{OpenType, OpenFunction, OpenMethods, OpenDefined, OpenEntity, OpenNames, OpenBlocks, OpenWorld, OpenPlace}
 use Rattle.literal_steps.proofs.ServedPackages.OpenTypes.Calls.{all_typed_open}

@@ -1,5 +1,5 @@
 use Rattle.meaning_in_place.proofs.Runs.{step_same}
-use Rattle.go_tree.specs.GoTypes.Collect.{collected}
+use Rattle.go_rules.specs.GoTypes.Collect.{collected}
 use Rattle.go_translation.specs.Packages.{sources, paths_in}
 use Rattle.literal_steps.specs.RankedMarks.Free.{is_free}
 use Rattle.literal_steps.specs.RankedMarks.Ranks.{marked_functions}

@@ -1,7 +1,7 @@
 use Rattle.std.proofs.Common.{◌∙◌, subst, sym}
 use Rattle.go_tree.specs.FileView.{func_of}
-use Rattle.go_tree.specs.GoTypes.Answers.{only_if}
-use Rattle.go_tree.specs.GoTypes.TypeNames.{func_type}
+use Rattle.go_rules.specs.GoTypes.Answers.{only_if}
+use Rattle.go_rules.specs.GoTypes.TypeNames.{func_type}
 use Rattle.typed_names.specs.Scopes.{env_at}
 use Rattle.func_types.specs.Answers.{GivesFunc}
 use Rattle.method_headers.proofs.methods.method_type.Goals as goal

@@ -1,6 +1,6 @@
 use Rattle.std.proofs.Common.{◌∙◌, ap, subst}
-use Rattle.go_tree.specs.GoTypes.Answers.{given}
-use Rattle.go_tree.specs.GoTypes.Entities.{meaning, type_of_name}
+use Rattle.go_rules.specs.GoTypes.Answers.{given}
+use Rattle.go_rules.specs.GoTypes.Entities.{meaning, type_of_name}
 use Rattle.type_table.specs.TypeRelations.Environment.{defined_types}
 use Rattle.typed_names.specs.Scopes.{env_at}
 use Rattle.method_headers.specs.Methods.{GivesReceiver, own_type_name}

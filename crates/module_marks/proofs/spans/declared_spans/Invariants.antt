@@ -1,7 +1,7 @@
 use Rattle.std.proofs.Common.{◌≡◌, drop, map}
 use Rattle.go_tree.specs.declared.spans.Span.{Span}
 use Rattle.go_tree.specs.FileView.{decl_of, file_of}
-use Rattle.go_tree.specs.ScopeNames.Means.{or_else}
+use Rattle.go_rules.specs.ScopeNames.Means.{or_else}
 use Rattle.run_rules.specs.Programs.{numbered, numbered_from}
 use Rattle.run_rules.specs.Marks.{declaration_at}
 use Rattle.module_marks.specs.Spans.{at_span}

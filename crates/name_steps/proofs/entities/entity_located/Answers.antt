@@ -1,5 +1,5 @@
 use Rattle.std.proofs.Common.{IfSome, ap, subst, sym}
-use Rattle.go_tree.specs.GoTypes.Operands.{named_operand, named_place}
+use Rattle.go_rules.specs.GoTypes.Operands.{named_operand, named_place}
 use Rattle.typed_names.specs.Meanings.{entity_option}
 use Rattle.operand_modes.specs.OperandAnswers.Known.{IsEntity}
 use Rattle.operand_modes.specs.OperandAnswers.Located.{GivesAt}

@@ -1,5 +1,5 @@
 use Rattle.std.proofs.Common.{Some, ap, subst, sym}
-use Rattle.go_tree.specs.GoTypes.Operands.{named_operand, named_place}
+use Rattle.go_rules.specs.GoTypes.Operands.{named_operand, named_place}
 use Rattle.type_table.specs.declared.operand_rules.values.ValueType.TheVariants.{Typed}
 use Rattle.type_table.specs.declared.operand_rules.values.Content.TheVariants.{Run, Exact}
 use Rattle.operator_rules.specs.declared.access_rules.places.Place.TheVariants.{Addressable, Elsewhere}

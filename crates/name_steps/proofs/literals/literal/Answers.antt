@@ -1,5 +1,5 @@
-use Rattle.go_tree.specs.ConstEval.Literals.{literal_value}
-use Rattle.go_tree.specs.GoTypes.Operands.{literal_operand}
+use Rattle.go_rules.specs.ConstEval.Literals.{literal_value}
+use Rattle.go_rules.specs.GoTypes.Operands.{literal_operand}
 use Rattle.name_steps.proofs.literals.literal.Goals as goal
 
 pub returns-clause-gives : goal.returns-clause-gives

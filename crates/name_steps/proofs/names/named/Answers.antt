@@ -1,5 +1,5 @@
 use Rattle.std.proofs.Common.{refl, subst}
-use Rattle.go_tree.specs.GoTypes.Operands.{named_operand, named_place}
+use Rattle.go_rules.specs.GoTypes.Operands.{named_operand, named_place}
 use Rattle.typed_names.specs.Scopes.{env_at}
 use Rattle.operand_modes.specs.OperandAnswers.Located.{GivesAt}
 use Rattle.name_steps.proofs.EntityLemmas.{meaning_there}

@@ -1,6 +1,6 @@
 use Rattle.std.proofs.Common.{Some}
-use Rattle.go_tree.specs.GoTypes.Operands.{a_type}
-use Rattle.go_tree.specs.GoTypes.Types.{basic}
+use Rattle.go_rules.specs.GoTypes.Operands.{a_type}
+use Rattle.go_rules.specs.GoTypes.Types.{basic}
 use Rattle.operand_modes.proofs.OperandAnswers.AnswerLemmas.{added_refused, type_given}
 use Rattle.name_steps.proofs.EntityLemmas.{inner}
 use Rattle.name_steps.proofs.predeclared.basic_operand.Goals as goal

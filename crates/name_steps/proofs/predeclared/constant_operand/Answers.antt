@@ -1,7 +1,7 @@
 use Rattle.std.proofs.Common.{Some}
-use Rattle.go_tree.specs.GoTypes.Entities.{exact}
-use Rattle.go_tree.specs.GoTypes.Operands.{value}
-use Rattle.go_tree.specs.GoTypes.Types.{untyped}
+use Rattle.go_rules.specs.GoTypes.Entities.{exact}
+use Rattle.go_rules.specs.GoTypes.Operands.{value}
+use Rattle.go_rules.specs.GoTypes.Types.{untyped}
 use Rattle.name_steps.proofs.ConstantLemmas.{constant_given}
 use Rattle.name_steps.proofs.predeclared.constant_operand.Goals as goal
 

@@ -1,5 +1,5 @@
 use Rattle.std.proofs.Common.{Some, subst, sym}
-use Rattle.go_tree.specs.GoTypes.Operands.{named_operand}
+use Rattle.go_rules.specs.GoTypes.Operands.{named_operand}
 use Rattle.universe_block.specs.Meanings.{entity_of}
 use Rattle.operand_modes.specs.Operands.{GivesOperand}
 use Rattle.name_steps.proofs.predeclared.predeclared_operand.Goals as goal

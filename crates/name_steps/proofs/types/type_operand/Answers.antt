@@ -1,14 +1,14 @@
 use Rattle.std.proofs.Common.{Some, refl, subst, sym}
 use Rattle.go_tree.specs.View.{type_of}
-use Rattle.go_tree.specs.GoTypes.Answers.{given}
-use Rattle.go_tree.specs.GoTypes.Operands.{a_type}
-use Rattle.go_tree.specs.GoTypes.TypeNames.{type_meant}
+use Rattle.go_rules.specs.GoTypes.Answers.{given}
+use Rattle.go_rules.specs.GoTypes.Operands.{a_type}
+use Rattle.go_rules.specs.GoTypes.TypeNames.{type_meant}
 use Rattle.type_table.specs.TypeRelations.Environment.{env_type}
 use Rattle.typed_names.specs.Scopes.{env_at}
 use Rattle.operand_modes.specs.declared.modes.Operand.TheVariants as mode
 use Rattle.operand_modes.proofs.OperandAnswers.AnswerLemmas.{stands_nowhere, type_given, type_refused_at}
 use Rattle.operand_modes.specs.OperandAnswers.Located.{IsLocated}
-use Rattle.go_tree.specs.GoTypes.Entities as go_entity
+use Rattle.go_rules.specs.GoTypes.Entities as go_entity
 use Rattle.operator_rules.specs.declared.access_rules.places.Place.TheVariants.{Elsewhere}
 use Rattle.name_steps.proofs.types.type_operand.Goals as goal
 

@@ -1,6 +1,6 @@
 use Rattle.std.proofs.Common.{[], ap, is_some, sym}
 use Rattle.go_tree.specs.View.{type_of}
-use Rattle.go_tree.specs.GoTypes.TypeNames.{type_meant}
+use Rattle.go_rules.specs.GoTypes.TypeNames.{type_meant}
 use Rattle.typed_names.specs.Scopes.{env_at}
 use Rattle.name_uses.proofs.StateSteps.{no_type}
 use Rattle.name_uses.proofs.locals.has_meaning.Goals as goal

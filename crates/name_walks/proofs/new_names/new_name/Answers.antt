@@ -1,6 +1,6 @@
 use Rattle.std.proofs.Common.{◌≡◌, ◌∙◌, ◌||◌, ap, sym, not, false, arith, below_more}
 use Rattle.go_tree.specs.GoWords.Tokens.Pieces.{is_among}
-use Rattle.go_tree.specs.ScopeNames.Fresh.{candidate}
+use Rattle.go_rules.specs.ScopeNames.Fresh.{candidate}
 use Rattle.name_walks.specs.Reserved.{is_reserved, is_untaken}
 use Rattle.name_walks.proofs.FreshLaws.{untaken_by_test, one_is_new}
 use Rattle.name_walks.proofs.new_names.new_name.Goals as goal

@@ -1,5 +1,5 @@
 use Rattle.std.proofs.Common.{◌≡◌, ◌<◌, ℕ, false}
-use Rattle.go_tree.specs.ScopeNames.Fresh.{candidate}
+use Rattle.go_rules.specs.ScopeNames.Fresh.{candidate}
 use Rattle.name_walks.specs.Reserved.{is_untaken}
 use Rattle.name_walks.proofs.new_names.new_name.Given as goal
 

@@ -1,7 +1,7 @@
 use Rattle.std.proofs.Common.{◌≡◌, ◌∙◌, ◌||◌, ap}
 use Rattle.go_tree.specs.FileView.{file_of}
 use Rattle.go_tree.specs.GoWords.Tokens.Pieces.{is_among}
-use Rattle.go_tree.specs.ScopeNames.Identifiers.{identifiers}
+use Rattle.go_rules.specs.ScopeNames.Identifiers.{identifiers}
 use Rattle.names_within.specs.FileWalk.{after_file}
 use Rattle.names_within.proofs.FilesFound.{identifiers_found}
 use Rattle.names_within.proofs.NewNames.{or_false}

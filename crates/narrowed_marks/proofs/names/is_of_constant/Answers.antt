@@ -3,7 +3,7 @@ use Rattle.std.specs.Option.{option_map}
 use Rattle.go_tree.specs.declared.files.Decl.{Decl}
 use Rattle.go_tree.specs.View.{const_decl_of}
 use Rattle.go_tree.specs.FileView.{decl_of}
-use Rattle.go_tree.specs.GoTypes.Answers.{meets}
+use Rattle.go_rules.specs.GoTypes.Answers.{meets}
 use Rattle.member_uses.specs.Laws.{is_constant}
 use Rattle.run_rules.specs.Sites.{inlinable_in, name_of}
 use Rattle.narrowed_marks.proofs.ConstantLemmas.{values_alone, named_there}

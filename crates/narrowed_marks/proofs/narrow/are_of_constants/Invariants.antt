@@ -1,6 +1,6 @@
 use Rattle.std.proofs.Common.{◌≡◌, drop, map}
 use Rattle.std.specs.List.{list_all}
-use Rattle.go_tree.specs.GoTypes.Answers.{meets}
+use Rattle.go_rules.specs.GoTypes.Answers.{meets}
 use Rattle.member_uses.specs.Laws.{is_constant}
 use Rattle.pkg_graph.specs.Views.{package_view}
 use Rattle.module_marks.specs.Views.{mark_ref_of}

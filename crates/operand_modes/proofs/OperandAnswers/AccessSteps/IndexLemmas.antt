@@ -1,14 +1,14 @@
 -- Elements of maps, slices and strings.
 use Rattle.std.proofs.Common.{◌≡◌, ◌∙◌, Bool, true, false, cond, List, Option, Some, None, is_some, Result, Ok, refl, sym, ap, subst}
-use Rattle.go_tree.specs.declared.const_eval.consts.Const.{Const}
-use Rattle.go_tree.specs.GoTypes.Answers.{both, only_if}
-use Rattle.go_tree.specs.GoTypes.Types.{GoType, element_of, is_untyped, map_parts}
-use Rattle.go_tree.specs.GoTypes.Defined.{Defined, under}
-use Rattle.go_tree.specs.GoTypes.Entities as go_entity
-use Rattle.go_tree.specs.GoTypes.Entities.{run}
-use Rattle.go_tree.specs.GoTypes.Operands as go
-use Rattle.go_tree.specs.GoTypes.Operands.{value, several, a_type, a_function, a_builtin, recovered, Typed, fits, place_by, plain_value, typed}
-use Rattle.go_tree.specs.GoTypes.Primary.{index_of, index_place, is_index, string_element}
+use Rattle.go_rules.specs.declared.const_eval.consts.Const.{Const}
+use Rattle.go_rules.specs.GoTypes.Answers.{both, only_if}
+use Rattle.go_rules.specs.GoTypes.Types.{GoType, element_of, is_untyped, map_parts}
+use Rattle.go_rules.specs.GoTypes.Defined.{Defined, under}
+use Rattle.go_rules.specs.GoTypes.Entities as go_entity
+use Rattle.go_rules.specs.GoTypes.Entities.{run}
+use Rattle.go_rules.specs.GoTypes.Operands as go
+use Rattle.go_rules.specs.GoTypes.Operands.{value, several, a_type, a_function, a_builtin, recovered, Typed, fits, place_by, plain_value, typed}
+use Rattle.go_rules.specs.GoTypes.Primary.{index_of, index_place, is_index, string_element}
 use Rattle.type_table.specs.TypeRelations.Environment.{Environment, IsEnvironment, defined_types}
 use Rattle.type_table.specs.declared.operand_rules.values.Value.{Value}
 use Rattle.type_table.specs.declared.operand_rules.values.Refusal.{Refusal}

@@ -1,5 +1,5 @@
 use mathlib.Core.Path.{sym, subst, ◌∙◌}
-use Rattle.go_tree.specs.GoTypes.Operands.{all_typed, spread}
+use Rattle.go_rules.specs.GoTypes.Operands.{all_typed, spread}
 use Rattle.operand_modes.specs.Lists.{GivesValues}
 use Rattle.operand_modes.proofs.SpreadLemmas.{only_operand, operands_stay}
 use Rattle.operand_modes.proofs.spreads.values.Goals as goal

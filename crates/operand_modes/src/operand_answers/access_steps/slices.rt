@@ -1,11 +1,11 @@
 //! Slice expressions (Go specification, Slice expressions).
 
 ghost use Rattle.std.specs.Prelude.{Option, Some};
-ghost use Rattle.go_tree.specs.GoTypes.Answers.{both, given};
-ghost use Rattle.go_tree.specs.GoTypes.Entities as go_entity;
-ghost use Rattle.go_tree.specs.GoTypes.Operands as go_operand;
-ghost use Rattle.go_tree.specs.GoTypes.Operands.{Typed, with_value};
-ghost use Rattle.go_tree.specs.GoTypes.Primary as go;
+ghost use Rattle.go_rules.specs.GoTypes.Answers.{both, given};
+ghost use Rattle.go_rules.specs.GoTypes.Entities as go_entity;
+ghost use Rattle.go_rules.specs.GoTypes.Operands as go_operand;
+ghost use Rattle.go_rules.specs.GoTypes.Operands.{Typed, with_value};
+ghost use Rattle.go_rules.specs.GoTypes.Primary as go;
 ghost use Rattle.type_table.specs.TypeRelations.Environment.{defined_types};
 ghost use Rattle.operand_modes.specs.Operands.{GivesOperand, IsOperand, operand_at};
 ghost use Rattle.operator_rules.specs.AccessRules.Slices.{IsBoundValue, bound_of};

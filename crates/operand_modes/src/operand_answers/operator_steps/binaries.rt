@@ -1,10 +1,10 @@
 //! Binary operators (Go specification, Operators; Comparison operators).
 
 ghost use Rattle.std.specs.Prelude.{◌≡◌, ◌||◌, false, Option};
-ghost use Rattle.go_tree.specs.GoTypes.Answers.{both};
-ghost use Rattle.go_tree.specs.GoTypes.Entities as go_entity;
-ghost use Rattle.go_tree.specs.GoTypes.Operands as go_operand;
-ghost use Rattle.go_tree.specs.GoTypes.Operators as go;
+ghost use Rattle.go_rules.specs.GoTypes.Answers.{both};
+ghost use Rattle.go_rules.specs.GoTypes.Entities as go_entity;
+ghost use Rattle.go_rules.specs.GoTypes.Operands as go_operand;
+ghost use Rattle.go_rules.specs.GoTypes.Operators as go;
 ghost use Rattle.type_table.specs.TypeRelations.Environment.{defined_types};
 ghost use Rattle.type_table.specs.OperandRules.Values.{IsValue};
 ghost use Rattle.operand_modes.specs.Operands.{GivesOperand, IsOperand, operand_at};

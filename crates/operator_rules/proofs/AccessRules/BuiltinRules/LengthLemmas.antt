@@ -1,16 +1,16 @@
 -- Lengths of constant strings.
 use Rattle.std.specs.Prelude.{◌≡◌, ℤ, List, Option, Some, None, Result, length, pos, refl}
 use mathlib.Core.Path.{ap, sym, subst}
-use Rattle.go_tree.specs.declared.const_eval.kinds.Kind.TheVariants as kind
-use Rattle.go_tree.specs.declared.const_eval.consts.Const.{Const}
-use Rattle.go_tree.specs.declared.const_eval.consts.Const.TheVariants.{Whole, Truth, Bytes}
-use Rattle.go_tree.specs.declared.const_eval.consts.ConstError.{ConstError}
-use Rattle.go_tree.specs.ConstEval.Exact.{number, Answers}
-use Rattle.go_tree.specs.GoTypes.Types.{basic, is_untyped}
-use Rattle.go_tree.specs.GoTypes.Defined.{Defined}
-use Rattle.go_tree.specs.GoTypes.Entities.{Content, run, exact, shift}
-use Rattle.go_tree.specs.GoTypes.Operands.{constant_value, kind_of, plain_value}
-use Rattle.go_tree.specs.GoTypes.Primary.{length_of}
+use Rattle.go_rules.specs.declared.const_eval.kinds.Kind.TheVariants as kind
+use Rattle.go_rules.specs.declared.const_eval.consts.Const.{Const}
+use Rattle.go_rules.specs.declared.const_eval.consts.Const.TheVariants.{Whole, Truth, Bytes}
+use Rattle.go_rules.specs.declared.const_eval.consts.ConstError.{ConstError}
+use Rattle.go_rules.specs.ConstEval.Exact.{number, Answers}
+use Rattle.go_rules.specs.GoTypes.Types.{basic, is_untyped}
+use Rattle.go_rules.specs.GoTypes.Defined.{Defined}
+use Rattle.go_rules.specs.GoTypes.Entities.{Content, run, exact, shift}
+use Rattle.go_rules.specs.GoTypes.Operands.{constant_value, kind_of, plain_value}
+use Rattle.go_rules.specs.GoTypes.Primary.{length_of}
 use Rattle.type_table.specs.TypeRelations.Environment.{Environment, defined_types}
 use Rattle.type_table.specs.declared.operand_rules.values.ValueType.TheVariants.{Typed}
 use Rattle.type_table.specs.declared.operand_rules.values.Value.{Value}

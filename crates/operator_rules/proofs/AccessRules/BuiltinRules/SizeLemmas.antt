@@ -2,12 +2,12 @@
 use Rattle.std.specs.Prelude.{◌≡◌, ℕ, ◌&&◌, true, false, List, [], ◌∷◌, map, length, Option, Some, refl}
 use Rattle.std.proofs.Common.{get_or, arith}
 use mathlib.Core.Path.{ap, sym, ◌∙◌}
-use Rattle.go_tree.specs.declared.const_eval.consts.Const.{Const}
-use Rattle.go_tree.specs.GoTypes.Answers.{both, given, only_if}
-use Rattle.go_tree.specs.GoTypes.Types.{GoType, map_of, slice_of}
-use Rattle.go_tree.specs.GoTypes.Defined.{Defined, under}
-use Rattle.go_tree.specs.GoTypes.Operands.{Operand, Typed, a_type, all_typed, plain_value}
-use Rattle.go_tree.specs.GoTypes.Primary.{is_index, make_call, make_sizes, rise}
+use Rattle.go_rules.specs.declared.const_eval.consts.Const.{Const}
+use Rattle.go_rules.specs.GoTypes.Answers.{both, given, only_if}
+use Rattle.go_rules.specs.GoTypes.Types.{GoType, map_of, slice_of}
+use Rattle.go_rules.specs.GoTypes.Defined.{Defined, under}
+use Rattle.go_rules.specs.GoTypes.Operands.{Operand, Typed, a_type, all_typed, plain_value}
+use Rattle.go_rules.specs.GoTypes.Primary.{is_index, make_call, make_sizes, rise}
 use Rattle.type_table.specs.TypeRelations.Environment.{Environment, defined_types}
 use Rattle.type_table.specs.declared.operand_rules.values.Value.{Value}
 use Rattle.type_table.specs.OperandRules.Values.{typed_of}

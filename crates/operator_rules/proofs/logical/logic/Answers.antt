@@ -1,6 +1,6 @@
 use mathlib.Core.Path.{sym, ◌∙◌}
-use Rattle.go_tree.specs.GoTypes.Operators.{joins}
-use Rattle.go_tree.proofs.GoTypes.IdenticalLaws.{and_right}
+use Rattle.go_rules.specs.GoTypes.Operators.{joins}
+use Rattle.go_rules.proofs.GoTypes.IdenticalLaws.{and_right}
 use Rattle.type_table.specs.TypeRelations.Environment.{defined_types}
 use Rattle.type_table.specs.OperandRules.Values.{type_of, typed_of}
 use Rattle.operator_rules.proofs.LogicalLemmas.{logical_truth}

@@ -1,7 +1,7 @@
 -- Lengths of constant strings (Go specification, Length and capacity).
 use Rattle.std.specs.Prelude.{ℤ, Option, Some, None, length, pos}
-use Rattle.go_tree.specs.declared.const_eval.consts.Const.TheVariants.{Bytes}
-use Rattle.go_tree.specs.GoTypes.Entities.{Content, exact}
+use Rattle.go_rules.specs.declared.const_eval.consts.Const.TheVariants.{Bytes}
+use Rattle.go_rules.specs.GoTypes.Entities.{Content, exact}
 
 -- how many bytes a constant string has
 abbrev pub text_length : Content → Option ℤ

@@ -1,9 +1,9 @@
 //! `len` and `cap` (Go specification, Length and capacity).
 
 ghost use Rattle.std.specs.Prelude.{◌≡◌, ◌∷◌, [], List};
-ghost use Rattle.go_tree.specs.declared.const_eval.consts.Const.{Const};
-ghost use Rattle.go_tree.specs.GoTypes.Entities as go_entity;
-ghost use Rattle.go_tree.specs.GoTypes.Primary as go;
+ghost use Rattle.go_rules.specs.declared.const_eval.consts.Const.{Const};
+ghost use Rattle.go_rules.specs.GoTypes.Entities as go_entity;
+ghost use Rattle.go_rules.specs.GoTypes.Primary as go;
 ghost use Rattle.type_table.specs.TypeRelations.Environment.{defined_types};
 ghost use Rattle.type_table.specs.OperandRules.Constants.{Grown};
 ghost use Rattle.type_table.specs.OperandRules.Values.{Gives, IsKept, IsType, IsValue, content_of, type_of, typed_of};
@@ -13,7 +13,7 @@ ghost use Rattle.operator_rules.specs.AccessRules.BuiltinRules.Lengths.{text_len
 
 use crate::BasicTypes;
 use crate::access_rules::{form, is_text};
-use go_tree::const_eval::{Const, Kind, convert};
+use go_rules::const_eval::{Const, Kind, convert};
 use std::alloc::Global;
 use type_table::TypeNode;
 use type_table::operand_rules::{ConstTable, Content, Refusal, Value, ValueType, folded};

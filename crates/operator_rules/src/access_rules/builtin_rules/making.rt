@@ -1,11 +1,11 @@
 //! `make` and `new` (Go specification, Making slices and maps; Allocation).
 
 ghost use Rattle.std.specs.Prelude.{◌≡◌, ◌∷◌, [], List, map};
-ghost use Rattle.go_tree.specs.declared.const_eval.consts.Const.{Const};
-ghost use Rattle.go_tree.specs.GoTypes.Defined.{under};
-ghost use Rattle.go_tree.specs.GoTypes.Operands.{a_type};
-ghost use Rattle.go_tree.specs.GoTypes.Primary as go;
-ghost use Rattle.go_tree.specs.GoTypes.Types.{GoType, map_of, slice_of};
+ghost use Rattle.go_rules.specs.declared.const_eval.consts.Const.{Const};
+ghost use Rattle.go_rules.specs.GoTypes.Defined.{under};
+ghost use Rattle.go_rules.specs.GoTypes.Operands.{a_type};
+ghost use Rattle.go_rules.specs.GoTypes.Primary as go;
+ghost use Rattle.go_rules.specs.GoTypes.Types.{GoType, map_of, slice_of};
 ghost use Rattle.type_table.specs.TypeRelations.Environment.{defined_types, env_type};
 ghost use Rattle.type_table.specs.declared.operand_rules.values.ValueType.TheVariants.{Typed};
 ghost use Rattle.type_table.specs.OperandRules.Values.{Gives, IsType, typed_of};

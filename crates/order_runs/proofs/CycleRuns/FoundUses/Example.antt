@@ -16,7 +16,7 @@ use Rattle.run_rules.specs.Steps.{At, same_here}
 use Rattle.run_rules.specs.FormTrees.{FormKind, ExprForm, LiteralForm}
 use Rattle.run_rules.proofs.CaseTools.{mark, param, sig, fn}
 use Rattle.run_rules.proofs.Instances.{the}
-use Rattle.go_tree.specs.GoTypes.Answers.{given}
+use Rattle.go_rules.specs.GoTypes.Answers.{given}
 use Rattle.order_runs.proofs.CycleLaws.ConstantCycles.Examples.{node}
 
 abbrev name_of : ℕ → List ℕ → NameAt At

@@ -2,7 +2,7 @@
 use Rattle.std.proofs.Common.{◌≡◌, refl, sym, ◌∙◌, ap, ℕ, Bool, true, false, ◌&&◌, List, [], ◌∷◌, Option, Some, None, if◌then◌else◌, is_none}
 use Rattle.go_tree.specs.File.{Func}
 use Rattle.pkg_graph.specs.Package.{Package}
-use Rattle.go_tree.specs.GoTypes.Answers.{given, meets, one_of}
+use Rattle.go_rules.specs.GoTypes.Answers.{given, meets, one_of}
 use Rattle.run_rules.specs.Surroundings.{Seen}
 use Rattle.run_rules.specs.Sites.{MarkRef, Where, Inlinable, a_constant, an_alias, a_function, is_function, Part, an_expr, a_type_part, Site, where_is, inlinable, sites}
 use Rattle.run_rules.specs.Naming.{Named}

@@ -4,15 +4,15 @@ use Rattle.std.specs.Prelude.{slice_get, bytes_eq, nat_eq, is_none, ◌&&◌}
 use Rattle.std.proofs.lemmas.Option.{same_Some}
 use Rattle.go_tree.specs.Tree.{Stmt, const_decl, var_decl, empty, eval, step, assign, define, return_, break_, continue_, inner, if_, for_, range_, switch, defer, label}
 use Rattle.go_tree.specs.File.{Receiver, Decl, values, types, func}
-use Rattle.go_tree.specs.ScopeNames.Identifiers.{name_option, sig_identifiers, stmts_identifiers, receiver_identifiers, decl_identifiers}
-use Rattle.go_tree.specs.ScopeNames.Means.{means}
+use Rattle.go_rules.specs.ScopeNames.Identifiers.{name_option, sig_identifiers, stmts_identifiers, receiver_identifiers, decl_identifiers}
+use Rattle.go_rules.specs.ScopeNames.Means.{means}
 use Rattle.pkg_graph.specs.Package.{SourceTree, Package}
 use Rattle.pkg_graph.specs.Members.{decls_from, files_from, package_block}
-use Rattle.go_tree.specs.GoTypes.Answers.{given, meets, only_if}
-use Rattle.go_tree.specs.GoTypes.Types.{base_of, type_name_of}
-use Rattle.go_tree.specs.GoTypes.Defined.{under}
-use Rattle.go_tree.specs.GoTypes.Entities.{type_of_name, universe}
-use Rattle.go_tree.specs.GoTypes.Agreement.{In, head, Same}
+use Rattle.go_rules.specs.GoTypes.Answers.{given, meets, only_if}
+use Rattle.go_rules.specs.GoTypes.Types.{base_of, type_name_of}
+use Rattle.go_rules.specs.GoTypes.Defined.{under}
+use Rattle.go_rules.specs.GoTypes.Entities.{type_of_name, universe}
+use Rattle.go_rules.specs.GoTypes.Agreement.{In, head, Same}
 use Rattle.run_rules.specs.Programs.{world, imports_mean, top_env}
 use Rattle.run_rules.specs.Sites.{MarkRef, is_among_marks, Where, Inlinable, is_function, is_free_function, inlinable_in, where_is, inlinable, members_in, member_of, is_this_method, find_marked_method, marked, marked_as}
 use Rattle.typed_in_place.specs.ProgramsAlike.{OneByOne, no_more, and_more}

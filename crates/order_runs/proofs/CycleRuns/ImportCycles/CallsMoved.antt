@@ -2,26 +2,26 @@
 -- to typing and to calls. One line a clause of the walk.
 use Rattle.std.proofs.Common.{◌≡◌, refl, sym, ap, ◌∙◌, ◌⊎◌, inl, inr, ℕ, suc, Bool, true, false, List, [], ◌∷◌, ◌++◌, length, Option, Some, None, if◌then◌else◌, arith}
 use Rattle.go_tree.specs.Tree.{Sig, TypeExpr, Expr, ident, int_lit, rune_lit, str_lit, composite, selector, index, slice, call, func_lit, type_operand, unary, binary, star, Exprs, no_exprs, expr_and, ExprOption, no_expr, some_expr, Elems, no_elems, elem, Value, plain, braced, ValueOption, no_value, some_value, Stmt, const_decl, var_decl, empty, eval, step, assign, define, return_, break_, continue_, inner, if_, for_, range_, switch, defer, label, Stmts, no_stmts, stmt_and, StmtOption, no_stmt, some_stmt, BlockOption, no_block, some_block, RangeLeft, nothing, assigns, defines, Arms, no_arms, arm, Cases, no_cases, case, ValueSpecs, no_specs, spec}
-use Rattle.go_tree.specs.ScopeNames.Means.{Environment}
-use Rattle.go_tree.specs.ScopeNames.FreeNames.{names_of, declared, declared_option, defined, sig_names, free_type, free_type_option, free_params, free_expr, free_exprs, free_stmt, free_stmt_option, free_left}
-use Rattle.go_tree.specs.ScopeNames.Identifiers.{type_identifiers, type_option_identifiers, params_identifiers, expr_identifiers, exprs_identifiers, expr_option_identifiers, elems_identifiers, value_identifiers, value_option_identifiers, stmt_identifiers, stmts_identifiers, stmt_option_identifiers, block_option_identifiers, left_identifiers, arms_identifiers, cases_identifiers, specs_identifiers}
-use Rattle.go_tree.specs.ScopeNames.Scopes.{sig_declares}
+use Rattle.go_rules.specs.ScopeNames.Means.{Environment}
+use Rattle.go_rules.specs.ScopeNames.FreeNames.{names_of, declared, declared_option, defined, sig_names, free_type, free_type_option, free_params, free_expr, free_exprs, free_stmt, free_stmt_option, free_left}
+use Rattle.go_rules.specs.ScopeNames.Identifiers.{type_identifiers, type_option_identifiers, params_identifiers, expr_identifiers, exprs_identifiers, expr_option_identifiers, elems_identifiers, value_identifiers, value_option_identifiers, stmt_identifiers, stmts_identifiers, stmt_option_identifiers, block_option_identifiers, left_identifiers, arms_identifiers, cases_identifiers, specs_identifiers}
+use Rattle.go_rules.specs.ScopeNames.Scopes.{sig_declares}
 use Rattle.pkg_graph.specs.Members.{Target}
-use Rattle.go_tree.specs.GoTypes.Answers.{given, meets, is_among, only_if, otherwise}
-use Rattle.go_tree.specs.GoTypes.Types.{GoType, GoFields, FuncType, base_of, type_name_of, fields_of}
-use Rattle.go_tree.specs.GoTypes.Defined.{under, has_keys}
-use Rattle.go_tree.specs.GoTypes.Entities.{Entity, Env, Binds, defined_in, extend, in_block}
-use Rattle.go_tree.specs.GoTypes.TypeNames.{type_meant, func_type, written_type}
-use Rattle.go_tree.specs.GoTypes.Operands.{typed}
-use Rattle.go_tree.specs.GoTypes.Literals.{is_struct, literal_type, inner_type}
-use Rattle.go_tree.specs.GoTypes.Primary.{field_type}
-use Rattle.go_tree.specs.GoTypes.Statements.{right_values}
-use Rattle.go_tree.specs.GoTypes.Typing.{parts, all_parts, places, declares, declares_first, range_declares, binds_of}
-use Rattle.go_tree.specs.GoTypes.Bodies.{no_values, body_binds}
-use Rattle.go_tree.specs.GoTypes.Declarations.{Repeated, nothing_to_repeat, new_constants, new_variables, binds_or}
-use Rattle.go_tree.specs.GoTypes.Agreement.{In, head, tail, Same, On, Agrees, with_names}
-use Rattle.go_tree.proofs.GoTypes.Agreeing.{agrees_in_block, agrees_after, under_same}
-use Rattle.go_tree.proofs.GoTypes.TypingAlike.{resolved-alike, parts-alike, all_parts-alike, places-alike, declares-alike, declares_first-alike, range_declares-alike}
+use Rattle.go_rules.specs.GoTypes.Answers.{given, meets, is_among, only_if, otherwise}
+use Rattle.go_rules.specs.GoTypes.Types.{GoType, GoFields, FuncType, base_of, type_name_of, fields_of}
+use Rattle.go_rules.specs.GoTypes.Defined.{under, has_keys}
+use Rattle.go_rules.specs.GoTypes.Entities.{Entity, Env, Binds, defined_in, extend, in_block}
+use Rattle.go_rules.specs.GoTypes.TypeNames.{type_meant, func_type, written_type}
+use Rattle.go_rules.specs.GoTypes.Operands.{typed}
+use Rattle.go_rules.specs.GoTypes.Literals.{is_struct, literal_type, inner_type}
+use Rattle.go_rules.specs.GoTypes.Primary.{field_type}
+use Rattle.go_rules.specs.GoTypes.Statements.{right_values}
+use Rattle.go_rules.specs.GoTypes.Typing.{parts, all_parts, places, declares, declares_first, range_declares, binds_of}
+use Rattle.go_rules.specs.GoTypes.Bodies.{no_values, body_binds}
+use Rattle.go_rules.specs.GoTypes.Declarations.{Repeated, nothing_to_repeat, new_constants, new_variables, binds_or}
+use Rattle.go_rules.specs.GoTypes.Agreement.{In, head, tail, Same, On, Agrees, with_names}
+use Rattle.go_rules.proofs.GoTypes.Agreeing.{agrees_in_block, agrees_after, under_same}
+use Rattle.go_rules.proofs.GoTypes.TypingAlike.{resolved-alike, parts-alike, all_parts-alike, places-alike, declares-alike, declares_first-alike, range_declares-alike}
 use Rattle.typed_in_place.proofs.ImportsMoved.{func_type-moved}
 use Rattle.run_rules.specs.Surroundings.{Use, into_type, elem_use, key_use, into_or, field_set, repeated_by}
 use Rattle.run_rules.specs.Sites.{MarkRef}

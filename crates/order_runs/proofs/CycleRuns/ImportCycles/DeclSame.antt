@@ -3,14 +3,14 @@ use Rattle.std.proofs.Common.{◌≡◌, refl, ℕ, suc, [], ◌++◌, Option, S
 use Rattle.std.specs.Prelude.{nat_eq, is_none, ◌&&◌}
 use Rattle.go_tree.specs.Tree.{const_decl, var_decl, empty, eval, step, assign, define, return_, break_, continue_, inner, if_, for_, range_, switch, defer, label, ValueSpecs, no_specs, spec}
 use Rattle.go_tree.specs.File.{Receiver, Func, Decl, values, types, func}
-use Rattle.go_tree.specs.ScopeNames.FreeNames.{names_of}
-use Rattle.go_tree.specs.ScopeNames.Means.{Environment, means}
-use Rattle.go_tree.specs.ScopeNames.Scopes.{not_blank, param_names}
-use Rattle.go_tree.specs.GoTypes.Answers.{given, otherwise, only_if}
-use Rattle.go_tree.specs.GoTypes.Types.{named_type, type_name_of, base_of}
-use Rattle.go_tree.specs.GoTypes.Entities.{Entity, World, Env, Binds, extend, type_of_name, universe}
-use Rattle.go_tree.specs.GoTypes.Bodies.{body_binds}
-use Rattle.go_tree.specs.GoTypes.MethodDeclarations.{receiver_binds}
+use Rattle.go_rules.specs.ScopeNames.FreeNames.{names_of}
+use Rattle.go_rules.specs.ScopeNames.Means.{Environment, means}
+use Rattle.go_rules.specs.ScopeNames.Scopes.{not_blank, param_names}
+use Rattle.go_rules.specs.GoTypes.Answers.{given, otherwise, only_if}
+use Rattle.go_rules.specs.GoTypes.Types.{named_type, type_name_of, base_of}
+use Rattle.go_rules.specs.GoTypes.Entities.{Entity, World, Env, Binds, extend, type_of_name, universe}
+use Rattle.go_rules.specs.GoTypes.Bodies.{body_binds}
+use Rattle.go_rules.specs.GoTypes.MethodDeclarations.{receiver_binds}
 use Rattle.typed_in_place.specs.SameWorlds.SameWorlds.{SameWorld}
 use Rattle.typed_in_place.proofs.SameWorlds.DefinedSame.{under-same}
 use Rattle.typed_in_place.proofs.SameWorlds.TypeNamesSame.{func_type-same}

@@ -4,12 +4,12 @@ use Rattle.std.proofs.Common.{◌≡◌, refl, ℕ, suc, Bool, true, false, List
 use Rattle.std.specs.Prelude.{slice_get}
 use Rattle.go_tree.specs.Tree.{TypeExpr, Exprs, no_exprs, const_decl, var_decl, empty, eval, step, assign, define, return_, break_, continue_, inner, if_, for_, range_, switch, defer, label, ValueSpecs, no_specs, spec}
 use Rattle.go_tree.specs.File.{TypeSpec, Receiver, Func, Decl, values, types, func}
-use Rattle.go_tree.specs.ScopeNames.FreeNames.{free_type, free_type_option, free_params, free_exprs, free_stmts}
-use Rattle.go_tree.specs.ScopeNames.Means.{Environment, means, is_blank}
-use Rattle.go_tree.specs.GoTypes.Entities.{Entity, World, block_of, universe}
-use Rattle.go_tree.specs.GoTypes.Bodies.{no_values}
-use Rattle.go_tree.specs.GoTypes.Programs.{Header, constants, a_type_spec, Headed, file_env, at_member, constant_headers, variable_headers, headers, all_headers, header_names, headed_file}
-use Rattle.go_tree.specs.GoTypes.Agreement.{In, head}
+use Rattle.go_rules.specs.ScopeNames.FreeNames.{free_type, free_type_option, free_params, free_exprs, free_stmts}
+use Rattle.go_rules.specs.ScopeNames.Means.{Environment, means, is_blank}
+use Rattle.go_rules.specs.GoTypes.Entities.{Entity, World, block_of, universe}
+use Rattle.go_rules.specs.GoTypes.Bodies.{no_values}
+use Rattle.go_rules.specs.GoTypes.Programs.{Header, constants, a_type_spec, Headed, file_env, at_member, constant_headers, variable_headers, headers, all_headers, header_names, headed_file}
+use Rattle.go_rules.specs.GoTypes.Agreement.{In, head}
 use Rattle.typed_in_place.specs.ProgramsAlike.{OneByOne, no_more, and_more}
 use Rattle.typed_in_place.specs.ProgramReplaced.{All, all_of_none, all_and}
 use Rattle.typed_in_place.specs.ImportsMoved.{under_imports, MovedReceiver, nothing_received, received, MovedIn, moved_constants, moved_variables, moved_type, moved_func, Moved}

@@ -4,13 +4,13 @@ use Rattle.std.proofs.lemmas.Slice.Eq.{bytes_eq-Decides}
 use Rattle.std.specs.Prelude.{slice_get, bytes_eq}
 use Rattle.go_tree.specs.Tree.{NameAt}
 use Rattle.go_tree.specs.File.{ImportSpec, Decl}
-use Rattle.go_tree.specs.ScopeNames.Means.{Environment, means, binding, is_blank, numbered, predeclared}
+use Rattle.go_rules.specs.ScopeNames.Means.{Environment, means, binding, is_blank, numbered, predeclared}
 use Rattle.pkg_graph.specs.Package.{SourceTree, Package, import_specs}
 use Rattle.pkg_graph.specs.Members as members
 use Rattle.pkg_graph.specs.Members.{Target, imported, import_name, package_block}
-use Rattle.go_tree.specs.GoTypes.Answers.{given, is_among}
-use Rattle.go_tree.specs.GoTypes.Entities.{Entity}
-use Rattle.go_tree.specs.GoTypes.Programs.{is_init, import_entity, import_sound, file_block}
+use Rattle.go_rules.specs.GoTypes.Answers.{given, is_among}
+use Rattle.go_rules.specs.GoTypes.Entities.{Entity}
+use Rattle.go_rules.specs.GoTypes.Programs.{is_init, import_entity, import_sound, file_block}
 use Rattle.run_rules.specs.Programs.{package_number, linked_import}
 use Rattle.run_rules.specs.Sites.{Where, mark_of, imported_by, outer, import_number}
 use Rattle.order_runs.specs.CycleRuns.ImportCycles.OtherImports.{import_path}

@@ -1,15 +1,15 @@
 -- Where each identifier is the name of the same import as before, or of none, it means the same.
 use Rattle.std.proofs.Common.{◌≡◌, refl, sym, ◌∙◌, ℕ, suc, Bool, true, false, not, ◌||◌, List, [], ◌∷◌, ◌++◌, map, Some, None, if◌then◌else◌}
 use Rattle.std.specs.Prelude.{bytes_eq}
-use Rattle.go_tree.specs.ScopeNames.Means.{Environment, means, is_blank, numbered, predeclared}
+use Rattle.go_rules.specs.ScopeNames.Means.{Environment, means, is_blank, numbered, predeclared}
 use Rattle.pkg_graph.specs.Package.{SourceTree, Package, import_specs}
 use Rattle.pkg_graph.specs.Members as members
 use Rattle.pkg_graph.specs.Members.{Target, imported, import_name, package_block}
-use Rattle.go_tree.specs.GoTypes.Answers.{given, is_among}
-use Rattle.go_tree.specs.GoTypes.Entities.{Entity, block_of, universe}
-use Rattle.go_tree.specs.GoTypes.Programs as typed
-use Rattle.go_tree.specs.GoTypes.Programs.{all_headers, names_in, is_init, import_entity}
-use Rattle.go_tree.specs.GoTypes.Agreement.{Same}
+use Rattle.go_rules.specs.GoTypes.Answers.{given, is_among}
+use Rattle.go_rules.specs.GoTypes.Entities.{Entity, block_of, universe}
+use Rattle.go_rules.specs.GoTypes.Programs as typed
+use Rattle.go_rules.specs.GoTypes.Programs.{all_headers, names_in, is_init, import_entity}
+use Rattle.go_rules.specs.GoTypes.Agreement.{Same}
 use Rattle.run_rules.specs.Programs.{number_from, package_number, linked_imports, linked_file, world, top_env}
 use Rattle.run_rules.specs.Sites.{Where, mark_of, imported_by, import_number}
 use Rattle.order_runs.proofs.CycleRuns.StepCycles.AlikeNames.{numbers-of-packages, blocks-alike, members-alike}

@@ -5,12 +5,12 @@ use Rattle.std.proofs.lemmas.Slice.Eq.{bytes_eq-Decides}
 use Rattle.std.specs.Prelude.{bytes_eq}
 use Rattle.go_tree.specs.File.{Decl}
 use Rattle.go_tree.specs.FileBare.{bare_decl}
-use Rattle.go_tree.specs.ScopeNames.Identifiers.{decl_identifiers}
-use Rattle.go_tree.specs.ScopeNames.Means.{Environment, means, is_blank}
+use Rattle.go_rules.specs.ScopeNames.Identifiers.{decl_identifiers}
+use Rattle.go_rules.specs.ScopeNames.Means.{Environment, means, is_blank}
 use Rattle.pkg_graph.specs.Package.{Package}
-use Rattle.go_tree.specs.GoTypes.Entities.{Entity, block_of, universe}
-use Rattle.go_tree.specs.GoTypes.Programs.{Import, file_block, import_entity, import_sound}
-use Rattle.go_tree.specs.GoTypes.Agreement.{Same}
+use Rattle.go_rules.specs.GoTypes.Entities.{Entity, block_of, universe}
+use Rattle.go_rules.specs.GoTypes.Programs.{Import, file_block, import_entity, import_sound}
+use Rattle.go_rules.specs.GoTypes.Agreement.{Same}
 use Rattle.run_rules.specs.Programs.{world, imports_mean, top_env, linked_imports, linked_file}
 use Rattle.run_rules.specs.Respanned.{decl_with}
 use Rattle.run_rules.specs.Sites.{MarkRef}
@@ -77,5 +77,5 @@ module _ (marks : List MarkRef) (ps qs : List (Package At)) (h : PackagesBeside 
 
       blank : (n : List ℕ) → is_blank n ≡ true → Same (top_env ps w.number w.of w.source.tree) (js ++ block_of (world ps).blocks w.number ++ universe) n
       blank n e =
-          past-blank (Rattle.go_tree.specs.GoTypes.Programs.block_names (map (linked_file ps) w.of.files)) [] (linked_imports ps w.source.tree) (block_of (world ps).blocks w.number) universe n e
-          ∙ sym (past-blank (Rattle.go_tree.specs.GoTypes.Programs.block_names (map (linked_file qs) v.of.files)) [] (linked_imports qs v.source.tree) (block_of (world ps).blocks w.number) universe n e)
+          past-blank (Rattle.go_rules.specs.GoTypes.Programs.block_names (map (linked_file ps) w.of.files)) [] (linked_imports ps w.source.tree) (block_of (world ps).blocks w.number) universe n e
+          ∙ sym (past-blank (Rattle.go_rules.specs.GoTypes.Programs.block_names (map (linked_file qs) v.of.files)) [] (linked_imports qs v.source.tree) (block_of (world ps).blocks w.number) universe n e)

@@ -2,13 +2,13 @@
 use Rattle.std.proofs.Common.{◌≡◌, refl, sym, ap, ◌∙◌, subst, ℕ, suc, Bool, true, false, not, ◌||◌, List, [], ◌++◌, map, Some, None}
 use Rattle.std.specs.Prelude.{bytes_eq, codes}
 use Rattle.go_tree.specs.File.{Decl}
-use Rattle.go_tree.specs.ScopeNames.Means.{Environment, means, is_blank}
+use Rattle.go_rules.specs.ScopeNames.Means.{Environment, means, is_blank}
 use Rattle.pkg_graph.specs.Package.{SourceTree, Package, import_specs}
-use Rattle.go_tree.specs.GoTypes.Answers.{is_among}
-use Rattle.go_tree.specs.GoTypes.Entities.{Entity, World, block_of, universe}
-use Rattle.go_tree.specs.GoTypes.Programs as typed
-use Rattle.go_tree.specs.GoTypes.Programs.{Headed, all_headers, names_in, is_init, import_entity, file_block, headed_files, headed}
-use Rattle.go_tree.specs.GoTypes.Collect.{aliased_world, typed_world, collected}
+use Rattle.go_rules.specs.GoTypes.Answers.{is_among}
+use Rattle.go_rules.specs.GoTypes.Entities.{Entity, World, block_of, universe}
+use Rattle.go_rules.specs.GoTypes.Programs as typed
+use Rattle.go_rules.specs.GoTypes.Programs.{Headed, all_headers, names_in, is_init, import_entity, file_block, headed_files, headed}
+use Rattle.go_rules.specs.GoTypes.Collect.{aliased_world, typed_world, collected}
 use Rattle.typed_in_place.specs.ProgramsAlike.{OneByOne, no_more, and_more, SameNumbers, DeclareAlike, AliasesStand, TypesStand, ValuesStand}
 use Rattle.typed_in_place.proofs.SamePrograms.{same_collected, declare_by}
 use Rattle.typed_in_place.proofs.ProgramsReplaced.{one_by_one, append_one, moved_aliases_stand, moved_types_stand, moved_values_stand}

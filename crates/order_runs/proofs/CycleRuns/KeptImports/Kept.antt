@@ -26,7 +26,7 @@ use Rattle.splice_laws.specs.Splice.{ReadsAs}
 use Rattle.splice_laws.specs.Swaps.{Swap, FileIn, in_decls}
 use Rattle.pkg_graph.specs.Package.{Package, specs_in, import_specs}
 use Rattle.pkg_graph.specs.Members.{import_name}
-use Rattle.go_tree.specs.GoTypes.Agreement.{In}
+use Rattle.go_rules.specs.GoTypes.Agreement.{In}
 use Rattle.run_rules.specs.Respanned.{name_with, import_spec_with, import_decl_with, file_with}
 use Rattle.run_rules.specs.Sites.{MarkRef, Site}
 use Rattle.run_rules.specs.Naming.{imports_added}

@@ -11,7 +11,7 @@ use Rattle.run_rules.specs.ImportRules.SpecText.{is_before, put, in_order}
 use Rattle.splice_laws.specs.ImportSplices.AddedFile.{added_spec}
 use Rattle.pkg_graph.specs.Package.{Package, specs_in}
 use Rattle.pkg_graph.specs.Members.{package_name, name_or, import_name}
-use Rattle.go_tree.specs.GoTypes.Answers.{given, one_of}
+use Rattle.go_rules.specs.GoTypes.Answers.{given, one_of}
 use Rattle.run_rules.specs.Respanned.{name_with, import_spec_with, import_decl_with}
 use Rattle.run_rules.specs.Steps.{spec_for}
 use Rattle.order_runs.specs.CycleRuns.StepCycles.PackagesAlike.{import_key}

@@ -15,8 +15,8 @@ use Rattle.run_rules.specs.ImportRules.Added.{adds_to_group}
 use Rattle.splice_laws.specs.ImportSplices.AddedFile.{added_spec, added_decls}
 use Rattle.splice_laws.specs.ImportSplices.SettledFile.{left_specs, left_single, left_decl, left_decls, grown_decls, with_added, settled_decls}
 use Rattle.pkg_graph.specs.Package.{Package, specs_in}
-use Rattle.go_tree.specs.GoTypes.Answers.{one_of}
-use Rattle.go_tree.specs.GoTypes.Agreement.{In, head, tail}
+use Rattle.go_rules.specs.GoTypes.Answers.{one_of}
+use Rattle.go_rules.specs.GoTypes.Agreement.{In, head, tail}
 use Rattle.order_runs.specs.CycleRuns.StepCycles.PackagesAlike.{import_key}
 use Rattle.order_runs.proofs.CycleRuns.OrderedSteps.Members.{of-two, in-front, in-back}
 use Rattle.order_runs.proofs.CycleRuns.KeptImports.Keys.{new_key, key-bare, keys-both, key-added, key_name, path_by, path-both, path-swapped, Apart, NamesDiffer, order-path}

@@ -3,7 +3,7 @@ use Rattle.std.proofs.Common.{refl, inl, inr, ℕ, false, List, [], ◌∷◌, N
 use Rattle.go_tree.specs.File.{ImportDecl}
 use Rattle.pkg_graph.specs.Package.{SourceTree, Package}
 use Rattle.pkg_graph.specs.Graph.{Leads, directly}
-use Rattle.go_tree.specs.GoTypes.Agreement.{head}
+use Rattle.go_rules.specs.GoTypes.Agreement.{head}
 use Rattle.run_rules.specs.Sites.{Where}
 use Rattle.run_rules.specs.Steps.{At}
 use Rattle.order_runs.proofs.CycleRuns.LedImports.Homes.{imports-one}

@@ -4,17 +4,17 @@ use Rattle.std.specs.List.{list_any}
 use Rattle.std.proofs.lemmas.Option.{same_Some}
 use Rattle.go_tree.specs.Tree.{NameAt, Param, TypeExpr, named, pointer, Expr, ident, selector, call, unary, star, Exprs, no_exprs, expr_and, eval, return_, define, assign, Stmts, no_stmts, stmt_and}
 use Rattle.go_tree.specs.File.{Receiver, Func, func}
-use Rattle.go_tree.specs.ScopeNames.FreeNames.{names_of}
-use Rattle.go_tree.specs.ScopeNames.Identifiers.{name_option, type_identifiers, params_identifiers, sig_identifiers, receiver_identifiers, expr_identifiers, exprs_identifiers, stmts_identifiers, decl_identifiers}
+use Rattle.go_rules.specs.ScopeNames.FreeNames.{names_of}
+use Rattle.go_rules.specs.ScopeNames.Identifiers.{name_option, type_identifiers, params_identifiers, sig_identifiers, receiver_identifiers, expr_identifiers, exprs_identifiers, stmts_identifiers, decl_identifiers}
 use Rattle.pkg_graph.specs.Package.{Package}
-use Rattle.go_tree.specs.GoTypes.Answers.{given, otherwise}
-use Rattle.go_tree.specs.GoTypes.Agreement.{In, head, tail}
-use Rattle.go_tree.specs.GoTypes.Types.{GoType, base_of}
-use Rattle.go_tree.specs.GoTypes.Defined.{Method, methods}
-use Rattle.go_tree.specs.GoTypes.Primary.{find_method}
+use Rattle.go_rules.specs.GoTypes.Answers.{given, otherwise}
+use Rattle.go_rules.specs.GoTypes.Agreement.{In, head, tail}
+use Rattle.go_rules.specs.GoTypes.Types.{GoType, base_of}
+use Rattle.go_rules.specs.GoTypes.Defined.{Method, methods}
+use Rattle.go_rules.specs.GoTypes.Primary.{find_method}
 use Rattle.go_tree.specs.declared.operators.UnOp.TheVariants.{Address}
 use Rattle.run_rules.specs.Classes.{type_at, points}
-use Rattle.go_tree.specs.GoTypes.Entities.{Env, defined_in}
+use Rattle.go_rules.specs.GoTypes.Entities.{Env, defined_in}
 use Rattle.param_choice.specs.Chosen.{has}
 use Rattle.constant_steps.specs.FormImports.Written.{NoneUnnamed}
 use Rattle.run_rules.specs.Surroundings.{Use, whole, returned, other, Place}

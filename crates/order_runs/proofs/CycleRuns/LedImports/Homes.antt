@@ -7,17 +7,17 @@ use Rattle.std.proofs.lemmas.Slice.Eq.{bytes_eq-Decides}
 use Rattle.go_tree.specs.declared.spans.Span.{Span}
 use Rattle.go_tree.specs.Tree.{NameAt, TypeExpr, named, pointer, slice_type, map_type, struct_type, Expr, ident, selector, call}
 use Rattle.go_tree.specs.File.{ImportSpec, Receiver, Decl, File}
-use Rattle.go_tree.specs.ScopeNames.Means.{Environment, is_blank, binding, means, numbered, predeclared}
+use Rattle.go_rules.specs.ScopeNames.Means.{Environment, is_blank, binding, means, numbered, predeclared}
 use Rattle.pkg_graph.specs.Package.{SourceTree, Package, import_specs}
 use Rattle.pkg_graph.specs.Graph.{imports_of, files_import, Imports, imported, Leads, directly}
 use Rattle.pkg_graph.specs.Members as members
 use Rattle.pkg_graph.specs.Members.{Target, member, import_name, block_names, items_from, decls_from, files_from, package_block, outside}
-use Rattle.go_tree.specs.GoTypes.Answers.{given, meets, one_of}
-use Rattle.go_tree.specs.GoTypes.Agreement.{In, head, tail}
+use Rattle.go_rules.specs.GoTypes.Answers.{given, meets, one_of}
+use Rattle.go_rules.specs.GoTypes.Agreement.{In, head, tail}
 use Rattle.run_rules.specs.Surroundings.{Use, other, Place, Seen, seen, seen_type, seen_stmt, is_local}
 use Rattle.run_rules.specs.Programs.{in_dependency_order, number_from, package_number, world, headed_func, decl_seen}
 use Rattle.run_rules.specs.Programs as programs
-use Rattle.go_tree.specs.GoTypes.MethodDeclarations.{receiver_type}
+use Rattle.go_rules.specs.GoTypes.MethodDeclarations.{receiver_type}
 use Rattle.run_rules.specs.Sites.{MarkRef, is_among_marks, Where, Inlinable, a_constant, an_alias, a_function, Part, an_expr, a_type_part, Site, mark_of, imported_by, where_is, inlinable, is_free_function, not_function, named_in, outer, outer_meaning, import_number, qualifier, members_in, member_of, name_mark, qualified_mark, is_method_of, is_this_method, find_marked_method, method_home, selected_method, marked, marked_as, called_mark, expr_mark, type_mark, site_by, type_sites, site_here, sites_among, decls_sites, files_sites, packages_sites, sites}
 use Rattle.run_rules.specs.Steps.{At, same_here, Found, found_by, first_found, first_step}
 use Rattle.run_rules.specs.Run.{Standing, Logged, Next, here_of, is_commented}

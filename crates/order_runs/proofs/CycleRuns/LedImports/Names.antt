@@ -5,11 +5,11 @@ use Rattle.std.specs.Prelude.{nat_eq}
 use Rattle.std.proofs.lemmas.Option.{same_Some}
 use Rattle.go_tree.specs.Tree.{NameAt, TypeExpr, named, pointer, slice_type, map_type, struct_type, Fields, no_fields, field, Expr, ident, selector}
 use Rattle.go_tree.specs.File.{ImportSpec}
-use Rattle.go_tree.specs.ScopeNames.Identifiers.{name_option, type_identifiers, fields_identifiers, expr_identifiers}
+use Rattle.go_rules.specs.ScopeNames.Identifiers.{name_option, type_identifiers, fields_identifiers, expr_identifiers}
 use Rattle.pkg_graph.specs.Package.{Package, import_specs}
 use Rattle.pkg_graph.specs.Members.{Target}
-use Rattle.go_tree.specs.GoTypes.Answers.{given}
-use Rattle.go_tree.specs.GoTypes.Agreement.{In, head, tail}
+use Rattle.go_rules.specs.GoTypes.Answers.{given}
+use Rattle.go_rules.specs.GoTypes.Agreement.{In, head, tail}
 use Rattle.constant_steps.specs.FormImports.Written.{NoneUnnamed}
 use Rattle.run_rules.specs.Surroundings.{Use, Place}
 use Rattle.run_rules.specs.Programs.{package_number}

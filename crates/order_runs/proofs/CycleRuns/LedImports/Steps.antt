@@ -5,12 +5,12 @@ use Rattle.std.proofs.lemmas.Option.{same_Some}
 use Rattle.std.proofs.lemmas.Bool.{eq-eqb}
 use Rattle.go_tree.specs.Tree.{TypeExpr, Expr}
 use Rattle.go_tree.specs.File.{Func}
-use Rattle.go_tree.specs.ScopeNames.Identifiers.{expr_identifiers, type_identifiers}
-use Rattle.go_tree.specs.ScopeNames.Binders.{func_binders}
+use Rattle.go_rules.specs.ScopeNames.Identifiers.{expr_identifiers, type_identifiers}
+use Rattle.go_rules.specs.ScopeNames.Binders.{func_binders}
 use Rattle.pkg_graph.specs.Package.{Package, import_specs}
 use Rattle.pkg_graph.specs.Graph.{Imports, Leads, directly, over}
-use Rattle.go_tree.specs.GoTypes.Answers.{given}
-use Rattle.go_tree.specs.GoTypes.Agreement.{In, head, tail}
+use Rattle.go_rules.specs.GoTypes.Answers.{given}
+use Rattle.go_rules.specs.GoTypes.Agreement.{In, head, tail}
 use Rattle.run_rules.specs.declared.import_rules.new_import.NewImport.{NewImport}
 use Rattle.run_rules.specs.ImportRules.Needs.{serving, avoided}
 use Rattle.constant_steps.specs.FormImports.Written.{NoneUnnamed}

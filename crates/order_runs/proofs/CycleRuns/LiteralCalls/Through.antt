@@ -3,12 +3,12 @@ use Rattle.std.proofs.Common.{◌≡◌, refl, sym, ap, ◌∙◌, ◌⊎◌, in
 use Rattle.std.specs.Prelude.{slice_get, is_some}
 use Rattle.go_tree.specs.Tree.{NameAt, named, Expr, ident, selector, call, func_lit, Stmts}
 use Rattle.go_tree.specs.File.{Receiver, Func, func}
-use Rattle.go_tree.specs.ScopeNames.FreeNames.{names_of}
+use Rattle.go_rules.specs.ScopeNames.FreeNames.{names_of}
 use Rattle.pkg_graph.specs.Package.{Package}
-use Rattle.go_tree.specs.GoTypes.Answers.{given, meets, otherwise}
-use Rattle.go_tree.specs.GoTypes.Types.{base_of, type_name_of}
-use Rattle.go_tree.specs.GoTypes.Entities.{defined_in}
-use Rattle.go_tree.specs.GoTypes.Primary.{field_type}
+use Rattle.go_rules.specs.GoTypes.Answers.{given, meets, otherwise}
+use Rattle.go_rules.specs.GoTypes.Types.{base_of, type_name_of}
+use Rattle.go_rules.specs.GoTypes.Entities.{defined_in}
+use Rattle.go_rules.specs.GoTypes.Primary.{field_type}
 use Rattle.run_rules.specs.Surroundings.{other, Place, Seen, seen, seen_type, seen_stmt}
 use Rattle.run_rules.specs.Places.{expr_seen, stmts_seen, sig_seen}
 use Rattle.run_rules.specs.Programs.{top_place, body_place, receiver_seen, func_seen, decl_seen}

@@ -2,7 +2,7 @@
 use Rattle.std.proofs.Common.{◌≡◌, sym, subst, false, List}
 use Rattle.go_tree.specs.Tree.{TypeExpr, Expr}
 use Rattle.pkg_graph.specs.Package.{Package}
-use Rattle.go_tree.specs.GoTypes.Answers.{meets}
+use Rattle.go_rules.specs.GoTypes.Answers.{meets}
 use Rattle.typed_in_place.specs.ProgramReplaced.{at_last}
 use Rattle.run_rules.specs.Programs.{world}
 use Rattle.run_rules.specs.Sites.{MarkRef, Site, is_function, inlinable}

@@ -11,10 +11,10 @@ use Rattle.std.proofs.Common.{refl, sym, ap, ◌∙◌, subst}
 use Rattle.std.proofs.lemmas.Option.{same_Some}
 use Rattle.go_tree.specs.Tree.{NameAt, named, Expr, ident, selector, int_lit, no_exprs, expr_and, const_decl, return_, no_stmts, stmt_and, no_specs, spec}
 use Rattle.go_tree.specs.File.{ImportDecl, Decl, values, File}
-use Rattle.go_tree.specs.ScopeNames.Means.{Environment}
+use Rattle.go_rules.specs.ScopeNames.Means.{Environment}
 use Rattle.pkg_graph.specs.Package.{SourceTree, Package, import_specs}
-use Rattle.go_tree.specs.GoTypes.Agreement.{In, head, tail}
-use Rattle.go_tree.specs.GoTypes.Entities.{Entity, World}
+use Rattle.go_rules.specs.GoTypes.Agreement.{In, head, tail}
+use Rattle.go_rules.specs.GoTypes.Entities.{Entity, World}
 use Rattle.run_rules.specs.Programs.{dependency_order, world}
 use Rattle.run_rules.specs.Sites.{MarkRef, sites, part_span}
 use Rattle.run_rules.specs.FormTrees.{ConstForm, as_expr}

@@ -2,9 +2,9 @@
 use Rattle.std.proofs.Common.{◌≡◌, refl, sym, ap, ◌∙◌, subst, ℕ, suc, ◌+◌, ◌<◌, ◌≤◌, ◌^◌, Bool, true, false, not, ◌&&◌, ◌||◌, bytes_eq, List, [], ◌∷◌, ◌++◌, map, length, Option, Some, None, codes, arith, length-append}
 use Rattle.go_tree.specs.File.{File}
 use Rattle.go_tree.specs.GoWords.Tokens.Pieces.{is_among, keyword_spellings}
-use Rattle.go_tree.specs.ScopeNames.Fresh.{is_new, IsFresh}
-use Rattle.go_tree.specs.ScopeNames.Identifiers.{identifiers}
-use Rattle.go_tree.specs.ScopeNames.Means.{predeclared}
+use Rattle.go_rules.specs.ScopeNames.Fresh.{is_new, IsFresh}
+use Rattle.go_rules.specs.ScopeNames.Identifiers.{identifiers}
+use Rattle.go_rules.specs.ScopeNames.Means.{predeclared}
 use Rattle.pkg_graph.specs.Package.{Package}
 use Rattle.constant_steps.specs.FormImports.ImportLaws.Steps.{binders_of}
 use Rattle.constant_steps.proofs.FormImports.ImportLaws.StepNames.{FoundWell, found_well}

@@ -6,10 +6,10 @@ use Rattle.std.proofs.lemmas.Option.{same_Some}
 use Rattle.std.proofs.lemmas.Slice.Eq.{bytes_eq-Decides}
 use Rattle.go_tree.specs.File.{Decl}
 use Rattle.go_tree.specs.GoWords.Tokens.Pieces.{is_among, keyword_spellings}
-use Rattle.go_tree.specs.GoTypes.Agreement.{In, head, tail}
-use Rattle.go_tree.specs.ScopeNames.Fresh.{is_new}
-use Rattle.go_tree.specs.ScopeNames.Identifiers.{identifiers, imports_identifiers, decl_identifiers, decls_identifiers}
-use Rattle.go_tree.specs.ScopeNames.Means.{predeclared}
+use Rattle.go_rules.specs.GoTypes.Agreement.{In, head, tail}
+use Rattle.go_rules.specs.ScopeNames.Fresh.{is_new}
+use Rattle.go_rules.specs.ScopeNames.Identifiers.{identifiers, imports_identifiers, decl_identifiers, decls_identifiers}
+use Rattle.go_rules.specs.ScopeNames.Means.{predeclared}
 use Rattle.pkg_graph.specs.Package.{Package, specs_in}
 use Rattle.pkg_graph.specs.Members.{package_name, name_or, import_name}
 use Rattle.constant_steps.specs.FormImports.ImportLaws.Steps.{binders_of}

@@ -7,9 +7,9 @@ use Rattle.pkg_graph.specs.ModuleFiles.Pieces.{comes_before}
 use Rattle.pkg_graph.specs.Package.{SourceTree, Package}
 use Rattle.pkg_graph.specs.Graph.{imports_of}
 use Rattle.pkg_graph.specs.Order.{is_placed}
-use Rattle.go_tree.specs.GoTypes.Entities.{World}
-use Rattle.go_tree.specs.GoTypes.Programs.{SourcePackage}
-use Rattle.go_tree.specs.GoTypes.Collect.{collected}
+use Rattle.go_rules.specs.GoTypes.Entities.{World}
+use Rattle.go_rules.specs.GoTypes.Programs.{SourcePackage}
+use Rattle.go_rules.specs.GoTypes.Collect.{collected}
 use Rattle.run_rules.specs.Programs.{numbered_from, numbered, is_ready, lesser, least_ready, ordered_after, in_dependency_order, numbers_of, linked_package, linked_packages, world}
 use Rattle.typed_in_place.specs.SameWorlds.SameWorlds.{SameWorld, Reordered, no_packages, same_first, swapped, one_after_another}
 use Rattle.typed_in_place.proofs.SameWorlds.AtHome.{nat_same}

@@ -4,20 +4,20 @@ use Rattle.std.proofs.Common.{◌≡◌, refl, ap, ◌∙◌, ℕ, suc, Bool, tr
 use Rattle.std.specs.Prelude.{nat_eq, is_none, ◌&&◌}
 use Rattle.go_tree.specs.Tree.{NameAt, TypeExpr, named, pointer, slice_type, map_type, struct_type, Expr, expr_and, no_exprs, ident, Stmt, const_decl, var_decl, empty, eval, step, assign, define, return_, break_, continue_, inner, if_, for_, range_, switch, defer, label, ValueSpecs, no_specs, spec}
 use Rattle.go_tree.specs.File.{TypeSpec, Receiver, Func, Decl, values, types, func, File}
-use Rattle.go_tree.specs.ScopeNames.FreeNames.{names_of, free_params}
-use Rattle.go_tree.specs.ScopeNames.Identifiers.{name_option, params_identifiers, sig_identifiers, type_option_identifiers, exprs_identifiers, stmts_identifiers, specs_identifiers, receiver_identifiers, decl_identifiers}
-use Rattle.go_tree.specs.ScopeNames.Means.{Environment, means, is_blank}
+use Rattle.go_rules.specs.ScopeNames.FreeNames.{names_of, free_params}
+use Rattle.go_rules.specs.ScopeNames.Identifiers.{name_option, params_identifiers, sig_identifiers, type_option_identifiers, exprs_identifiers, stmts_identifiers, specs_identifiers, receiver_identifiers, decl_identifiers}
+use Rattle.go_rules.specs.ScopeNames.Means.{Environment, means, is_blank}
 use Rattle.pkg_graph.specs.Package.{Package}
-use Rattle.go_tree.specs.GoTypes.Answers.{given, otherwise, only_if}
-use Rattle.go_tree.specs.GoTypes.Types.{named_type, type_name_of, base_of}
-use Rattle.go_tree.specs.GoTypes.Defined.{under}
-use Rattle.go_tree.specs.GoTypes.Entities.{Entity, World, Env, Binds, extend, meaning, type_of_name, block_of, universe}
-use Rattle.go_tree.specs.GoTypes.TypeNames.{func_type}
-use Rattle.go_tree.specs.GoTypes.Programs.{file_env}
-use Rattle.go_tree.specs.GoTypes.Bodies.{body_binds}
-use Rattle.go_tree.specs.GoTypes.MethodDeclarations.{receiver_binds}
-use Rattle.go_tree.specs.GoTypes.WellTyped.{receiver_of}
-use Rattle.go_tree.specs.GoTypes.Agreement.{head, tail, Same, On, Agrees, with_names}
+use Rattle.go_rules.specs.GoTypes.Answers.{given, otherwise, only_if}
+use Rattle.go_rules.specs.GoTypes.Types.{named_type, type_name_of, base_of}
+use Rattle.go_rules.specs.GoTypes.Defined.{under}
+use Rattle.go_rules.specs.GoTypes.Entities.{Entity, World, Env, Binds, extend, meaning, type_of_name, block_of, universe}
+use Rattle.go_rules.specs.GoTypes.TypeNames.{func_type}
+use Rattle.go_rules.specs.GoTypes.Programs.{file_env}
+use Rattle.go_rules.specs.GoTypes.Bodies.{body_binds}
+use Rattle.go_rules.specs.GoTypes.MethodDeclarations.{receiver_binds}
+use Rattle.go_rules.specs.GoTypes.WellTyped.{receiver_of}
+use Rattle.go_rules.specs.GoTypes.Agreement.{head, tail, Same, On, Agrees, with_names}
 use Rattle.typed_in_place.proofs.ImportsMoved.{func_type-moved}
 use Rattle.run_rules.specs.Surroundings.{Use, Place, alike, value_use, in_constant}
 use Rattle.run_rules.specs.Rewriting.{Changes}

@@ -1,15 +1,15 @@
 -- What is put is the same in worlds in which the same is found. One line a clause.
 use Rattle.std.proofs.Common.{◌≡◌, refl, ap, ◌∙◌, ℕ, suc, [], length, Option, Some, None, if◌then◌else◌}
 use Rattle.go_tree.specs.Tree.{Sig, Expr, ident, int_lit, rune_lit, str_lit, composite, selector, index, slice, call, func_lit, type_operand, unary, binary, star, Exprs, no_exprs, expr_and, ExprOption, no_expr, some_expr, Elems, no_elems, elem, Value, plain, braced, ValueOption, no_value, some_value, Stmt, const_decl, var_decl, empty, eval, step, assign, define, return_, break_, continue_, inner, if_, for_, range_, switch, defer, label, Stmts, no_stmts, stmt_and, StmtOption, no_stmt, some_stmt, BlockOption, no_block, some_block, RangeLeft, nothing, assigns, defines, Arms, no_arms, arm, Cases, no_cases, case, ValueSpecs, no_specs, spec}
-use Rattle.go_tree.specs.ScopeNames.FreeNames.{names_of, declared, declared_option, defined, sig_names}
-use Rattle.go_tree.specs.GoTypes.Answers.{given, meets, otherwise}
-use Rattle.go_tree.specs.GoTypes.Types.{GoType, GoFields, FuncType, fields_of}
-use Rattle.go_tree.specs.GoTypes.Entities.{World, Env, Binds, extend, in_block}
-use Rattle.go_tree.specs.GoTypes.TypeNames.{func_type, written_type}
-use Rattle.go_tree.specs.GoTypes.Literals.{is_struct}
-use Rattle.go_tree.specs.GoTypes.Typing.{all_parts, binds_of}
-use Rattle.go_tree.specs.GoTypes.Bodies.{no_values, body_binds}
-use Rattle.go_tree.specs.GoTypes.Declarations.{Repeated, nothing_to_repeat, binds_or}
+use Rattle.go_rules.specs.ScopeNames.FreeNames.{names_of, declared, declared_option, defined, sig_names}
+use Rattle.go_rules.specs.GoTypes.Answers.{given, meets, otherwise}
+use Rattle.go_rules.specs.GoTypes.Types.{GoType, GoFields, FuncType, fields_of}
+use Rattle.go_rules.specs.GoTypes.Entities.{World, Env, Binds, extend, in_block}
+use Rattle.go_rules.specs.GoTypes.TypeNames.{func_type, written_type}
+use Rattle.go_rules.specs.GoTypes.Literals.{is_struct}
+use Rattle.go_rules.specs.GoTypes.Typing.{all_parts, binds_of}
+use Rattle.go_rules.specs.GoTypes.Bodies.{no_values, body_binds}
+use Rattle.go_rules.specs.GoTypes.Declarations.{Repeated, nothing_to_repeat, binds_or}
 use Rattle.typed_in_place.specs.SameWorlds.SameWorlds.{SameWorld, at}
 use Rattle.typed_in_place.proofs.SameWorlds.AgainSame.{Again, either-again, nothing-again}
 use Rattle.typed_in_place.proofs.SameWorlds.DefinedSame.{under-same}

@@ -24,11 +24,11 @@ use Rattle.order_runs.proofs.CycleRuns.ImportCycles.LeadAlike.{same-beside}
 use Rattle.order_runs.proofs.CycleRuns.ImportCycles.ImportsAdded.{path-stays, reads-added, new-names-read}
 use Rattle.order_runs.specs.CycleRuns.OrderCycles.Orders.{AllOrdered, PackagesUnder}
 use Rattle.order_runs.proofs.CycleRuns.OrderCycles.Orders.{orders-declare}
-use Rattle.go_tree.specs.ScopeNames.Means.{Environment, is_blank}
-use Rattle.go_tree.specs.GoTypes.Answers.{given}
-use Rattle.go_tree.specs.GoTypes.Agreement.{Same}
-use Rattle.go_tree.specs.GoTypes.Entities.{Entity, block_of, universe}
-use Rattle.go_tree.specs.GoTypes.Programs as typed
+use Rattle.go_rules.specs.ScopeNames.Means.{Environment, is_blank}
+use Rattle.go_rules.specs.GoTypes.Answers.{given}
+use Rattle.go_rules.specs.GoTypes.Agreement.{Same}
+use Rattle.go_rules.specs.GoTypes.Entities.{Entity, block_of, universe}
+use Rattle.go_rules.specs.GoTypes.Programs as typed
 use Rattle.run_rules.specs.Programs.{imports_mean, linked_file, linked_imports, top_env}
 use Rattle.run_rules.specs.Sites.{Where, where_is}
 use Rattle.order_runs.specs.CycleRuns.ImportCycles.ImportSteps.{AddsNewNames}

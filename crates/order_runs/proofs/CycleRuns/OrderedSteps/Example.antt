@@ -6,7 +6,7 @@ use Rattle.std.proofs.lemmas.Slice.Eq.{bytes_eq-Decides}
 use Rattle.go_tree.specs.File.{ImportDecl}
 use Rattle.pkg_graph.specs.Package.{Package}
 use Rattle.pkg_graph.specs.Graph.{imports_of}
-use Rattle.go_tree.specs.GoTypes.Agreement.{In, head, tail}
+use Rattle.go_rules.specs.GoTypes.Agreement.{In, head, tail}
 use Rattle.run_rules.specs.Steps.{At}
 use Rattle.run_rules.specs.Programs.{dependency_order}
 use Rattle.order_runs.specs.CycleRuns.OrderCycles.Orders.{AllOrdered}

@@ -12,7 +12,7 @@ use Rattle.pkg_graph.specs.GraphLaws.{OrdersHoldAll}
 use Rattle.pkg_graph.specs.Reads.{Source}
 use Rattle.pkg_graph.proofs.PackageLaws.{paths_distinct}
 use Rattle.pkg_graph.proofs.BridgeLaws.{got_within, got_at}
-use Rattle.go_tree.specs.GoTypes.Agreement.{In}
+use Rattle.go_rules.specs.GoTypes.Agreement.{In}
 use Rattle.run_rules.specs.Respanned.{import_spec_with, import_decl_with, source_with, package_with, packages_with}
 use Rattle.run_rules.specs.Programs.{dependency_order}
 use Rattle.run_rules.specs.Texts.{FileText}

@@ -8,7 +8,7 @@ use Rattle.std.proofs.lemmas.Slice.Eq.{bytes_eq-Decides}
 use Rattle.pkg_graph.specs.Package.{Package}
 use Rattle.pkg_graph.specs.Graph.{imports_of}
 use Rattle.pkg_graph.specs.Order.{has_path, is_placed, IsReady, Follows, none, next}
-use Rattle.go_tree.specs.GoTypes.Agreement.{In}
+use Rattle.go_rules.specs.GoTypes.Agreement.{In}
 use Rattle.run_rules.specs.Programs.{dependency_order}
 use Rattle.run_rules.proofs.InOrder.{order_is}
 use Rattle.typed_in_place.proofs.SameWorlds.AtHome.{nat_same}

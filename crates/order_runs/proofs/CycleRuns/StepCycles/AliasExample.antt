@@ -8,10 +8,10 @@ use Rattle.std.proofs.lemmas.Option.{same_Some}
 use Rattle.go_tree.specs.Tree.{TypeExpr, named, no_stmts}
 use Rattle.go_tree.specs.File.{Decl, types}
 use Rattle.pkg_graph.specs.Package.{Package}
-use Rattle.go_tree.specs.GoTypes.Entities.{World}
-use Rattle.go_tree.specs.GoTypes.TypeNames.{resolved, type_meant}
-use Rattle.go_tree.specs.GoTypes.Programs.{headed, file_env}
-use Rattle.go_tree.specs.GoTypes.Collect.{aliased_world, typed_world, named_world, valued_world, collected}
+use Rattle.go_rules.specs.GoTypes.Entities.{World}
+use Rattle.go_rules.specs.GoTypes.TypeNames.{resolved, type_meant}
+use Rattle.go_rules.specs.GoTypes.Programs.{headed, file_env}
+use Rattle.go_rules.specs.GoTypes.Collect.{aliased_world, typed_world, named_world, valued_world, collected}
 use Rattle.typed_in_place.specs.Replaced.{same_type, TypeReplaced}
 use Rattle.typed_in_place.specs.HeaderReplaced.{no_receiver}
 use Rattle.typed_in_place.specs.ProgramReplaced.{ValuesEnd, after_names, after_values, at_last}

@@ -3,16 +3,16 @@ use Rattle.std.proofs.Common.{◌≡◌, refl, sym, ◌∙◌, ℕ, zero, suc, B
 use Rattle.std.specs.Prelude.{bytes_eq, slice_get}
 use Rattle.go_tree.specs.Tree.{NameAt, Exprs, TypeExpr, no_exprs, const_decl, var_decl, empty, eval, step, assign, define, return_, break_, continue_, inner, if_, for_, range_, switch, defer, label, ValueSpecs, no_specs, spec}
 use Rattle.go_tree.specs.File.{ImportSpec, Receiver, TypeSpec, Func, Decl, values, types, func}
-use Rattle.go_tree.specs.ScopeNames.FreeNames.{names_of}
-use Rattle.go_tree.specs.ScopeNames.Means as scopes
-use Rattle.go_tree.specs.ScopeNames.Means.{Environment, binding, is_blank}
+use Rattle.go_rules.specs.ScopeNames.FreeNames.{names_of}
+use Rattle.go_rules.specs.ScopeNames.Means as scopes
+use Rattle.go_rules.specs.ScopeNames.Means.{Environment, binding, is_blank}
 use Rattle.pkg_graph.specs.Package.{SourceTree, Package, import_specs}
 use Rattle.pkg_graph.specs.Members.{Target, imported, member, predeclared, specs_names, block_names, unless_method, items_from, decls_from, files_from, package_block, package_name, name_or, import_name, outside}
-use Rattle.go_tree.specs.GoTypes.Answers.{given, otherwise, is_among}
-use Rattle.go_tree.specs.GoTypes.Entities.{Entity}
-use Rattle.go_tree.specs.GoTypes.Bodies.{no_values}
-use Rattle.go_tree.specs.GoTypes.Programs as typed
-use Rattle.go_tree.specs.GoTypes.Programs.{Header, constants, a_func, headers, all_headers, header_names, names_in, constant_headers, variable_headers, at_member, is_init, import_entity, file_block}
+use Rattle.go_rules.specs.GoTypes.Answers.{given, otherwise, is_among}
+use Rattle.go_rules.specs.GoTypes.Entities.{Entity}
+use Rattle.go_rules.specs.GoTypes.Bodies.{no_values}
+use Rattle.go_rules.specs.GoTypes.Programs as typed
+use Rattle.go_rules.specs.GoTypes.Programs.{Header, constants, a_func, headers, all_headers, header_names, names_in, constant_headers, variable_headers, at_member, is_init, import_entity, file_block}
 use Rattle.run_rules.specs.Programs.{number_from, package_number, linked_import, linked_file, imports_mean}
 use Rattle.typed_in_place.specs.ProgramsAlike.{OneByOne, no_more, and_more}
 use Rattle.order_runs.specs.CycleRuns.StepCycles.PackagesAlike.{import_key, DeclAlike, FileAlike, PackageAlike, PackagesAlike}

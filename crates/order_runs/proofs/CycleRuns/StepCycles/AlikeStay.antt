@@ -3,15 +3,15 @@ use Rattle.std.proofs.Common.{◌≡◌, refl, sym, ◌∙◌, subst, ℕ, zero,
 use Rattle.std.proofs.lemmas.Option.{same_Some}
 use Rattle.std.specs.Prelude.{bytes_eq, slice_get}
 use Rattle.go_tree.specs.File.{Receiver, Func, Decl}
-use Rattle.go_tree.specs.ScopeNames.Means.{Environment, means}
+use Rattle.go_rules.specs.ScopeNames.Means.{Environment, means}
 use Rattle.pkg_graph.specs.Package.{SourceTree, Package}
 use Rattle.pkg_graph.specs.Members.{Target}
-use Rattle.go_tree.specs.GoTypes.Answers.{given, meets, only_if}
-use Rattle.go_tree.specs.GoTypes.Types.{base_of, type_name_of}
-use Rattle.go_tree.specs.GoTypes.Defined.{under}
-use Rattle.go_tree.specs.GoTypes.Entities.{Entity, World, meaning, type_of_name}
-use Rattle.go_tree.specs.GoTypes.Programs.{file_env}
-use Rattle.go_tree.specs.GoTypes.MethodDeclarations.{receiver_type}
+use Rattle.go_rules.specs.GoTypes.Answers.{given, meets, only_if}
+use Rattle.go_rules.specs.GoTypes.Types.{base_of, type_name_of}
+use Rattle.go_rules.specs.GoTypes.Defined.{under}
+use Rattle.go_rules.specs.GoTypes.Entities.{Entity, World, meaning, type_of_name}
+use Rattle.go_rules.specs.GoTypes.Programs.{file_env}
+use Rattle.go_rules.specs.GoTypes.MethodDeclarations.{receiver_type}
 use Rattle.run_rules.specs.Programs.{world, imports_mean, headed_func}
 use Rattle.run_rules.specs.Sites.{MarkRef, is_among_marks, Where, Inlinable, a_constant, an_alias, a_function, is_function, is_free_function, inlinable_in, where_is, inlinable, import_number, imported_by, mark_of, members_in, member_of, is_method_of, is_this_method, find_marked_method, marked, marked_as}
 use Rattle.typed_in_place.specs.ProgramsAlike.{OneByOne, no_more, and_more}

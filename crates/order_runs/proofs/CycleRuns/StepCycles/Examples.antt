@@ -10,12 +10,12 @@ use Rattle.std.proofs.lemmas.Option.{same_Some}
 use Rattle.go_tree.specs.declared.operators.BinOp.TheVariants.{Add}
 use Rattle.go_tree.specs.Tree.{binary}
 use Rattle.go_tree.specs.File.{Decl}
-use Rattle.go_tree.specs.declared.const_eval.kinds.Kind.TheVariants as kind
-use Rattle.go_tree.specs.declared.const_eval.consts.Const.TheVariants.{Whole}
-use Rattle.go_tree.specs.GoTypes.Types.{untyped}
-use Rattle.go_tree.specs.GoTypes.Entities.{Entity, constant, World, meaning}
-use Rattle.go_tree.specs.GoTypes.Programs.{headed, file_env}
-use Rattle.go_tree.specs.GoTypes.Collect.{named_world, valued_world, collected}
+use Rattle.go_rules.specs.declared.const_eval.kinds.Kind.TheVariants as kind
+use Rattle.go_rules.specs.declared.const_eval.consts.Const.TheVariants.{Whole}
+use Rattle.go_rules.specs.GoTypes.Types.{untyped}
+use Rattle.go_rules.specs.GoTypes.Entities.{Entity, constant, World, meaning}
+use Rattle.go_rules.specs.GoTypes.Programs.{headed, file_env}
+use Rattle.go_rules.specs.GoTypes.Collect.{named_world, valued_world, collected}
 use Rattle.typed_in_place.specs.Declared.{a_constant}
 use Rattle.typed_in_place.specs.Leaves.{plain_name}
 use Rattle.typed_in_place.specs.ProgramReplaced.{ValuesEnd, after_names, after_values, at_last}

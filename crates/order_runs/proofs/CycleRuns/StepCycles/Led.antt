@@ -6,7 +6,7 @@ use Rattle.std.specs.Prelude.{slice_get}
 use Rattle.go_tree.specs.Tree.{TypeExpr, Expr}
 use Rattle.go_tree.specs.File.{Decl}
 use Rattle.pkg_graph.specs.Package.{SourceTree, Package}
-use Rattle.go_tree.specs.GoTypes.Answers.{given, meets, one_of}
+use Rattle.go_rules.specs.GoTypes.Answers.{given, meets, one_of}
 use Rattle.run_rules.specs.Surroundings.{Use, other, Place, Seen, seen, seen_type, seen_stmt}
 use Rattle.run_rules.specs.Programs.{numbered, numbered_from, in_dependency_order, decl_seen}
 use Rattle.run_rules.specs.Sites.{MarkRef, same_mark, is_among_marks, Where, Part, an_expr, a_type_part, Site, is_function, inlinable, where_is, parts_of, named_in, expr_mark, type_mark, site_by, type_sites, sites_among, decls_sites, files_sites, packages_sites, sites}

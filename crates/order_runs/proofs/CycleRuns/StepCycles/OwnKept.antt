@@ -2,8 +2,8 @@
 use Rattle.std.proofs.Common.{◌≡◌, sym, subst, ℕ, false, List, [], ◌∷◌, Option, Some}
 use Rattle.go_tree.specs.Tree.{NameAt, Expr, ident, selector}
 use Rattle.pkg_graph.specs.Package.{Package}
-use Rattle.go_tree.specs.GoTypes.Answers.{meets}
-use Rattle.go_tree.specs.GoTypes.Entities.{Entity, Env}
+use Rattle.go_rules.specs.GoTypes.Answers.{meets}
+use Rattle.go_rules.specs.GoTypes.Entities.{Entity, Env}
 use Rattle.typed_in_place.specs.Leaves.{Names, plain_name, qualified_name}
 use Rattle.typed_in_place.specs.ProgramReplaced.{at_last}
 use Rattle.run_rules.specs.Surroundings.{Place, Seen, seen, seen_type, seen_stmt}

@@ -3,12 +3,12 @@ use Rattle.std.proofs.Common.{◌≡◌, refl, sym, ◌∙◌, subst, ℕ, zero,
 use Rattle.std.proofs.lemmas.Option.{same_Some}
 use Rattle.std.specs.Prelude.{slice_get}
 use Rattle.go_tree.specs.File.{ImportSpec, Decl, File}
-use Rattle.go_tree.specs.ScopeNames.Means.{Environment}
+use Rattle.go_rules.specs.ScopeNames.Means.{Environment}
 use Rattle.pkg_graph.specs.Package.{SourceTree, Package, import_specs}
 use Rattle.pkg_graph.specs.Members.{name_or}
 use Rattle.pkg_graph.specs.Graph.{files_import, imports_of}
-use Rattle.go_tree.specs.GoTypes.Entities.{Entity}
-use Rattle.go_tree.specs.GoTypes.Programs.{Header, SourcePackage, block_names, file_block, is_main}
+use Rattle.go_rules.specs.GoTypes.Entities.{Entity}
+use Rattle.go_rules.specs.GoTypes.Programs.{Header, SourcePackage, block_names, file_block, is_main}
 use Rattle.run_rules.specs.Programs.{in_dependency_order, linked_import, linked_imports, linked_file, linked_package, linked_packages, linked, imports_mean}
 use Rattle.run_rules.specs.Sites.{Where}
 use Rattle.run_rules.specs.Steps.{At, same_here, change_nth, with_file}

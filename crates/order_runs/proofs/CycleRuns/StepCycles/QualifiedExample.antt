@@ -8,13 +8,13 @@ use Rattle.std.proofs.Common.{refl, subst}
 use Rattle.std.proofs.lemmas.Option.{same_Some}
 use Rattle.go_tree.specs.Tree.{NameAt, named, Expr, ident, selector, int_lit, no_exprs, expr_and, const_decl, return_, no_stmts, stmt_and, no_specs, spec}
 use Rattle.go_tree.specs.File.{ImportDecl, Decl, values}
-use Rattle.go_tree.specs.declared.const_eval.kinds.Kind.TheVariants as kind
-use Rattle.go_tree.specs.declared.const_eval.consts.Const.TheVariants.{Whole}
+use Rattle.go_rules.specs.declared.const_eval.kinds.Kind.TheVariants as kind
+use Rattle.go_rules.specs.declared.const_eval.consts.Const.TheVariants.{Whole}
 use Rattle.pkg_graph.specs.Package.{SourceTree, Package}
-use Rattle.go_tree.specs.GoTypes.Types.{untyped}
-use Rattle.go_tree.specs.GoTypes.Entities.{Entity, constant, World, Env, exported}
-use Rattle.go_tree.specs.GoTypes.Programs.{headed, file_env}
-use Rattle.go_tree.specs.GoTypes.Collect.{named_world, valued_world, collected}
+use Rattle.go_rules.specs.GoTypes.Types.{untyped}
+use Rattle.go_rules.specs.GoTypes.Entities.{Entity, constant, World, Env, exported}
+use Rattle.go_rules.specs.GoTypes.Programs.{headed, file_env}
+use Rattle.go_rules.specs.GoTypes.Collect.{named_world, valued_world, collected}
 use Rattle.typed_in_place.specs.Declared.{a_constant}
 use Rattle.typed_in_place.specs.Leaves.{qualified_name}
 use Rattle.typed_in_place.specs.ProgramReplaced.{ValuesEnd, after_names, after_values, at_last}

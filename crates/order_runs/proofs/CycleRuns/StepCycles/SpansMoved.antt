@@ -6,14 +6,14 @@ use Rattle.go_tree.specs.Tree.{Exprs, TypeExpr, no_exprs, const_decl, var_decl, 
 use Rattle.go_tree.specs.File.{Receiver, TypeSpec, Decl, values, types, func}
 use Rattle.go_tree.specs.Bare.{bare_name, bare_type, bare_exprs, bare_value_specs}
 use Rattle.go_tree.specs.FileBare.{bare_type_spec, bare_receiver, bare_decl}
-use Rattle.go_tree.specs.ScopeNames.Means.{Environment, is_blank}
-use Rattle.go_tree.proofs.ScopeNames.FreeNamesBare.{names_of-bare}
-use Rattle.go_tree.specs.GoTypes.Answers.{is_among}
-use Rattle.go_tree.specs.GoTypes.Entities.{Entity}
-use Rattle.go_tree.specs.GoTypes.Bodies.{no_values}
-use Rattle.go_tree.specs.GoTypes.Declarations.{names_once}
-use Rattle.go_tree.specs.GoTypes.Programs.{Header, constants, variables, a_type_spec, a_func, Headed, SourceFile, SourcePackage, Program, headers, all_headers, header_names, names_in, constant_headers, variable_headers, at_member, is_init, is_main, file_block, block_names, headed_file, headed_files, headed}
-use Rattle.go_tree.specs.GoTypes.Collect.{aliased_world, typed_world, collected}
+use Rattle.go_rules.specs.ScopeNames.Means.{Environment, is_blank}
+use Rattle.go_rules.proofs.ScopeNames.FreeNamesBare.{names_of-bare}
+use Rattle.go_rules.specs.GoTypes.Answers.{is_among}
+use Rattle.go_rules.specs.GoTypes.Entities.{Entity}
+use Rattle.go_rules.specs.GoTypes.Bodies.{no_values}
+use Rattle.go_rules.specs.GoTypes.Declarations.{names_once}
+use Rattle.go_rules.specs.GoTypes.Programs.{Header, constants, variables, a_type_spec, a_func, Headed, SourceFile, SourcePackage, Program, headers, all_headers, header_names, names_in, constant_headers, variable_headers, at_member, is_init, is_main, file_block, block_names, headed_file, headed_files, headed}
+use Rattle.go_rules.specs.GoTypes.Collect.{aliased_world, typed_world, collected}
 use Rattle.typed_in_place.specs.ProgramsAlike.{OneByOne, no_more, and_more}
 use Rattle.typed_in_place.specs.ImportRule.{SamePackage}
 use Rattle.typed_in_place.proofs.SpansAside.{bare_header, bare_headed, types_spans_aside, aliases_spans_aside, values_spans_aside, bodies_spans_aside}

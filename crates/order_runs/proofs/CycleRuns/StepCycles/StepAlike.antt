@@ -8,11 +8,11 @@ use Rattle.go_tree.specs.Tree.{NameAt, Exprs, no_exprs, expr_and, const_decl, va
 use Rattle.go_tree.specs.File.{Receiver, TypeSpec, Decl, values, types, func, File}
 use Rattle.go_tree.specs.Bare.{bare_name, bare_value_specs}
 use Rattle.go_tree.specs.FileBare.{bare_type_spec, bare_receiver, bare_decl}
-use Rattle.go_tree.specs.ScopeNames.FreeNames.{names_of}
-use Rattle.go_tree.proofs.ScopeNames.FreeNamesBare.{names_of-bare}
+use Rattle.go_rules.specs.ScopeNames.FreeNames.{names_of}
+use Rattle.go_rules.proofs.ScopeNames.FreeNamesBare.{names_of-bare}
 use Rattle.pkg_graph.specs.Package.{SourceTree, Package}
 use Rattle.pkg_graph.specs.Members.{specs_names, block_names, unless_method}
-use Rattle.go_tree.specs.GoTypes.Answers.{given}
+use Rattle.go_rules.specs.GoTypes.Answers.{given}
 use Rattle.run_rules.specs.Surroundings.{Place}
 use Rattle.run_rules.specs.Rewriting.{Changes}
 use Rattle.run_rules.specs.Programs.{top_place}

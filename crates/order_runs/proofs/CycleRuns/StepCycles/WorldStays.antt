@@ -5,13 +5,13 @@ use Rattle.std.specs.Prelude.{slice_get}
 use Rattle.go_tree.specs.declared.spans.Span.{Span}
 use Rattle.go_tree.specs.File.{ImportSpec, Decl, values as value_decl, types as type_decl, func, File}
 use Rattle.go_tree.specs.FileBare.{bare_decl}
-use Rattle.go_tree.specs.ScopeNames.Means.{Environment}
+use Rattle.go_rules.specs.ScopeNames.Means.{Environment}
 use Rattle.pkg_graph.specs.Package.{SourceTree, Package, import_specs}
 use Rattle.pkg_graph.specs.Graph.{files_import}
-use Rattle.go_tree.specs.GoTypes.Entities.{Entity, World}
-use Rattle.go_tree.specs.GoTypes.TypeNames.{resolved}
-use Rattle.go_tree.specs.GoTypes.Programs.{headed, file_env}
-use Rattle.go_tree.specs.GoTypes.Collect.{aliased_world, typed_world, collected}
+use Rattle.go_rules.specs.GoTypes.Entities.{Entity, World}
+use Rattle.go_rules.specs.GoTypes.TypeNames.{resolved}
+use Rattle.go_rules.specs.GoTypes.Programs.{headed, file_env}
+use Rattle.go_rules.specs.GoTypes.Collect.{aliased_world, typed_world, collected}
 use Rattle.run_rules.specs.Rewriting.{Changes}
 use Rattle.run_rules.specs.Programs.{top_place, body_place, decl_seen, linked_file, linked_package, linked_packages, linked, world}
 use Rattle.run_rules.specs.Respanned.{decls_with}

@@ -3,10 +3,10 @@
 use Rattle.std.specs.Prelude.{◌≡◌, ℕ, List, [], ◌++◌}
 use Rattle.go_tree.specs.declared.exprs.Rest.{Rest}
 use Rattle.go_tree.specs.Tree.{Sig, call, func_lit, Exprs, Stmts}
-use Rattle.go_tree.specs.ScopeNames.Means.{Environment}
-use Rattle.go_tree.specs.ScopeNames.Identifiers.{stmts_identifiers}
+use Rattle.go_rules.specs.ScopeNames.Means.{Environment}
+use Rattle.go_rules.specs.ScopeNames.Identifiers.{stmts_identifiers}
 use Rattle.pkg_graph.specs.Package.{Package}
-use Rattle.go_tree.specs.GoTypes.Entities.{Entity}
+use Rattle.go_rules.specs.GoTypes.Entities.{Entity}
 use Rattle.run_rules.specs.Surroundings.{Use, Place, in_literal}
 use Rattle.run_rules.specs.Places.{expr_seen, all_seen, stmts_seen}
 use Rattle.run_rules.specs.Sites.{MarkRef, Where}

@@ -1,13 +1,13 @@
 -- Two places of a program at which a body may stand: the second within further declarations, in another file perhaps
 -- (Go specification, Declarations and scope; Blocks; Function literals).
 use Rattle.std.specs.Prelude.{◌≡◌, ℕ, List, [], ◌++◌, Option, None, if◌then◌else◌}
-use Rattle.go_tree.specs.ScopeNames.FreeNames.{names_of}
-use Rattle.go_tree.specs.ScopeNames.Means.{Environment, means}
+use Rattle.go_rules.specs.ScopeNames.FreeNames.{names_of}
+use Rattle.go_rules.specs.ScopeNames.Means.{Environment, means}
 use Rattle.pkg_graph.specs.Package.{Package}
 use Rattle.pkg_graph.specs.Members.{Target}
-use Rattle.go_tree.specs.GoTypes.Answers.{given, is_among}
-use Rattle.go_tree.specs.GoTypes.Entities.{Entity, Env}
-use Rattle.go_tree.specs.GoTypes.Agreement.{In, Same, Agrees, with_names}
+use Rattle.go_rules.specs.GoTypes.Answers.{given, is_among}
+use Rattle.go_rules.specs.GoTypes.Entities.{Entity, Env}
+use Rattle.go_rules.specs.GoTypes.Agreement.{In, Same, Agrees, with_names}
 use Rattle.run_rules.specs.Surroundings.{Place}
 use Rattle.run_rules.specs.Sites.{Where, mark_of, imported_by, outer, import_number, marked_as, is_free_function}
 use Rattle.run_rules.specs.Sites.{MarkRef}

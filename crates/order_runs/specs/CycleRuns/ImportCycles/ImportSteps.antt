@@ -2,9 +2,9 @@
 -- declarations; Qualified identifiers; Declarations and scope).
 use Rattle.std.specs.Prelude.{◌≡◌, ℕ, true, ◌++◌, List, Some, None, slice_get}
 use Rattle.go_tree.specs.File.{Decl, File}
-use Rattle.go_tree.specs.ScopeNames.Identifiers.{decl_identifiers}
+use Rattle.go_rules.specs.ScopeNames.Identifiers.{decl_identifiers}
 use Rattle.pkg_graph.specs.Package.{Package, specs_in, import_specs}
-use Rattle.go_tree.specs.GoTypes.Agreement.{In}
+use Rattle.go_rules.specs.GoTypes.Agreement.{In}
 use Rattle.run_rules.specs.Programs.{world, decl_seen}
 use Rattle.run_rules.specs.Sites.{MarkRef, Where, part_span}
 use Rattle.run_rules.specs.Naming.{imports_added}

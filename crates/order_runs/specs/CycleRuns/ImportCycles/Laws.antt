@@ -2,11 +2,11 @@
 -- declarations; Declarations and scope; Calls).
 use Rattle.std.specs.Prelude.{◌≡◌, ℕ, List, []}
 use Rattle.go_tree.specs.Tree.{Stmts}
-use Rattle.go_tree.specs.ScopeNames.Means.{Environment}
-use Rattle.go_tree.specs.ScopeNames.Identifiers.{stmts_identifiers}
+use Rattle.go_rules.specs.ScopeNames.Means.{Environment}
+use Rattle.go_rules.specs.ScopeNames.Identifiers.{stmts_identifiers}
 use Rattle.pkg_graph.specs.Package.{Package}
-use Rattle.go_tree.specs.GoTypes.Entities.{Entity}
-use Rattle.go_tree.specs.GoTypes.Agreement.{Agrees, with_names}
+use Rattle.go_rules.specs.GoTypes.Entities.{Entity}
+use Rattle.go_rules.specs.GoTypes.Agreement.{Agrees, with_names}
 use Rattle.run_rules.specs.Surroundings.{Place}
 use Rattle.run_rules.specs.Places.{stmts_seen}
 use Rattle.run_rules.specs.Programs.{world}

@@ -5,9 +5,9 @@
 use Rattle.std.specs.Prelude.{ℕ, List, [], ◌∷◌, ◌++◌, Option, Some, None}
 use Rattle.go_tree.specs.Tree.{const_decl, var_decl, ValueSpecs, no_specs, spec}
 use Rattle.go_tree.specs.File.{TypeSpec, Receiver, Func, Decl, values, types, func}
-use Rattle.go_tree.specs.ScopeNames.FreeNames.{sig_names, free_type, free_type_option, free_params, free_exprs}
-use Rattle.go_tree.specs.ScopeNames.FreeNames.{free_stmts}
-use Rattle.go_tree.specs.GoTypes.WellTyped.{receiver_names}
+use Rattle.go_rules.specs.ScopeNames.FreeNames.{sig_names, free_type, free_type_option, free_params, free_exprs}
+use Rattle.go_rules.specs.ScopeNames.FreeNames.{free_stmts}
+use Rattle.go_rules.specs.GoTypes.WellTyped.{receiver_names}
 
 module _ {S : Type 0} where
   -- those of constants or variables

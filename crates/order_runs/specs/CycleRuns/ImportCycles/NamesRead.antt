@@ -1,11 +1,11 @@
 -- A name that two files of two programs read alike, and programs that have the same marked functions (Go specification,
 -- Declarations and scope; Import declarations; Qualified identifiers; Calls).
 use Rattle.std.specs.Prelude.{◌≡◌, ℕ, List, Option}
-use Rattle.go_tree.specs.ScopeNames.Means.{Environment, means}
+use Rattle.go_rules.specs.ScopeNames.Means.{Environment, means}
 use Rattle.pkg_graph.specs.Package.{Package}
-use Rattle.go_tree.specs.GoTypes.Answers.{given, meets}
-use Rattle.go_tree.specs.GoTypes.Entities.{Entity, Env}
-use Rattle.go_tree.specs.GoTypes.Agreement.{In, Same}
+use Rattle.go_rules.specs.GoTypes.Answers.{given, meets}
+use Rattle.go_rules.specs.GoTypes.Entities.{Entity, Env}
+use Rattle.go_rules.specs.GoTypes.Agreement.{In, Same}
 use Rattle.run_rules.specs.Sites.{MarkRef, Where, mark_of, imported_by, inlinable, is_function, is_free_function, outer}
 use Rattle.run_rules.specs.Sites.{import_number, member_of, find_marked_method, marked, marked_as}
 

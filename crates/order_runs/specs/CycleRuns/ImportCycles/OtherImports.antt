@@ -3,12 +3,12 @@
 use Rattle.std.specs.Prelude.{◌≡◌, ℕ, List, [], ◌∷◌, ◌++◌, Option, Some, None, if◌then◌else◌}
 use Rattle.std.specs.Prelude.{bytes_eq, slice_get}
 use Rattle.go_tree.specs.File.{ImportSpec, Decl}
-use Rattle.go_tree.specs.ScopeNames.Means.{Environment}
-use Rattle.go_tree.specs.ScopeNames.Identifiers.{decl_identifiers}
+use Rattle.go_rules.specs.ScopeNames.Means.{Environment}
+use Rattle.go_rules.specs.ScopeNames.Identifiers.{decl_identifiers}
 use Rattle.pkg_graph.specs.Package.{SourceTree, Package, import_specs}
 use Rattle.pkg_graph.specs.Members.{import_name}
-use Rattle.go_tree.specs.GoTypes.Entities.{Entity, block_of, universe}
-use Rattle.go_tree.specs.GoTypes.Agreement.{In}
+use Rattle.go_rules.specs.GoTypes.Entities.{Entity, block_of, universe}
+use Rattle.go_rules.specs.GoTypes.Agreement.{In}
 use Rattle.typed_in_place.specs.ProgramsAlike.{OneByOne}
 use Rattle.run_rules.specs.Programs.{in_dependency_order, world, imports_mean, top_env}
 use Rattle.run_rules.specs.Respanned.{decls_with}

@@ -5,11 +5,11 @@ use Rattle.std.specs.List.{list_any}
 use Rattle.go_tree.specs.declared.spans.Span.{Span}
 use Rattle.go_tree.specs.File.{ImportSpec, Decl, File}
 use Rattle.go_tree.specs.FileBare.{bare_import_decl}
-use Rattle.go_tree.specs.ScopeNames.Identifiers.{decl_identifiers}
+use Rattle.go_rules.specs.ScopeNames.Identifiers.{decl_identifiers}
 use Rattle.run_rules.specs.ImportRules.Removed.{same_span}
 use Rattle.pkg_graph.specs.Package.{import_specs}
 use Rattle.pkg_graph.specs.Members.{import_name}
-use Rattle.go_tree.specs.GoTypes.Agreement.{In}
+use Rattle.go_rules.specs.GoTypes.Agreement.{In}
 use Rattle.splice_laws.specs.Swaps.{Swap}
 use Rattle.splice_laws.specs.Fits.{swap_mark}
 use Rattle.splice_laws.specs.Forms.{new_layout}

@@ -2,10 +2,10 @@
 -- Qualified identifiers; Identifiers).
 use Rattle.std.specs.Prelude.{◌≡◌, ◌⊎◌, true, List, Some}
 use Rattle.go_tree.specs.File.{func}
-use Rattle.go_tree.specs.ScopeNames.Identifiers.{expr_identifiers, type_identifiers, decl_identifiers}
+use Rattle.go_rules.specs.ScopeNames.Identifiers.{expr_identifiers, type_identifiers, decl_identifiers}
 use Rattle.pkg_graph.specs.Package.{Package}
 use Rattle.pkg_graph.specs.Graph.{Leads}
-use Rattle.go_tree.specs.GoTypes.Answers.{meets}
+use Rattle.go_rules.specs.GoTypes.Answers.{meets}
 use Rattle.constant_steps.specs.FormImports.Written.{NoneUnnamed}
 use Rattle.run_rules.specs.Sites.{MarkRef, Where, Inlinable, a_constant, an_alias, a_function, Part, an_expr}
 use Rattle.run_rules.specs.Sites.{a_type_part, Site, where_is, inlinable, is_free_function, not_function}

@@ -5,7 +5,7 @@ use Rattle.go_tree.specs.Tree.{Expr}
 use Rattle.pkg_graph.specs.Package.{Package}
 use Rattle.run_rules.specs.Surroundings.{Place, Seen}
 use Rattle.run_rules.specs.Rewriting.{Changes}
-use Rattle.go_tree.specs.GoTypes.Answers.{meets}
+use Rattle.go_rules.specs.GoTypes.Answers.{meets}
 use Rattle.run_rules.specs.Sites.{MarkRef, Where, is_function, inlinable}
 use Rattle.run_rules.specs.FormTrees.{as_expr}
 use Rattle.run_rules.specs.Steps.{At}

@@ -5,11 +5,11 @@ use Rattle.go_tree.specs.declared.exprs.Rest.{Rest}
 use Rattle.go_tree.specs.Tree.{Sig, Expr, ident, selector, call, func_lit, Exprs, Stmts}
 use Rattle.go_tree.specs.File.{Func, Decl, func}
 use Rattle.go_tree.specs.Bare.{bare_stmts}
-use Rattle.go_tree.specs.ScopeNames.Means.{Environment}
-use Rattle.go_tree.specs.ScopeNames.Identifiers.{stmts_identifiers}
+use Rattle.go_rules.specs.ScopeNames.Means.{Environment}
+use Rattle.go_rules.specs.ScopeNames.Identifiers.{stmts_identifiers}
 use Rattle.pkg_graph.specs.Package.{Package}
-use Rattle.go_tree.specs.GoTypes.Answers.{meets}
-use Rattle.go_tree.specs.GoTypes.Entities.{Entity}
+use Rattle.go_rules.specs.GoTypes.Answers.{meets}
+use Rattle.go_rules.specs.GoTypes.Entities.{Entity}
 use Rattle.run_rules.specs.Surroundings.{Place, Seen, seen, seen_type, seen_stmt, in_literal}
 use Rattle.run_rules.specs.Programs.{body_place, decl_seen}
 use Rattle.run_rules.specs.Rewriting.{Changes}

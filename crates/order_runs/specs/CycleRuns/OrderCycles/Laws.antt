@@ -3,7 +3,7 @@
 use Rattle.std.specs.Prelude.{◌≡◌, ◌+◌, ◌<◌, ◌^◌, false, List, length}
 use Rattle.go_tree.specs.Tree.{TypeExpr, Expr}
 use Rattle.pkg_graph.specs.Package.{Package}
-use Rattle.go_tree.specs.GoTypes.Answers.{meets}
+use Rattle.go_rules.specs.GoTypes.Answers.{meets}
 use Rattle.run_rules.specs.ImportRules.Needs.{avoided}
 use Rattle.run_rules.specs.Naming.{fuel_for, names_here}
 use Rattle.run_rules.specs.Programs.{world}

@@ -1,7 +1,7 @@
 -- When the imports that a step adds have new names (Go specification, Import declarations; Identifiers).
 use Rattle.std.specs.Prelude.{◌≡◌, ◌+◌, ◌<◌, ◌^◌, ℕ, List, [], ◌∷◌, ◌++◌, Option, Some, None, length}
 use Rattle.fresh_names.specs.Laws.{TakenAmong}
-use Rattle.go_tree.specs.ScopeNames.Fresh.{IsFresh}
+use Rattle.go_rules.specs.ScopeNames.Fresh.{IsFresh}
 use Rattle.pkg_graph.specs.Package.{Package}
 use Rattle.pkg_graph.specs.Members.{package_name}
 use Rattle.run_rules.specs.declared.import_rules.new_import.NewImport.{NewImport}

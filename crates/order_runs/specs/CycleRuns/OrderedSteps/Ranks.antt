@@ -3,7 +3,7 @@
 use Rattle.std.specs.Prelude.{◌≡◌, ◌<◌, ℕ, List, map, Some, slice_get}
 use Rattle.pkg_graph.specs.Package.{Package, import_specs}
 use Rattle.pkg_graph.specs.Graph.{Leads, imports_of}
-use Rattle.go_tree.specs.GoTypes.Agreement.{In}
+use Rattle.go_rules.specs.GoTypes.Agreement.{In}
 use Rattle.run_rules.specs.Naming.{imports_added}
 use Rattle.run_rules.specs.Steps.{At, Found}
 use Rattle.run_rules.specs.Sites.{MarkRef}

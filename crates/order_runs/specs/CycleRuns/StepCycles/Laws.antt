@@ -3,7 +3,7 @@
 use Rattle.std.specs.Prelude.{◌≡◌, ◌↔◌, ℕ, true, false, List}
 use Rattle.go_tree.specs.Tree.{NameAt, TypeExpr, Expr, ident, selector}
 use Rattle.pkg_graph.specs.Package.{Package}
-use Rattle.go_tree.specs.GoTypes.Answers.{meets}
+use Rattle.go_rules.specs.GoTypes.Answers.{meets}
 use Rattle.run_rules.specs.Surroundings.{Seen}
 use Rattle.run_rules.specs.Programs.{world}
 use Rattle.run_rules.specs.Sites.{MarkRef, part_span, is_function, inlinable}

@@ -3,10 +3,10 @@
 -- declarations; Declarations and scope; Method declarations).
 use Rattle.std.specs.Prelude.{◌≡◌, ℕ, List, map, Option, Some, None}
 use Rattle.go_tree.specs.File.{ImportSpec, Decl}
-use Rattle.go_tree.specs.ScopeNames.FreeNames.{names_of}
+use Rattle.go_rules.specs.ScopeNames.FreeNames.{names_of}
 use Rattle.pkg_graph.specs.Package.{SourceTree, Package, import_specs}
 use Rattle.pkg_graph.specs.Members.{block_names}
-use Rattle.go_tree.specs.GoTypes.Answers.{given}
+use Rattle.go_rules.specs.GoTypes.Answers.{given}
 use Rattle.typed_in_place.specs.ProgramsAlike.{OneByOne}
 use Rattle.run_rules.specs.Sites.{Inlinable, a_constant, an_alias, a_function, inlinable_in}
 

@@ -1,6 +1,6 @@
 use Rattle.std.proofs.Common.{◌+◌, ap, drop, map, subst}
 use Rattle.go_tree.specs.FileView.{decl_of}
-use Rattle.go_tree.specs.GoTypes.Programs.{all_headers, headers}
+use Rattle.go_rules.specs.GoTypes.Programs.{all_headers, headers}
 use Rattle.typed_names.proofs.TypeExprs.NewNames.{drop_all, drop_item}
 use Rattle.package_blocks.specs.Headers.{Adds}
 use Rattle.package_blocks.proofs.HeaderLemmas.{added_all, added_none, added_some}

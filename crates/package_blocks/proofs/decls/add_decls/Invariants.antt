@@ -1,6 +1,6 @@
 use Rattle.std.proofs.Common.{drop, map}
 use Rattle.go_tree.specs.FileView.{decl_of}
-use Rattle.go_tree.specs.GoTypes.Programs.{all_headers}
+use Rattle.go_rules.specs.GoTypes.Programs.{all_headers}
 use Rattle.package_blocks.specs.Headers.{HeadersAdded}
 use Rattle.package_blocks.proofs.decls.add_decls.Given as goal
 

@@ -1,6 +1,6 @@
 use Rattle.std.proofs.Common.{◌∙◌, ◌||◌, Some, ap₂, bytes_eq, cond, is_some, refl, subst, sym}
-use Rattle.go_tree.specs.ScopeNames.Means.{means}
-use Rattle.go_tree.specs.GoTypes.Programs.{is_init}
+use Rattle.go_rules.specs.ScopeNames.Means.{means}
+use Rattle.go_rules.specs.GoTypes.Programs.{is_init}
 use Rattle.typed_names.specs.Known.{HasTypes}
 use Rattle.typed_names.specs.Meanings.{block_at}
 use Rattle.package_blocks.proofs.ImportLemmas.{import_new, import_past}

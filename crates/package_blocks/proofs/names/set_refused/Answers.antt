@@ -1,5 +1,5 @@
 use Rattle.std.proofs.Common.{◌∙◌, ◌&&◌, Some, ap, bytes_eq, cond, nat_eq, sym}
-use Rattle.go_tree.specs.ScopeNames.Means.{means}
+use Rattle.go_rules.specs.ScopeNames.Means.{means}
 use Rattle.typed_names.specs.declared.entities.Entity.TheVariants.{Refused}
 use Rattle.typed_names.specs.Meanings.{block_at}
 use Rattle.package_blocks.proofs.NameLemmas.{declares_one}

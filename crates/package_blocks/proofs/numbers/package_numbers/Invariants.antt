@@ -1,5 +1,5 @@
 use Rattle.std.proofs.Common.{◌≡◌, ℕ, List, drop, map}
-use Rattle.go_tree.specs.ScopeNames.Means.{means, or_else}
+use Rattle.go_rules.specs.ScopeNames.Means.{means, or_else}
 use Rattle.package_blocks.specs.Imports.{path_number}
 use Rattle.package_blocks.proofs.numbers.package_numbers.Given as goal
 

@@ -1,7 +1,7 @@
 use Rattle.std.proofs.Common.{[], ◌∷◌, ◌+◌, None, ap, drop, subst}
 use Rattle.go_tree.specs.View.{const_spec_of}
 use Rattle.go_tree.specs.declared.stmts.ConstDecl.{out-ConstDecl}
-use Rattle.go_tree.specs.GoTypes.Programs.{constants}
+use Rattle.go_rules.specs.GoTypes.Programs.{constants}
 use Rattle.typed_names.proofs.TypeExprs.NewNames.{drop_all, drop_item}
 use Rattle.package_blocks.specs.Headers.{Adds, constants_of, repeated_type, repeated_values}
 use Rattle.package_blocks.proofs.DeclLemmas.{const_headers, const_left, names_plain}

@@ -1,6 +1,6 @@
 use Rattle.std.proofs.Common.{[], ◌∷◌, ◌+◌, drop}
 use Rattle.go_tree.specs.FileView.{type_spec_of}
-use Rattle.go_tree.specs.GoTypes.Programs.{a_type_spec}
+use Rattle.go_rules.specs.GoTypes.Programs.{a_type_spec}
 use Rattle.typed_names.proofs.TypeExprs.NewNames.{drop_item}
 use Rattle.package_blocks.specs.Headers.{type_headers}
 use Rattle.package_blocks.proofs.DeclLemmas.{type_left}

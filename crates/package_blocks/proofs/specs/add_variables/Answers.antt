@@ -1,7 +1,7 @@
 use Rattle.std.proofs.Common.{[], ◌∷◌, ◌+◌, ap, drop, subst}
 use Rattle.go_tree.specs.View.{var_spec_of}
 use Rattle.go_tree.specs.declared.stmts.VarDecl.{out-VarDecl}
-use Rattle.go_tree.specs.GoTypes.Programs.{variables}
+use Rattle.go_rules.specs.GoTypes.Programs.{variables}
 use Rattle.typed_names.proofs.TypeExprs.NewNames.{drop_all, drop_item}
 use Rattle.package_blocks.specs.Headers.{Adds, variables_of}
 use Rattle.package_blocks.proofs.DeclLemmas.{names_plain, var_headers, var_left}

@@ -7,24 +7,24 @@ use Rattle.std.proofs.lemmas.Bool.{cond_both}
 use Rattle.std.proofs.lemmas.Option.{same_Some}
 use Rattle.go_tree.specs.Tree.{NameAt, TypeExpr, named, Exprs, no_exprs, expr_and, const_decl, var_decl, ValueSpecs, no_specs, spec}
 use Rattle.go_tree.specs.File.{TypeSpec, Receiver, Func, Decl, values, types, func, File}
-use Rattle.go_tree.specs.ScopeNames.FreeNames.{names_of, sig_names}
+use Rattle.go_rules.specs.ScopeNames.FreeNames.{names_of, sig_names}
 use Rattle.pkg_graph.specs.Package.{SourceTree, Package}
 use Rattle.pkg_graph.specs.ModuleFiles.Pieces.{comes_before}
-use Rattle.go_tree.specs.GoTypes.Answers.{given, both, only_if, is_empty, distinct_by}
-use Rattle.go_tree.specs.GoTypes.Types.{GoType}
-use Rattle.go_tree.specs.GoTypes.Entities.{variable, Env, Binds}
-use Rattle.go_tree.specs.GoTypes.TypeNames.{func_type, written_type}
-use Rattle.go_tree.specs.GoTypes.Operands.{Operand, all_typed}
-use Rattle.go_tree.specs.GoTypes.Declarations.{bind_all, bind_each, constant_entity, variable_entity}
-use Rattle.go_tree.specs.GoTypes.Bodiless.{all_bodiless}
-use Rattle.go_tree.specs.GoTypes.Bodies.{body_ctx, no_values, is_body}
-use Rattle.go_tree.specs.GoTypes.Jumps.{labels_in}
-use Rattle.go_tree.specs.GoTypes.Typing.{all_parts, stmts}
-use Rattle.go_tree.specs.GoTypes.Programs.{Header, constants, variables, a_func, headed, headed_package, constant_headers, variable_headers, at_member, block_names, file_env}
-use Rattle.go_tree.specs.GoTypes.Collect.{DeclaredTypes, types_declared, package_constants, package_variables}
-use Rattle.go_tree.specs.GoTypes.Initial.{all_initial}
-use Rattle.go_tree.specs.GoTypes.WellTyped.{receiver_names, well_typed}
-use Rattle.go_tree.proofs.GoTypes.Agreeing.{from_given, from_both, from_only}
+use Rattle.go_rules.specs.GoTypes.Answers.{given, both, only_if, is_empty, distinct_by}
+use Rattle.go_rules.specs.GoTypes.Types.{GoType}
+use Rattle.go_rules.specs.GoTypes.Entities.{variable, Env, Binds}
+use Rattle.go_rules.specs.GoTypes.TypeNames.{func_type, written_type}
+use Rattle.go_rules.specs.GoTypes.Operands.{Operand, all_typed}
+use Rattle.go_rules.specs.GoTypes.Declarations.{bind_all, bind_each, constant_entity, variable_entity}
+use Rattle.go_rules.specs.GoTypes.Bodiless.{all_bodiless}
+use Rattle.go_rules.specs.GoTypes.Bodies.{body_ctx, no_values, is_body}
+use Rattle.go_rules.specs.GoTypes.Jumps.{labels_in}
+use Rattle.go_rules.specs.GoTypes.Typing.{all_parts, stmts}
+use Rattle.go_rules.specs.GoTypes.Programs.{Header, constants, variables, a_func, headed, headed_package, constant_headers, variable_headers, at_member, block_names, file_env}
+use Rattle.go_rules.specs.GoTypes.Collect.{DeclaredTypes, types_declared, package_constants, package_variables}
+use Rattle.go_rules.specs.GoTypes.Initial.{all_initial}
+use Rattle.go_rules.specs.GoTypes.WellTyped.{receiver_names, well_typed}
+use Rattle.go_rules.proofs.GoTypes.Agreeing.{from_given, from_both, from_only}
 use Rattle.typed_in_place.specs.ProgramReplaced.{All, all_and}
 use Rattle.constant_steps.specs.StepLaws.DeclStands.{AtNth}
 use Rattle.constant_steps.specs.StepLaws.PartsTyped.{HeaderTyped}
@@ -34,10 +34,10 @@ use Rattle.run_rules.specs.Surroundings.{Place, Seen, seen_type, alike, value_us
 use Rattle.run_rules.specs.Places.{written_seen, all_seen, sig_seen, stmts_seen}
 use Rattle.run_rules.specs.Programs.{numbered_from, numbered, is_ready, lesser, least_ready, ordered_after, in_dependency_order, numbers_of, linked_file, linked_package, linked_packages, linked, world, imports_mean, top_place, body_place, headed_func, constants_at_top, variables_at_top, types_at_top, receiver_seen, func_seen, decl_seen}
 use Rattle.run_rules.specs.Sites.{Where}
-use Rattle.go_tree.specs.GoTypes.Operands.{named_operand}
-use Rattle.go_tree.specs.GoTypes.Entities.{meaning}
+use Rattle.go_rules.specs.GoTypes.Operands.{named_operand}
+use Rattle.go_rules.specs.GoTypes.Entities.{meaning}
 use Rattle.pkg_graph.specs.Members.{imported}
-use Rattle.go_tree.specs.ScopeNames.Means.{is_blank, means}
+use Rattle.go_rules.specs.ScopeNames.Means.{is_blank, means}
 use Rattle.run_rules.specs.Programs.{top_env}
 use Rattle.run_rules.specs.Sites.{outer}
 use Rattle.constant_steps.proofs.StepLaws.DeclUses.{body-begins}

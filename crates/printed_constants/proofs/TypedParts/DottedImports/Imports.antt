@@ -4,14 +4,14 @@ use Rattle.std.proofs.lemmas.Option.{same_Some}
 use Rattle.std.proofs.lemmas.Slice.Eq.{bytes_eq-Decides}
 use Rattle.go_tree.specs.Tree.{NameAt}
 use Rattle.go_tree.specs.File.{ImportSpec, Decl}
-use Rattle.go_tree.specs.ScopeNames.Means as names
-use Rattle.go_tree.specs.ScopeNames.Means.{Environment, means, or_else, binding, numbered, is_blank}
+use Rattle.go_rules.specs.ScopeNames.Means as names
+use Rattle.go_rules.specs.ScopeNames.Means.{Environment, means, or_else, binding, numbered, is_blank}
 use Rattle.pkg_graph.specs.Package.{SourceTree, Package, import_specs}
 use Rattle.pkg_graph.specs.Members.{Target, imported, member, predeclared, import_name, block_names, items_from, decls_from, files_from, package_block}
-use Rattle.go_tree.specs.GoTypes.Entities.{Entity, Env, universe, block_of}
-use Rattle.go_tree.specs.GoTypes.Operands.{named_operand}
-use Rattle.go_tree.specs.GoTypes.Programs as program
-use Rattle.go_tree.specs.GoTypes.Programs.{import_entity, import_sound, file_block}
+use Rattle.go_rules.specs.GoTypes.Entities.{Entity, Env, universe, block_of}
+use Rattle.go_rules.specs.GoTypes.Operands.{named_operand}
+use Rattle.go_rules.specs.GoTypes.Programs as program
+use Rattle.go_rules.specs.GoTypes.Programs.{import_entity, import_sound, file_block}
 use Rattle.run_rules.specs.Programs.{linked_file, linked_import, world, imports_mean, top_env, package_number}
 use Rattle.run_rules.specs.Sites.{Where, outer}
 use Rattle.constant_steps.proofs.WrittenLiteral.NamesMeant.{means_join}

@@ -2,7 +2,7 @@
 use Rattle.std.proofs.Common.{◌≡◌, ◌∙◌, refl, sym, ap, ℕ, zero, suc, Bool, true, false, if◌then◌else◌, List, [], ◌∷◌, ◌++◌, length, Option, Some, None, is_some, arith}
 use Rattle.go_tree.specs.Tree.{TypeExpr, named, pointer, slice_type, map_type, struct_type, Expr}
 use Rattle.pkg_graph.specs.Package.{Package}
-use Rattle.go_tree.specs.GoTypes.Answers.{meets}
+use Rattle.go_rules.specs.GoTypes.Answers.{meets}
 use Rattle.run_rules.specs.Surroundings.{Use, other, Place, Seen, seen, seen_type, seen_stmt}
 use Rattle.run_rules.specs.Sites.{MarkRef, is_among_marks, Where, Inlinable, Part, an_expr, a_type_part, Site, is_function, not_function, where_is, inlinable, parts_of, named_in, name_mark, qualified_mark, expr_mark, type_mark, site_by, type_sites, site_here, sites_among}
 use Rattle.run_rules.specs.Cycles.{without_marks, function_marks, leads_to, all_lead_to, reached, is_recursive}

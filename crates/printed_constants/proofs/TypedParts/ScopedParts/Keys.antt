@@ -3,15 +3,15 @@ use Rattle.std.specs.Prelude.{◌≡◌, refl, ℕ, suc, Bool, true, false, List
 use mathlib.Core.Path.{ap, sym, ◌∙◌, subst}
 use Rattle.std.proofs.Common.{arith}
 use Rattle.go_tree.specs.Tree.{Expr, ident, int_lit, rune_lit, str_lit, composite, selector, index, slice, call, func_lit, type_operand, unary, binary, star, Elems, no_elems, elem, Value, plain, braced, ValueOption, no_value, some_value}
-use Rattle.go_tree.specs.GoTypes.Answers.{given, both, meets}
-use Rattle.go_tree.specs.GoTypes.Types.{GoType}
-use Rattle.go_tree.specs.GoTypes.Defined.{under}
-use Rattle.go_tree.specs.GoTypes.Entities.{Env, defined_in}
-use Rattle.go_tree.specs.GoTypes.TypeNames.{type_meant}
-use Rattle.go_tree.specs.GoTypes.Operands.{Operand}
-use Rattle.go_tree.specs.GoTypes.Literals.{Element, is_struct, field_key, built_inside, key_type, inner_type, literal_type, of_field, keyed}
-use Rattle.go_tree.specs.GoTypes.Typing.{elements, element, with_key}
-use Rattle.go_tree.proofs.GoTypes.Agreeing.{from_given, from_both}
+use Rattle.go_rules.specs.GoTypes.Answers.{given, both, meets}
+use Rattle.go_rules.specs.GoTypes.Types.{GoType}
+use Rattle.go_rules.specs.GoTypes.Defined.{under}
+use Rattle.go_rules.specs.GoTypes.Entities.{Env, defined_in}
+use Rattle.go_rules.specs.GoTypes.TypeNames.{type_meant}
+use Rattle.go_rules.specs.GoTypes.Operands.{Operand}
+use Rattle.go_rules.specs.GoTypes.Literals.{Element, is_struct, field_key, built_inside, key_type, inner_type, literal_type, of_field, keyed}
+use Rattle.go_rules.specs.GoTypes.Typing.{elements, element, with_key}
+use Rattle.go_rules.proofs.GoTypes.Agreeing.{from_given, from_both}
 use Rattle.run_rules.specs.Surroundings.{Use, a_slot, Place, Seen, seen, seen_type, seen_stmt, into_type, elem_use, key_use, in_slot, elem_closed}
 use Rattle.member_uses.specs.PossibleUses.Among.{ElemsKeyed, KeyKeyed, ValueKeyed, Keyed}
 use Rattle.printed_constants.specs.TypedParts.Parts.{ElementsTyped, AllTyped}

@@ -10,7 +10,7 @@ use Rattle.go_tree.specs.File.{Decl, File}
 use Rattle.go_read.specs.SpellsTypes.{Lexemes}
 use Rattle.go_read.specs.SpellsSpans.{span_to}
 use Rattle.go_read.specs.SpellsFiles.{SpellsTops, SpellsFront, SpellsFile, no_tops_rule, more_tops_rule, front_rule}
-use Rattle.go_tree.specs.GoTypes.Statements.{is_define}
+use Rattle.go_rules.specs.GoTypes.Statements.{is_define}
 use Rattle.run_rules.specs.Surroundings.{Seen, seen, seen_type, seen_stmt, first_declares}
 use Rattle.run_rules.specs.Respanned.{decl_with}
 use Rattle.run_rules.specs.Programs.{decl_seen}

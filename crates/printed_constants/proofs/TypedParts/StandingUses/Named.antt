@@ -2,10 +2,10 @@
 use Rattle.std.proofs.Common.{◌≡◌, ◌∙◌, refl, sym, ap, subst, ℕ, Bool, true, false, if◌then◌else◌, List, [], ◌∷◌, Option, Some, None, is_some, arith}
 use Rattle.std.proofs.lemmas.Option.{same_Some}
 use Rattle.go_tree.specs.Tree.{NameAt, Expr, ident, int_lit, rune_lit, str_lit, composite, selector, index, slice, call, func_lit, type_operand, unary, binary, star}
-use Rattle.go_tree.specs.ScopeNames.Means.{means}
+use Rattle.go_rules.specs.ScopeNames.Means.{means}
 use Rattle.pkg_graph.specs.Package.{Package}
 use Rattle.pkg_graph.specs.Members.{Target, local, imported, member, predeclared}
-use Rattle.go_tree.specs.GoTypes.Answers.{given, meets}
+use Rattle.go_rules.specs.GoTypes.Answers.{given, meets}
 use Rattle.run_rules.specs.Surroundings.{Place, is_local}
 use Rattle.run_rules.specs.Sites.{MarkRef, Where, Inlinable, a_constant, imported_by, mark_of, is_among_marks, is_free_function, not_function, inlinable, outer, name_mark, qualifier, member_of, is_this_method, find_marked_method, method_home, selected_method, marked, marked_as, called_mark, expr_mark}
 use Rattle.run_rules.specs.Steps.{means_import, named_by_import}

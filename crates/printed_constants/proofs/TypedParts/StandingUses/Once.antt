@@ -5,7 +5,7 @@ use Rattle.std.proofs.lemmas.Option.{same_Some}
 use Rattle.go_tree.specs.declared.spans.Span.{Span}
 use Rattle.go_tree.specs.Tree.{NameAt, Expr, ident, int_lit, rune_lit, str_lit, composite, selector, index, slice, call, func_lit, type_operand, unary, binary, star}
 use Rattle.go_tree.specs.File.{Decl, File}
-use Rattle.go_tree.specs.ScopeNames.Scopes.{expr_span}
+use Rattle.go_rules.specs.ScopeNames.Scopes.{expr_span}
 use Rattle.run_rules.specs.ImportRules.Removed.{same_span}
 use Rattle.typed_in_place.proofs.Rising.{and_first, and_second}
 use Rattle.run_rules.specs.Surroundings.{Place, Seen, seen, seen_type, seen_stmt}
@@ -30,7 +30,7 @@ use Rattle.printed_constants.specs.TypedParts.StandingUses.ImportUses.Parts.{Eac
 use Rattle.printed_constants.specs.TypedParts.StandingUses.ImportUses.Parts as stands
 use Rattle.printed_constants.specs.TypedParts.StandingUses.Laws.{IsNamedOnce, ConstantUsesStandOnce, AreTyped, ConstantStepsAreTold}
 use Rattle.go_tree.specs.FileView.{file_of}
-use Rattle.go_tree.specs.declared.scope_names.names.ImportName.{ImportName}
+use Rattle.go_rules.specs.declared.scope_names.names.ImportName.{ImportName}
 use Rattle.scope_tables.specs.Table.{IsTableOf, table_of}
 use Rattle.pkg_graph.specs.Package.{Package, import_specs}
 use Rattle.constant_steps.specs.FormImports.ImportLaws.Steps.{names_standing}

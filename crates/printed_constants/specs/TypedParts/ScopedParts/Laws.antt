@@ -2,7 +2,7 @@
 -- Composite literals; Blocks; For statements).
 use Rattle.std.specs.Prelude.{◌≡◌, ℕ, true, List, Some, slice_get}
 use Rattle.go_tree.specs.File.{Decl}
-use Rattle.go_tree.specs.GoTypes.WellTyped.{well_typed}
+use Rattle.go_rules.specs.GoTypes.WellTyped.{well_typed}
 use Rattle.order_runs.specs.CycleRuns.OrderCycles.Orders.{AllOrdered}
 use Rattle.pkg_graph.specs.Package.{Package}
 use Rattle.constant_steps.specs.PlaceMeanings.Parts.{AllScoped}

@@ -6,7 +6,7 @@ use Rattle.std.proofs.lemmas.List.Folds.{list_any-append}
 use Rattle.go_tree.specs.declared.files.Decl.{Decl}
 use Rattle.go_tree.specs.FileView.{decl_of}
 use Rattle.pkg_graph.specs.declared.packages.Package.{Package}
-use Rattle.go_tree.specs.GoTypes.Answers.{given}
+use Rattle.go_rules.specs.GoTypes.Answers.{given}
 use Rattle.run_rules.specs.Sites.{MarkRef, same_mark, is_among_marks}
 use Rattle.file_names.specs.declared.members.MarkRef as code
 use Rattle.module_marks.specs.Views.{mark_ref_of}

@@ -8,7 +8,7 @@ use Rattle.go_tree.specs.declared.exprs.Expr as code
 use Rattle.go_tree.specs.Tree.{NameAt, Exprs, no_exprs}
 use Rattle.go_tree.specs.Lists.{exprs_from}
 use Rattle.go_tree.specs.View.{expr_of}
-use Rattle.go_tree.specs.GoTypes.Answers.{given}
+use Rattle.go_rules.specs.GoTypes.Answers.{given}
 use Rattle.member_uses.specs.Uses.{Names}
 use Rattle.repeated_parts.specs.declared.use_search.mark_values.values.DeclaredValue.{DeclaredValue}
 use Rattle.repeated_parts.specs.UseSearch.MarkValues.Values.{expr_value, spec_values}

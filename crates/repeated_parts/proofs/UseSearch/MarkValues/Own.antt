@@ -3,7 +3,7 @@ use Rattle.std.proofs.Common.{◌≡◌, ℕ, zero, suc, Bool, true, false, cond
 use Rattle.std.specs.Prelude.{slice_get}
 use Rattle.go_tree.specs.Tree.{NameAt, Expr, Exprs, no_exprs, expr_and, const_decl, ValueSpecs, no_specs, spec}
 use Rattle.go_tree.specs.File.{TypeSpec, Decl, values, types, func}
-use Rattle.go_tree.specs.GoTypes.Answers.{given}
+use Rattle.go_rules.specs.GoTypes.Answers.{given}
 use Rattle.go_layout.specs.LayoutLaws.Formed.{FormedExprs, FormedSpecs}
 use Rattle.pkg_graph.specs.Package.{Package}
 use Rattle.run_rules.specs.Surroundings.{Use, Place, Seen, head_use, later_uses, comma_slot, in_constant, value_use, alike}

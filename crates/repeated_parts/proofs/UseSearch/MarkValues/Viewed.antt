@@ -9,7 +9,7 @@ use Rattle.pkg_graph.specs.Package.{SourceTree, Package}
 use Rattle.pkg_graph.specs.Views.{source_of, package_view}
 use Rattle.pkg_graph.specs.declared.packages.Package as code
 use Rattle.pkg_graph.specs.declared.packages.SourceTree as code_tree
-use Rattle.go_tree.specs.GoTypes.Answers.{given}
+use Rattle.go_rules.specs.GoTypes.Answers.{given}
 use Rattle.run_rules.specs.Sites.{MarkRef, Where, where_is}
 use Rattle.run_rules.specs.Respanned.{decl_with, source_with, package_with, packages_with}
 use Rattle.repeated_parts.specs.UseSearch.MarkValues.Tables.{DeclKey, key_of, decl_at}

@@ -6,10 +6,10 @@ use Rattle.std.proofs.lemmas.List.{map-append}
 use Rattle.std.proofs.lemmas.Option.{slice_get-map}
 use Rattle.go_tree.specs.Tree.{NameAt, const_decl, var_decl, ValueSpecs, no_specs, spec}
 use Rattle.go_tree.specs.File.{TypeSpec, Receiver, Decl, values, types, func}
-use Rattle.go_tree.specs.ScopeNames.Means.{Environment, binding}
+use Rattle.go_rules.specs.ScopeNames.Means.{Environment, binding}
 use Rattle.pkg_graph.specs.Package.{SourceTree, Package}
 use Rattle.pkg_graph.specs.Members.{Target, member, specs_names, unless_method, block_names, items_from, decls_from, files_from, package_block}
-use Rattle.go_tree.specs.GoTypes.Answers.{given}
+use Rattle.go_rules.specs.GoTypes.Answers.{given}
 use Rattle.run_rules.specs.Sites.{MarkRef, members_in, member_of, marked}
 use Rattle.run_rules.specs.Respanned.{name_with, type_spec_with, receiver_with, decl_with, specs_with, source_with, package_with, packages_with}
 use Rattle.member_uses.specs.Uses.{Used}

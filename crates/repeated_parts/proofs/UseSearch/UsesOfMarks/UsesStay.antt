@@ -5,7 +5,7 @@ use Rattle.go_tree.specs.declared.spans.Span.{Span}
 use Rattle.go_tree.specs.Tree.{NameAt, named, ident, selector}
 use Rattle.go_tree.specs.File.{Decl}
 use Rattle.run_rules.specs.Sites.{Part, an_expr, a_type_part}
-use Rattle.go_tree.specs.GoTypes.Answers.{given}
+use Rattle.go_rules.specs.GoTypes.Answers.{given}
 use Rattle.run_rules.specs.Respanned.{name_with, decl_with}
 use Rattle.member_uses.specs.PossibleUses.Candidates.{Candidate}
 use Rattle.member_uses.specs.PossibleUses.Parts.{parts_of}

@@ -1,5 +1,5 @@
 use Rattle.std.proofs.Common.{◌∙◌, ap, sym}
-use Rattle.go_tree.specs.GoTypes.Bodies.{no_values}
+use Rattle.go_rules.specs.GoTypes.Bodies.{no_values}
 use Rattle.repeated_parts.proofs.Members.{empty_is, one_behind}
 use Rattle.repeated_parts.proofs.groups.is_repeated.Goals as goal
 

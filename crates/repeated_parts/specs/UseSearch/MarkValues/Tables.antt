@@ -8,7 +8,7 @@ use Rattle.go_tree.specs.declared.files.Decl.{Decl}
 use Rattle.go_tree.specs.FileView.{decl_of}
 use Rattle.pkg_graph.specs.declared.packages.Package.{Package}
 use Rattle.pkg_graph.specs.declared.packages.SourceTree.{SourceTree}
-use Rattle.go_tree.specs.GoTypes.Answers.{given}
+use Rattle.go_rules.specs.GoTypes.Answers.{given}
 use Rattle.run_rules.specs.Sites.{MarkRef, is_among_marks}
 use Rattle.member_uses.specs.declared.names.FileScopes.{FileScopes}
 use Rattle.member_uses.specs.Views.{names_in}

@@ -6,7 +6,7 @@ use Rattle.go_tree.specs.Tree.{NameAt, Expr, ident, selector, Exprs, no_exprs, e
 use Rattle.go_tree.specs.Tree.{no_specs, spec}
 use Rattle.go_tree.specs.File.{Decl, values}
 use Rattle.scope_tables.specs.Table.{meaning_in}
-use Rattle.go_tree.specs.GoTypes.Answers.{given}
+use Rattle.go_rules.specs.GoTypes.Answers.{given}
 use Rattle.member_uses.specs.Uses.{Names, name_alone, import_at}
 use Rattle.constant_forms.specs.declared.uses.ConstantValue.{ConstantValue}
 use Rattle.constant_forms.specs.declared.uses.ConstantValue.TheVariants as lent

@@ -2,11 +2,11 @@
 
 ghost use Rattle.std.specs.Prelude.{◌≡◌, ◌<◌, ◌^◌, All, slice_get};
 ghost use Rattle.go_tree.specs.View.{expr_of};
-ghost use Rattle.go_tree.specs.GoTypes.Answers.{given};
+ghost use Rattle.go_rules.specs.GoTypes.Answers.{given};
 ghost use Rattle.member_uses.specs.Uses.{import_at as spec_import_at, name_alone};
 ghost use Rattle.member_uses.specs.Views.{names_in};
 
-use go_tree::scope_names::Entity;
+use go_rules::scope_names::Entity;
 use go_tree::{Expr, Name};
 use member_uses::FileScopes;
 

@@ -6,7 +6,7 @@ ghost use Rattle.go_tree.specs.Lists.{specs_from};
 ghost use Rattle.go_tree.specs.View.{expr_of, exprs_of, name_at_of, const_spec_of};
 ghost use Rattle.go_tree.specs.FileView.{decl_of};
 ghost use Rattle.scope_tables.specs.Table.{meaning_in};
-ghost use Rattle.go_tree.specs.GoTypes.Answers.{given};
+ghost use Rattle.go_rules.specs.GoTypes.Answers.{given};
 ghost use Rattle.member_uses.specs.Views.{names_in};
 ghost use Rattle.repeated_parts.specs.declared.use_search.mark_values.values.DeclaredValue.TheVariants.{Plain, Qualified};
 ghost use Rattle.repeated_parts.specs.UseSearch.MarkValues.Values.{value_of, expr_value as spec_expr_value, spec_values};
@@ -14,7 +14,7 @@ ghost use Rattle.repeated_parts.specs.UseSearch.MarkValues.Values.{specs_values,
 
 use crate::use_search::mark_values::names::base_package;
 use constant_forms::ConstantValue;
-use go_tree::scope_names::Entity;
+use go_rules::scope_names::Entity;
 use go_tree::{ConstSpec, Decl, Expr, Name, NoMemory};
 use member_uses::FileScopes;
 use std::alloc::Global;

@@ -1,6 +1,6 @@
 use Rattle.std.proofs.Common.{◌≡◌, ℕ, List, drop, map}
-use Rattle.go_tree.specs.declared.scope_names.names.Entity.TheVariants.{Import}
-use Rattle.go_tree.specs.ScopeNames.Means.{or_else, means, numbered}
+use Rattle.go_rules.specs.declared.scope_names.names.Entity.TheVariants.{Import}
+use Rattle.go_rules.specs.ScopeNames.Means.{or_else, means, numbered}
 use Rattle.scope_tables.specs.Building.{IsEven, KeepsLocals, outside_of}
 use Rattle.scope_tables.proofs.rows.claim_imports.Given as goal
 

@@ -1,5 +1,5 @@
 use Rattle.std.proofs.Common.{Some}
-use Rattle.go_tree.specs.GoTypes.Operands.{a_function}
+use Rattle.go_rules.specs.GoTypes.Operands.{a_function}
 use Rattle.func_types.specs.Answers.{func_of, types_at}
 use Rattle.func_types.proofs.ParamSteps.{types_below, types_kept}
 use Rattle.operand_modes.proofs.OperandAnswers.KeptLemmas.{keeps_on}

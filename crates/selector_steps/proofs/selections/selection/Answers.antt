@@ -1,6 +1,6 @@
 use Rattle.std.proofs.Common.{sym}
-use Rattle.go_tree.specs.GoTypes.Operands.{Typed}
-use Rattle.go_tree.specs.GoTypes.Primary.{selected}
+use Rattle.go_rules.specs.GoTypes.Operands.{Typed}
+use Rattle.go_rules.specs.GoTypes.Primary.{selected}
 use Rattle.type_table.specs.TypeRelations.Environment.{defined_types}
 use Rattle.type_table.specs.OperandRules.Values.{type_of}
 use Rattle.operator_rules.specs.AccessRules.Places.{place_of}

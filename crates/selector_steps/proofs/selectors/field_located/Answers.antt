@@ -1,4 +1,4 @@
-use Rattle.go_tree.specs.GoTypes.Primary.{selected_place}
+use Rattle.go_rules.specs.GoTypes.Primary.{selected_place}
 use Rattle.type_table.specs.TypeRelations.Environment.{defined_types}
 use Rattle.type_table.specs.OperandRules.Values.{type_of}
 use Rattle.operator_rules.specs.AccessRules.Places.{place_of}

@@ -1,6 +1,6 @@
 use Rattle.std.proofs.Common.{◌∙◌, subst, sym}
-use Rattle.go_tree.specs.GoTypes.Operands.{place_by, with_value}
-use Rattle.go_tree.specs.GoTypes.Primary.{selected, selected_place}
+use Rattle.go_rules.specs.GoTypes.Operands.{place_by, with_value}
+use Rattle.go_rules.specs.GoTypes.Primary.{selected, selected_place}
 use Rattle.type_table.specs.TypeRelations.Environment.{defined_types}
 use Rattle.operand_modes.specs.Operands.{IsOperand}
 use Rattle.operand_modes.specs.OperandAnswers.Located.{GivesAt, IsThereIfOk}

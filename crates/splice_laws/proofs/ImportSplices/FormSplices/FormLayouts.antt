@@ -11,7 +11,7 @@ use Rattle.go_layout.specs.TypeLayout.{type_layout}
 use Rattle.go_layout.specs.TreeLayout.{spaced, expr_layout, stmt_layout}
 use Rattle.go_layout.specs.Parens.{precedence, is_named_literal, is_bracketed_type, needs_parens, is_integer, runs_into, header_within, closed_within}
 use Rattle.go_layout.proofs.LayoutLaws.BareLayouts.{type_bare, expr_bare, stmt_bare}
-use Rattle.go_tree.specs.GoTypes.Answers.{meets}
+use Rattle.go_rules.specs.GoTypes.Answers.{meets}
 use Rattle.splice_laws.specs.Splice.{splice, lead}
 use Rattle.splice_laws.specs.Swaps.{an_operand, a_callee, a_type, a_stmt, a_deferred}
 use Rattle.splice_laws.specs.Forms.{takes_parens, new_layout}

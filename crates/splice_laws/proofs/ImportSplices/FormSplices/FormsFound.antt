@@ -3,7 +3,7 @@ use Rattle.std.proofs.Common.{◌≡◌, ℕ, zero, suc, Bool, List, [], ◌∷�
 use Rattle.std.specs.Prelude.{Contains}
 use Rattle.std.proofs.lemmas.Option.{same_Some}
 use Rattle.pkg_graph.specs.Package.{Package}
-use Rattle.go_tree.specs.GoTypes.Answers.{one_of}
+use Rattle.go_rules.specs.GoTypes.Answers.{one_of}
 use Rattle.run_rules.specs.Sites.{MarkRef, Site, sites}
 use Rattle.run_rules.specs.Reduced.{Reduced, becomes, kept, reduced}
 use Rattle.run_rules.specs.Steps.{same_here, Found, found_by, first_found, first_step}

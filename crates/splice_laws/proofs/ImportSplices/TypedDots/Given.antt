@@ -1,7 +1,7 @@
 -- What follows where an answer that is put together of others is there.
 use Rattle.std.proofs.Common.{◌≡◌, ◌⊎◌, inl, inr, Bool, true, false, not, ◌&&◌, ◌||◌, Option, Some, None, refl}
 use Rattle.std.specs.Prelude.{if◌then◌else◌, is_none}
-use Rattle.go_tree.specs.GoTypes.Answers.{given, both, meets, only_if, one_of}
+use Rattle.go_rules.specs.GoTypes.Answers.{given, both, meets, only_if, one_of}
 
 pub given_is : {A B : Type 0} (r : Option A) {k : A → Option B} {b : B} → given r k ≡ Some b → (a : A) × (r ≡ Some a) × (k a ≡ Some b)
 given_is None e = absurd cc

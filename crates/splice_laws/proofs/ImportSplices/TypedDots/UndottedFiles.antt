@@ -4,19 +4,19 @@ use Rattle.std.specs.Prelude.{is_some}
 use Rattle.std.proofs.lemmas.Bool.Decides.{nat_tests}
 use Rattle.go_tree.specs.Tree.{NameAt, TypeExpr, Exprs, no_exprs, expr_and, ValueSpecs, no_specs, spec, const_decl, var_decl, empty, eval, step, assign, define, return_, break_, continue_, inner, if_, for_, range_, switch, defer, label}
 use Rattle.go_tree.specs.File.{Decl, values, types, func}
-use Rattle.go_tree.specs.ScopeNames.Means.{Environment}
-use Rattle.go_tree.specs.GoTypes.Answers.{only_if}
-use Rattle.go_tree.specs.GoTypes.Entities.{Entity, World, Env}
-use Rattle.go_tree.specs.GoTypes.TypeNames.{func_type, written_type}
-use Rattle.go_tree.specs.GoTypes.Bodies.{body_ctx}
-use Rattle.go_tree.specs.GoTypes.Bodiless.{all_bodiless}
-use Rattle.go_tree.specs.GoTypes.Initial.{all_initial}
-use Rattle.go_tree.specs.GoTypes.Typing.{all_parts, stmts}
-use Rattle.go_tree.specs.GoTypes.Programs.{SourceFile, Program, Header, constants, variables, a_type_spec, a_func, Headed, at_member, constant_headers, variable_headers, headers, all_headers, header_names, names_in, block_names, file_block, header_sound, headed_file, headed_files, headed_package, headed, is_main, env_of}
-use Rattle.go_tree.specs.GoTypes.TypeDeclarations.{DeclaredTypes}
-use Rattle.go_tree.specs.GoTypes.MethodDeclarations.{MethodName, declared_on}
-use Rattle.go_tree.specs.GoTypes.Collect.{and_also, package_constants, package_variables, types_declared, valued_world, world_of}
-use Rattle.go_tree.specs.GoTypes.WellTyped.{refused_unless, header_ok, body_env, body_ok, first_header, first_in_files, first_body, first_refused, refused_place, well_typed}
+use Rattle.go_rules.specs.ScopeNames.Means.{Environment}
+use Rattle.go_rules.specs.GoTypes.Answers.{only_if}
+use Rattle.go_rules.specs.GoTypes.Entities.{Entity, World, Env}
+use Rattle.go_rules.specs.GoTypes.TypeNames.{func_type, written_type}
+use Rattle.go_rules.specs.GoTypes.Bodies.{body_ctx}
+use Rattle.go_rules.specs.GoTypes.Bodiless.{all_bodiless}
+use Rattle.go_rules.specs.GoTypes.Initial.{all_initial}
+use Rattle.go_rules.specs.GoTypes.Typing.{all_parts, stmts}
+use Rattle.go_rules.specs.GoTypes.Programs.{SourceFile, Program, Header, constants, variables, a_type_spec, a_func, Headed, at_member, constant_headers, variable_headers, headers, all_headers, header_names, names_in, block_names, file_block, header_sound, headed_file, headed_files, headed_package, headed, is_main, env_of}
+use Rattle.go_rules.specs.GoTypes.TypeDeclarations.{DeclaredTypes}
+use Rattle.go_rules.specs.GoTypes.MethodDeclarations.{MethodName, declared_on}
+use Rattle.go_rules.specs.GoTypes.Collect.{and_also, package_constants, package_variables, types_declared, valued_world, world_of}
+use Rattle.go_rules.specs.GoTypes.WellTyped.{refused_unless, header_ok, body_env, body_ok, first_header, first_in_files, first_body, first_refused, refused_place, well_typed}
 use Rattle.splice_laws.specs.Dots.{ExprsDots, StmtsDots, SpecsDots, DeclDots, UndottedRest, UndottedExprs, UndottedStmts, UndottedSpecs, UndottedDecl, UndottedDecls}
 use Rattle.splice_laws.specs.ImportSplices.TypedDots.TypedDots.{AnyExpr, SpreadDecls, InFiles, FilesAreUndotted}
 use Rattle.splice_laws.proofs.ImportSplices.TypedDots.Given.{given_is, both_is, only_is, meets_is, none_of, neither, well_where}

@@ -3,20 +3,20 @@ use Rattle.std.proofs.Common.{◌≡◌, ◌⊎◌, inl, inr, ℕ, ◌+◌, Bool
 use Rattle.std.specs.Prelude.{if◌then◌else◌}
 use Rattle.std.specs.List.{list_all}
 use Rattle.go_tree.specs.Tree.{TypeExpr, Expr, ident, int_lit, rune_lit, str_lit, composite, selector, index, slice, call, func_lit, type_operand, unary, binary, star, Exprs, no_exprs, expr_and, ExprOption, no_expr, some_expr, Elems, no_elems, elem, Value, plain, braced, ValueOption, no_value, some_value, Stmt, const_decl, var_decl, empty, eval, step, assign, define, return_, break_, continue_, inner, if_, for_, range_, switch, defer, label, Stmts, no_stmts, stmt_and, StmtOption, no_stmt, some_stmt, BlockOption, no_block, some_block, RangeLeft, nothing, assigns, defines, Arms, no_arms, arm, Cases, no_cases, case, ValueSpecs, no_specs, spec}
-use Rattle.go_tree.specs.ScopeNames.FreeNames.{names_of}
-use Rattle.go_tree.specs.GoTypes.Answers.{given, both, meets}
-use Rattle.go_tree.specs.GoTypes.Types.{GoType}
-use Rattle.go_tree.specs.GoTypes.Defined.{under}
-use Rattle.go_tree.specs.GoTypes.Entities.{Env, defined_in, extend, in_block}
-use Rattle.go_tree.specs.GoTypes.TypeNames.{type_meant, func_type, written_type}
-use Rattle.go_tree.specs.GoTypes.Operands.{Operand, Typed, typed, all_typed}
-use Rattle.go_tree.specs.GoTypes.Primary.{stands_alone, may_be_deferred}
-use Rattle.go_tree.specs.GoTypes.Literals.{Element, is_struct, field_key, key_type, inner_type, literal_type}
-use Rattle.go_tree.specs.GoTypes.Jumps.{breaks}
-use Rattle.go_tree.specs.GoTypes.Declarations.{Declared, Repeated, nothing_to_repeat, may_declare, names_once, new_constants, new_variables, new_by_define, all_used}
-use Rattle.go_tree.specs.GoTypes.Bodies.{Ctx, in_loop, in_switch, body_binds, body_ctx, is_body, returns, labelled, no_values}
-use Rattle.go_tree.specs.GoTypes.Statements.{Clauses, Target, blank, right_values, is_test, tag_of, is_define, is_blank_name, is_empty_stmt, is_condition, case_value}
-use Rattle.go_tree.specs.GoTypes.Typing.{parts, all_parts, bound, elements, element, with_key, places, targets, declares, declares_constants, declares_variables, range_declares, stmt, stmts, first, block, is_call, ranges, arms, clauses, used_block, used_stmts, used_option, used_first, used_cases, used_arms, used, own_or_repeated}
+use Rattle.go_rules.specs.ScopeNames.FreeNames.{names_of}
+use Rattle.go_rules.specs.GoTypes.Answers.{given, both, meets}
+use Rattle.go_rules.specs.GoTypes.Types.{GoType}
+use Rattle.go_rules.specs.GoTypes.Defined.{under}
+use Rattle.go_rules.specs.GoTypes.Entities.{Env, defined_in, extend, in_block}
+use Rattle.go_rules.specs.GoTypes.TypeNames.{type_meant, func_type, written_type}
+use Rattle.go_rules.specs.GoTypes.Operands.{Operand, Typed, typed, all_typed}
+use Rattle.go_rules.specs.GoTypes.Primary.{stands_alone, may_be_deferred}
+use Rattle.go_rules.specs.GoTypes.Literals.{Element, is_struct, field_key, key_type, inner_type, literal_type}
+use Rattle.go_rules.specs.GoTypes.Jumps.{breaks}
+use Rattle.go_rules.specs.GoTypes.Declarations.{Declared, Repeated, nothing_to_repeat, may_declare, names_once, new_constants, new_variables, new_by_define, all_used}
+use Rattle.go_rules.specs.GoTypes.Bodies.{Ctx, in_loop, in_switch, body_binds, body_ctx, is_body, returns, labelled, no_values}
+use Rattle.go_rules.specs.GoTypes.Statements.{Clauses, Target, blank, right_values, is_test, tag_of, is_define, is_blank_name, is_empty_stmt, is_condition, case_value}
+use Rattle.go_rules.specs.GoTypes.Typing.{parts, all_parts, bound, elements, element, with_key, places, targets, declares, declares_constants, declares_variables, range_declares, stmt, stmts, first, block, is_call, ranges, arms, clauses, used_block, used_stmts, used_option, used_first, used_cases, used_arms, used, own_or_repeated}
 use Rattle.splice_laws.specs.Dots.{ExprDots, ExprsDots, OptionDots, ElemsDots, ValueDots, KeyDots, StmtDots, StmtsDots, PartDots, BlockDots, LeftDots, ArmsDots, CasesDots, SpecsDots, UndottedRest, UndottedExpr, UndottedExprs, UndottedOption, UndottedElems, UndottedValue, UndottedKey, UndottedStmt, UndottedStmts, UndottedPart, UndottedBlock, UndottedLeft, UndottedArms, UndottedCases, UndottedSpecs}
 use Rattle.splice_laws.specs.ImportSplices.TypedDots.TypedDots.{AnyExpr}
 use Rattle.splice_laws.proofs.ImportSplices.TypedDots.Given.{given_is, both_is, only_is, meets_is, if_is, either_way, right}

@@ -10,7 +10,7 @@ use Rattle.go_tree.specs.declared.exprs.Rest.{Rest}
 use Rattle.go_tree.specs.Bare.{bare_type, bare_expr, bare_stmt}
 use Rattle.go_layout.specs.Parens.{is_bracketed_type, runs_into}
 use Rattle.text_edits.specs.declared.edit.Edit.{Edit}
-use Rattle.go_tree.specs.GoTypes.Answers.{meets}
+use Rattle.go_rules.specs.GoTypes.Answers.{meets}
 use Rattle.splice_laws.specs.Splice.{splice}
 use Rattle.splice_laws.specs.Swaps.{Swap, an_operand, a_callee, a_type, a_stmt, a_deferred}
 use Rattle.splice_laws.specs.Forms.{new_layout}

@@ -3,7 +3,7 @@
 use Rattle.std.specs.Prelude.{List, [], ◌∷◌}
 use Rattle.go_tree.specs.Tree.{Expr}
 use Rattle.go_tree.specs.File.{Decl}
-use Rattle.go_tree.specs.GoTypes.Programs.{SourceFile, Program}
+use Rattle.go_rules.specs.GoTypes.Programs.{SourceFile, Program}
 use Rattle.splice_laws.specs.Dots.{DeclsDots, UndottedRest, UndottedDecls}
 
 module _ {S : Type 0} where

@@ -6,7 +6,7 @@ use Rattle.go_tree.specs.declared.exprs.Rest.TheVariants.{Whole}
 use Rattle.go_tree.specs.Tree.{Expr, Exprs, Stmt}
 use Rattle.go_tree.specs.File.{Decl, File}
 use Rattle.go_tree.specs.Bare.{bare_expr, bare_stmt}
-use Rattle.go_tree.specs.GoTypes.Programs.{SourceFile, Program}
+use Rattle.go_rules.specs.GoTypes.Programs.{SourceFile, Program}
 use Rattle.splice_laws.specs.Dots.{ExprDots, StmtDots, DeclsDots, UndottedDecls}
 use Rattle.splice_laws.specs.Swaps.{Swap, an_operand, a_callee, a_type, a_literal_type, a_stmt, a_deferred}
 use Rattle.splice_laws.specs.ImportSplices.TypedDots.TypedDots.{AnyExpr}

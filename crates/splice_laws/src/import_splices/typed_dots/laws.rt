@@ -2,8 +2,8 @@
 
 ghost use Rattle.std.specs.Prelude.{◌≡◌, true};
 ghost use Rattle.go_tree.specs.declared.spans.Span.{Span};
-ghost use Rattle.go_tree.specs.GoTypes.Programs.{Program};
-ghost use Rattle.go_tree.specs.GoTypes.WellTyped.{well_typed};
+ghost use Rattle.go_rules.specs.GoTypes.Programs.{Program};
+ghost use Rattle.go_rules.specs.GoTypes.WellTyped.{well_typed};
 ghost use Rattle.splice_laws.specs.ImportSplices.TypedDots.TypedDots.{FilesAreUndotted};
 ghost use Rattle.splice_laws.specs.ImportSplices.TypedDots.Unspread.{UnspreadFile, UnspreadNew, UnspreadAreUndotted};
 ghost use Rattle.go_tree.specs.File.{File};

@@ -6,13 +6,13 @@ use Rattle.std.specs.List.{list_all, list_any}
 use Rattle.go_tree.specs.declared.exprs.Expr as expression
 use Rattle.go_tree.specs.Lists.{exprs_from}
 use Rattle.go_tree.specs.View.{expr_of}
-use Rattle.go_tree.specs.declared.const_eval.consts.Const.{Const}
-use Rattle.go_tree.specs.declared.const_eval.consts.Const.TheVariants.{Whole, Truth, Bytes}
-use Rattle.go_tree.specs.GoTypes.Answers.{distinct_by, only_if}
-use Rattle.go_tree.specs.GoTypes.Entities.{run, exact, shift}
-use Rattle.go_tree.specs.GoTypes.Literals.{same_const}
-use Rattle.go_tree.specs.GoTypes.Operands.{Typed}
-use Rattle.go_tree.specs.GoTypes.Statements.{Clauses, case_constants, choice, is_default}
+use Rattle.go_rules.specs.declared.const_eval.consts.Const.{Const}
+use Rattle.go_rules.specs.declared.const_eval.consts.Const.TheVariants.{Whole, Truth, Bytes}
+use Rattle.go_rules.specs.GoTypes.Answers.{distinct_by, only_if}
+use Rattle.go_rules.specs.GoTypes.Entities.{run, exact, shift}
+use Rattle.go_rules.specs.GoTypes.Literals.{same_const}
+use Rattle.go_rules.specs.GoTypes.Operands.{Typed}
+use Rattle.go_rules.specs.GoTypes.Statements.{Clauses, case_constants, choice, is_default}
 use Rattle.type_table.specs.TypeRelations.Environment.{Environment}
 use Rattle.typed_names.proofs.TypeExprs.NewNames.{drop_all}
 use Rattle.type_table.specs.declared.operand_rules.values.ValueType.{ValueType}

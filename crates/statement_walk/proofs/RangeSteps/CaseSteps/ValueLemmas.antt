@@ -2,14 +2,14 @@
 use Rattle.std.proofs.Common.{◌≡◌, ◌∙◌, ◌&&◌, Bool, true, false, List, [], ◌∷◌, map, Option, Some, None, Result, Ok, Err, refl, sym, ap, ap₂, subst, is_some}
 use Rattle.std.specs.List.{list_all}
 use Rattle.go_tree.specs.declared.operators.BinOp.TheVariants.{Eq}
-use Rattle.go_tree.specs.declared.const_eval.consts.Const.{Const}
-use Rattle.go_tree.specs.GoTypes.Answers.{given, only_if}
-use Rattle.go_tree.specs.GoTypes.Defined.{Defined}
-use Rattle.go_tree.specs.GoTypes.Entities as go_entity
-use Rattle.go_tree.specs.GoTypes.Operands as go
-use Rattle.go_tree.specs.GoTypes.Operands.{Typed, all_typed, value}
-use Rattle.go_tree.specs.GoTypes.Operators.{binary_of}
-use Rattle.go_tree.specs.GoTypes.Statements.{case_value}
+use Rattle.go_rules.specs.declared.const_eval.consts.Const.{Const}
+use Rattle.go_rules.specs.GoTypes.Answers.{given, only_if}
+use Rattle.go_rules.specs.GoTypes.Defined.{Defined}
+use Rattle.go_rules.specs.GoTypes.Entities as go_entity
+use Rattle.go_rules.specs.GoTypes.Operands as go
+use Rattle.go_rules.specs.GoTypes.Operands.{Typed, all_typed, value}
+use Rattle.go_rules.specs.GoTypes.Operators.{binary_of}
+use Rattle.go_rules.specs.GoTypes.Statements.{case_value}
 use Rattle.type_table.specs.TypeRelations.Environment.{Environment}
 use Rattle.type_table.specs.declared.operand_rules.values.Value.{Value}
 use Rattle.type_table.specs.declared.operand_rules.values.Refusal.{Refusal}

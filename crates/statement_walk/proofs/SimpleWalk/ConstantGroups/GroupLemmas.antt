@@ -3,10 +3,10 @@ use Rattle.std.proofs.Common.{◌≡◌, ◌<◌, ℕ, Bool, true, false, List, 
 use Rattle.go_tree.specs.declared.stmts.ConstSpec as source
 use Rattle.go_tree.specs.Lists.{specs_from}
 use Rattle.go_tree.specs.View.{const_spec_of}
-use Rattle.go_tree.specs.GoTypes.Answers.{only_if}
-use Rattle.go_tree.specs.GoTypes.Bodies.{no_values}
-use Rattle.go_tree.specs.GoTypes.Declarations.{Repeated, constants_declared, may_declare, new_constants, nothing_to_repeat}
-use Rattle.go_tree.specs.GoTypes.Entities.{Env}
+use Rattle.go_rules.specs.GoTypes.Answers.{only_if}
+use Rattle.go_rules.specs.GoTypes.Bodies.{no_values}
+use Rattle.go_rules.specs.GoTypes.Declarations.{Repeated, constants_declared, may_declare, new_constants, nothing_to_repeat}
+use Rattle.go_rules.specs.GoTypes.Entities.{Env}
 use Rattle.statement_walk.specs.SimpleWalk.ConstantGroups.Groups.{AreWalkedSpecs, SpecValue, in_spec, own_from, written_there}
 use Rattle.expr_walk.specs.Walked.{AreAllWalked}
 

@@ -2,13 +2,13 @@
 use Rattle.std.proofs.Common.{◌≡◌, ◌∙◌, ℕ, List, [], Option, Some, None, Result, Ok, Err, IfOk, IfSome, refl, sym, ap, subst, arith}
 use Rattle.go_tree.specs.declared.spans.Span.{Span}
 use Rattle.go_tree.specs.Tree.{Exprs, TypeExpr}
-use Rattle.go_tree.specs.declared.const_eval.consts.Const.{Const}
-use Rattle.go_tree.specs.GoTypes.Answers.{given}
-use Rattle.go_tree.specs.GoTypes.Types.{GoType, is_untyped}
-use Rattle.go_tree.specs.GoTypes.Declarations.{Declared, new_constants}
-use Rattle.go_tree.specs.GoTypes.Entities.{Env, extend}
-use Rattle.go_tree.specs.GoTypes.TypeNames.{type_meant, written_type}
-use Rattle.go_tree.specs.GoTypes.Typing.{all_parts}
+use Rattle.go_rules.specs.declared.const_eval.consts.Const.{Const}
+use Rattle.go_rules.specs.GoTypes.Answers.{given}
+use Rattle.go_rules.specs.GoTypes.Types.{GoType, is_untyped}
+use Rattle.go_rules.specs.GoTypes.Declarations.{Declared, new_constants}
+use Rattle.go_rules.specs.GoTypes.Entities.{Env, extend}
+use Rattle.go_rules.specs.GoTypes.TypeNames.{type_meant, written_type}
+use Rattle.go_rules.specs.GoTypes.Typing.{all_parts}
 use Rattle.type_table.specs.declared.nodes.TypeId.{TypeId}
 use Rattle.type_table.specs.TypeRelations.Environment.{Environment}
 use Rattle.typed_names.specs.TypeExprs.Answers.{GivesType}

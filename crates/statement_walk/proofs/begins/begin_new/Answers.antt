@@ -1,6 +1,6 @@
 use Rattle.std.proofs.Common.{◌≡◌, List, OnOk, refl, subst, sym, true}
-use Rattle.go_tree.specs.declared.const_eval.consts.Const.{Const}
-use Rattle.go_tree.specs.GoTypes.Declarations.{bound_names}
+use Rattle.go_rules.specs.declared.const_eval.consts.Const.{Const}
+use Rattle.go_rules.specs.GoTypes.Declarations.{bound_names}
 use Rattle.type_table.specs.TypeRelations.Environment.{Environment}
 use Rattle.typed_names.specs.Meanings.{entity_option}
 use Rattle.assignment_steps.specs.DefineSteps.Defined.{bind_if}

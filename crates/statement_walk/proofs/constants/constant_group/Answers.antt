@@ -1,6 +1,6 @@
 use Rattle.std.proofs.Common.{◌∙◌, Ok, Err, refl, subst, sym}
-use Rattle.go_tree.specs.GoTypes.Declarations.{nothing_to_repeat}
-use Rattle.go_tree.specs.GoTypes.Typing.{declares_constants, used_constants}
+use Rattle.go_rules.specs.GoTypes.Declarations.{nothing_to_repeat}
+use Rattle.go_rules.specs.GoTypes.Typing.{declares_constants, used_constants}
 use Rattle.jump_rules.specs.UsedLocals.Used.{used_of}
 use Rattle.assignment_steps.proofs.DeclaredBlocks.BlockLemmas.{within_on}
 use Rattle.statement_walk.specs.SimpleWalk.ConstantGroups.Groups.{AreWalkedSpecs}

@@ -1,8 +1,8 @@
 use Rattle.std.proofs.Common.{◌≡◌, ◌∙◌, ◌++◌, [], ap, false, map, subst, sym}
 use Rattle.std.specs.Option.{option_map}
 use Rattle.go_tree.specs.View.{exprs_of, name_at_of, type_of}
-use Rattle.go_tree.specs.GoTypes.Typing as go
-use Rattle.go_tree.specs.ScopeNames.FreeNames.{free_type_option, names_of}
+use Rattle.go_rules.specs.GoTypes.Typing as go
+use Rattle.go_rules.specs.ScopeNames.FreeNames.{free_type_option, names_of}
 use Rattle.jump_rules.specs.UsedLocals.Pending.{all_begun}
 use Rattle.jump_rules.specs.UsedLocals.Used.{and_names, used_of}
 use Rattle.jump_rules.proofs.UsedLocals.UsedLemmas.{names_append}

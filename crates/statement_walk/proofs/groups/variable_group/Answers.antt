@@ -1,6 +1,6 @@
 use Rattle.std.proofs.Common.{◌∙◌, Ok, Err, refl, subst, sym}
 use Rattle.go_tree.specs.View.{exprs_of}
-use Rattle.go_tree.specs.GoTypes.Typing.{declares_variables, used_variables}
+use Rattle.go_rules.specs.GoTypes.Typing.{declares_variables, used_variables}
 use Rattle.jump_rules.specs.UsedLocals.Used.{used_of}
 use Rattle.assignment_steps.proofs.DeclaredBlocks.BlockLemmas.{within_on}
 use Rattle.expr_walk.proofs.BodilessWalks.{all_at}

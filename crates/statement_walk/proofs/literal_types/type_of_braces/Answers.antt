@@ -1,7 +1,7 @@
 use Rattle.std.proofs.Common.{◌≡◌, Some, ap, subst, sym}
-use Rattle.go_tree.specs.GoTypes.Answers.{given}
-use Rattle.go_tree.specs.GoTypes.Defined.{under}
-use Rattle.go_tree.specs.GoTypes.Literals.{literal_type}
+use Rattle.go_rules.specs.GoTypes.Answers.{given}
+use Rattle.go_rules.specs.GoTypes.Defined.{under}
+use Rattle.go_rules.specs.GoTypes.Literals.{literal_type}
 use Rattle.operator_rules.specs.Settling.{typed_option}
 use Rattle.type_table.specs.TypeRelations.Environment.{defined_types}
 use Rattle.statement_walk.specs.Uses.{under_option}

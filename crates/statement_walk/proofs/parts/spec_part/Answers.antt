@@ -1,12 +1,12 @@
 use Rattle.std.proofs.Common.{◌≡◌, ◌∙◌, ◌++◌, [], ap, length, map, subst, sym, true}
 use Rattle.std.specs.Option.{option_map}
 use Rattle.go_tree.specs.View.{exprs_of, name_at_of, type_of, var_spec_of}
-use Rattle.go_tree.specs.GoTypes.Bodies.{no_values}
-use Rattle.go_tree.specs.GoTypes.Declarations.{bound_names}
-use Rattle.go_tree.specs.GoTypes.Statements.{right_values}
-use Rattle.go_tree.specs.GoTypes.TypeNames.{written_type}
-use Rattle.go_tree.specs.GoTypes.Typing as go
-use Rattle.go_tree.specs.ScopeNames.FreeNames.{free_type_option, names_of}
+use Rattle.go_rules.specs.GoTypes.Bodies.{no_values}
+use Rattle.go_rules.specs.GoTypes.Declarations.{bound_names}
+use Rattle.go_rules.specs.GoTypes.Statements.{right_values}
+use Rattle.go_rules.specs.GoTypes.TypeNames.{written_type}
+use Rattle.go_rules.specs.GoTypes.Typing as go
+use Rattle.go_rules.specs.ScopeNames.FreeNames.{free_type_option, names_of}
 use Rattle.jump_rules.specs.UsedLocals.Pending.{all_begun}
 use Rattle.jump_rules.specs.UsedLocals.Used.{and_names, used_of}
 use Rattle.jump_rules.proofs.UsedLocals.UsedLemmas.{names_append}

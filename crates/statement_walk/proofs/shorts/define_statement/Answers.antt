@@ -1,7 +1,7 @@
 use Rattle.std.proofs.Common.{◌∙◌, map, subst, sym}
 use Rattle.go_tree.specs.View.{name_at_of}
-use Rattle.go_tree.specs.GoTypes.Entities.{extend}
-use Rattle.go_tree.specs.ScopeNames.FreeNames.{names_of}
+use Rattle.go_rules.specs.GoTypes.Entities.{extend}
+use Rattle.go_rules.specs.ScopeNames.FreeNames.{names_of}
 use Rattle.assignment_steps.specs.DefineSteps.Defined.{AreNew, news_at}
 use Rattle.control_steps.specs.LocalBlocks.Places.{IsPlace}
 use Rattle.statement_walk.proofs.SimpleWalk.ConstantGroups.MemberLemmas.{place_kept, within_self}

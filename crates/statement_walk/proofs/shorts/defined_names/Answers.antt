@@ -2,10 +2,10 @@ use Rattle.std.proofs.Common.{◌∙◌, ap, length, map, subst, sym}
 use Rattle.std.proofs.lemmas.List.{length-map}
 use Rattle.go_tree.specs.Tree as tree
 use Rattle.go_tree.specs.View.{exprs_of, name_at_of}
-use Rattle.go_tree.specs.GoTypes.Statements.{right_values}
-use Rattle.go_tree.specs.GoTypes.Typing as go
+use Rattle.go_rules.specs.GoTypes.Statements.{right_values}
+use Rattle.go_rules.specs.GoTypes.Typing as go
 use Rattle.control_steps.specs.RightSides.Values.{GivesValuesAlike}
-use Rattle.go_tree.specs.ScopeNames.FreeNames.{names_of}
+use Rattle.go_rules.specs.ScopeNames.FreeNames.{names_of}
 use Rattle.control_steps.specs.LocalBlocks.Places.{in_block_of}
 use Rattle.statement_walk.proofs.SimpleWalk.ConstantGroups.MemberLemmas.{place_here, place_kept}
 use Rattle.expr_walk.proofs.WalkArms.ExprArms.{at, no_span}

@@ -1,10 +1,10 @@
 use Rattle.std.proofs.Common.{◌≡◌, ◌∙◌, ◌+◌, ◌++◌, OnOk, [], ap, ap₂, arith, drop, map, refl, subst, sym}
 use Rattle.go_tree.specs.Lists.{elems_from, exprs_from}
 use Rattle.go_tree.specs.View.{boxed_expr_option_of, elem_of, elems_of, expr_of, exprs_of, held_value_option_of, type_of, value_of}
-use Rattle.go_tree.specs.GoTypes.Answers.{given}
-use Rattle.go_tree.specs.GoTypes.Literals.{inner_type, key_type}
-use Rattle.go_tree.specs.GoTypes.TypeNames.{type_meant}
-use Rattle.go_tree.specs.ScopeNames.FreeNames.{free_type}
+use Rattle.go_rules.specs.GoTypes.Answers.{given}
+use Rattle.go_rules.specs.GoTypes.Literals.{inner_type, key_type}
+use Rattle.go_rules.specs.GoTypes.TypeNames.{type_meant}
+use Rattle.go_rules.specs.ScopeNames.FreeNames.{free_type}
 use Rattle.type_table.specs.TypeRelations.Environment.{defined_types}
 use Rattle.typed_names.proofs.TypeExprs.NewNames.{drop_all, drop_item}
 use Rattle.operator_rules.specs.Settling.{typed_option}

@@ -1,6 +1,6 @@
 use Rattle.std.proofs.Common.{subst, sym}
 use Rattle.go_tree.specs.View.{exprs_of}
-use Rattle.go_tree.specs.GoTypes.Typing as go
+use Rattle.go_rules.specs.GoTypes.Typing as go
 use Rattle.control_steps.specs.RightSides.Values.{GivesValuesAlike}
 use Rattle.statement_walk.proofs.SimpleWalk.SimpleLemmas.{stand_of}
 use Rattle.expr_walk.proofs.WalkArms.ExprArms.{at}

@@ -2,13 +2,13 @@ use Rattle.std.proofs.Common.{◌∙◌, ap, length, map, subst, sym}
 use Rattle.std.proofs.lemmas.List.{length-map}
 use Rattle.std.specs.Option.{option_map}
 use Rattle.go_tree.specs.View.{exprs_of, name_at_of, type_of, var_spec_of}
-use Rattle.go_tree.specs.GoTypes.Declarations.{new_variables}
-use Rattle.go_tree.specs.GoTypes.Statements.{right_values}
-use Rattle.go_tree.specs.GoTypes.TypeNames.{written_type}
-use Rattle.go_tree.specs.GoTypes.Typing as go
+use Rattle.go_rules.specs.GoTypes.Declarations.{new_variables}
+use Rattle.go_rules.specs.GoTypes.Statements.{right_values}
+use Rattle.go_rules.specs.GoTypes.TypeNames.{written_type}
+use Rattle.go_rules.specs.GoTypes.Typing as go
 use Rattle.operand_modes.proofs.OperandAnswers.KeptLemmas.{keeps_on}
 use Rattle.control_steps.specs.RightSides.Values.{GivesValuesAlike}
-use Rattle.go_tree.specs.ScopeNames.FreeNames.{names_of}
+use Rattle.go_rules.specs.ScopeNames.FreeNames.{names_of}
 use Rattle.assignment_steps.specs.SpecSteps.Specs.{GivesVariables, GivesWritten}
 use Rattle.control_steps.specs.LocalBlocks.Places.{in_block_of}
 use Rattle.statement_walk.proofs.SimpleWalk.ConstantGroups.MemberLemmas.{place_here, place_kept, seen_written, written_kept, written_stays}

@@ -2,13 +2,13 @@
 use Rattle.std.specs.Prelude.{◌≡◌, ℕ, ◌+◌, Bool, true, false, ◌&&◌, ◌||◌, List, [], ◌∷◌}
 use Rattle.std.specs.Prelude.{◌++◌, Option, Some, nat_eq, nat_le}
 use Rattle.std.specs.List.{list_any}
-use Rattle.go_tree.specs.declared.const_eval.consts.Const.{Const}
-use Rattle.go_tree.specs.declared.const_eval.consts.Const.TheVariants.{Whole, Truth, Bytes}
-use Rattle.go_tree.specs.GoTypes.Answers.{only_if}
-use Rattle.go_tree.specs.GoTypes.Entities.{Content, run, exact, shift}
-use Rattle.go_tree.specs.GoTypes.Literals.{same_const}
-use Rattle.go_tree.specs.GoTypes.Operands.{Typed}
-use Rattle.go_tree.specs.GoTypes.Statements.{Clauses, case_constants}
+use Rattle.go_rules.specs.declared.const_eval.consts.Const.{Const}
+use Rattle.go_rules.specs.declared.const_eval.consts.Const.TheVariants.{Whole, Truth, Bytes}
+use Rattle.go_rules.specs.GoTypes.Answers.{only_if}
+use Rattle.go_rules.specs.GoTypes.Entities.{Content, run, exact, shift}
+use Rattle.go_rules.specs.GoTypes.Literals.{same_const}
+use Rattle.go_rules.specs.GoTypes.Operands.{Typed}
+use Rattle.go_rules.specs.GoTypes.Statements.{Clauses, case_constants}
 use Rattle.composite_steps.specs.LiteralRules.Sets.{new_and_distinct}
 use Rattle.statement_walk.specs.declared.range_steps.case_steps.seen.CasesSeen.{CasesSeen}
 

@@ -1,8 +1,8 @@
 //! The constants of cases, each of which stands once (Go specification, Expression switches).
 
 ghost use Rattle.std.specs.Prelude.{◌≡◌, map, true, IfOk, OnOk};
-ghost use Rattle.go_tree.specs.GoTypes.Literals.{same_const};
-ghost use Rattle.go_tree.specs.GoTypes.Statements as go;
+ghost use Rattle.go_rules.specs.GoTypes.Literals.{same_const};
+ghost use Rattle.go_rules.specs.GoTypes.Statements as go;
 ghost use Rattle.type_table.specs.OperandRules.Values.{IsKept, content_of, typed_of};
 ghost use Rattle.operator_rules.specs.AccessRules.Functions.{AreValues};
 ghost use Rattle.composite_steps.specs.LiteralRules.Sets.{new_and_distinct};
@@ -10,7 +10,7 @@ ghost use Rattle.statement_walk.specs.RangeSteps.CaseSteps.Cases.{AddsAll, once_
 
 use composite_steps::literal_rules::ConstSet;
 use go_tree::NoMemory;
-use go_tree::const_eval::Const;
+use go_rules::const_eval::Const;
 use operand_modes::checker_tables::Tables;
 use std::alloc::Global;
 use type_table::operand_rules::{ConstTable, Content, Value};

@@ -2,7 +2,7 @@
 
 ghost use Rattle.std.specs.Prelude.{◌≡◌, ◌&&◌, ◌||◌, None, Some, not, if◌then◌else◌, map, IfOk};
 ghost use Rattle.go_tree.specs.View.{exprs_of};
-ghost use Rattle.go_tree.specs.GoTypes.Statements as go;
+ghost use Rattle.go_rules.specs.GoTypes.Statements as go;
 ghost use Rattle.type_table.specs.OperandRules.Values.{typed_of};
 ghost use Rattle.operator_rules.specs.AccessRules.Functions.{AreValues};
 ghost use Rattle.statement_walk.specs.RangeSteps.CaseSteps.Cases.{choice_after, count, no_cases, with_case};

@@ -2,11 +2,11 @@
 
 ghost use Rattle.std.specs.Prelude.{List, Option, Some};
 ghost use Rattle.std.specs.List.{list_all};
-ghost use Rattle.go_tree.specs.declared.const_eval.consts.Const.{Const};
-ghost use Rattle.go_tree.specs.GoTypes.Answers.{given, only_if};
-ghost use Rattle.go_tree.specs.GoTypes.Entities as go_entity;
-ghost use Rattle.go_tree.specs.GoTypes.Operands as go_operand;
-ghost use Rattle.go_tree.specs.GoTypes.Statements as go;
+ghost use Rattle.go_rules.specs.declared.const_eval.consts.Const.{Const};
+ghost use Rattle.go_rules.specs.GoTypes.Answers.{given, only_if};
+ghost use Rattle.go_rules.specs.GoTypes.Entities as go_entity;
+ghost use Rattle.go_rules.specs.GoTypes.Operands as go_operand;
+ghost use Rattle.go_rules.specs.GoTypes.Statements as go;
 ghost use Rattle.type_table.specs.TypeRelations.Environment.{Environment, defined_types};
 ghost use Rattle.type_table.specs.OperandRules.Values.{IsValue, typed_of};
 ghost use Rattle.operand_modes.specs.Lists.{GivesValues};

@@ -2,10 +2,10 @@
 
 ghost use Rattle.std.specs.Prelude.{◌≡◌, map};
 ghost use Rattle.go_tree.specs.View.{const_spec_of, exprs_of, name_at_of};
-ghost use Rattle.go_tree.specs.GoTypes.Bodies.{no_values};
-ghost use Rattle.go_tree.specs.GoTypes.Declarations as go;
-ghost use Rattle.go_tree.specs.GoTypes.Entities.{Env};
-ghost use Rattle.go_tree.specs.ScopeNames.FreeNames.{names_of};
+ghost use Rattle.go_rules.specs.GoTypes.Bodies.{no_values};
+ghost use Rattle.go_rules.specs.GoTypes.Declarations as go;
+ghost use Rattle.go_rules.specs.GoTypes.Entities.{Env};
+ghost use Rattle.go_rules.specs.ScopeNames.FreeNames.{names_of};
 ghost use Rattle.operand_modes.specs.CheckerTables.Ready.{Keeps};
 ghost use Rattle.operand_modes.specs.OperandAnswers.Known.{Stands};
 ghost use Rattle.control_steps.specs.LocalBlocks.Places.{IsPlace, IsWithin};

@@ -3,7 +3,7 @@ use Rattle.std.proofs.Common.{◌≡◌, ◌∙◌, sym, ap, ℕ, ◌+◌, ◌<�
 use Rattle.std.proofs.lemmas.List.{at_drop_more, at_drop_all}
 use Rattle.go_tree.specs.declared.spans.Span.{Span}
 use Rattle.go_tree.specs.Tree.{Expr}
-use Rattle.go_tree.specs.GoTypes.Answers.{one_of}
+use Rattle.go_rules.specs.GoTypes.Answers.{one_of}
 use Rattle.member_uses.specs.declared.possible_uses.parts.PartRef.{PartRef}
 use Rattle.member_uses.specs.PossibleUses.Views.{part_of}
 use Rattle.stepped_programs.specs.PackageSearch.FileSteps.Used.{part_at, first_at}

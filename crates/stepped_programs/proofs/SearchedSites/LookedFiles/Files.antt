@@ -4,7 +4,7 @@ use Rattle.go_tree.specs.declared.spans.Span.{Span}
 use Rattle.go_tree.specs.File.{File}
 use Rattle.go_tree.specs.FileView.{file_of}
 use Rattle.go_scan.specs.TokenLists.{TokenLists}
-use Rattle.go_tree.specs.declared.scope_names.names.FileNames.{FileNames}
+use Rattle.go_rules.specs.declared.scope_names.names.FileNames.{FileNames}
 use Rattle.scope_tables.specs.Table.{Table, IsTableOf, table_of}
 use Rattle.pkg_graph.specs.Package.{Package, import_specs}
 use Rattle.pkg_graph.specs.Members.{names_of_file}

@@ -1,7 +1,7 @@
 -- The first site of some files, one after another, that becomes a form.
 use Rattle.std.proofs.Common.{◌≡◌, ◌∙◌, refl, sym, ap, subst, ℕ, List, ◌++◌, Option, Some, None}
 use Rattle.std.proofs.lemmas.Option.{none-some, same_Some}
-use Rattle.go_tree.specs.GoTypes.Answers.{one_of}
+use Rattle.go_rules.specs.GoTypes.Answers.{one_of}
 use Rattle.run_rules.specs.Reduced.{Reduced}
 use Rattle.run_rules.specs.Sites.{MarkRef, Where, Site}
 use Rattle.run_rules.specs.Steps.{At, same_here, Found, found_by, first_found}

@@ -4,7 +4,7 @@ use Rattle.std.specs.Option.{option_map}
 use Rattle.std.proofs.lemmas.List.{map-append}
 use Rattle.go_tree.specs.Tree.{NameAt, const_decl, var_decl, ValueSpecs, no_specs, spec}
 use Rattle.go_tree.specs.File.{TypeSpec, Receiver, Decl, values, types, func, File}
-use Rattle.go_tree.specs.ScopeNames.Means.{Environment, binding}
+use Rattle.go_rules.specs.ScopeNames.Means.{Environment, binding}
 use Rattle.pkg_graph.specs.Package.{Package}
 use Rattle.pkg_graph.specs.Members.{Target, member, specs_names, unless_method, block_names, items_from, decls_from}
 use Rattle.run_rules.specs.Programs.{top_place}

@@ -2,7 +2,7 @@
 use Rattle.std.proofs.Common.{◌≡◌, ◌∙◌, ◌⊎◌, inl, inr, refl, sym, ap, subst, Bool, true, false, if◌then◌else◌, List, [], ◌∷◌, ◌++◌, map, Some, None, append_assoc}
 use Rattle.std.proofs.lemmas.List.{append-nil, map-append}
 use Rattle.go_tree.specs.Tree.{NameAt, TypeExpr, named, pointer, slice_type, map_type, struct_type, Fields, no_fields, field, Expr, ident, selector, Stmt}
-use Rattle.go_tree.specs.GoTypes.Answers.{otherwise}
+use Rattle.go_rules.specs.GoTypes.Answers.{otherwise}
 use Rattle.printed_constants.specs.TypedParts.StandingUses.ImportUses.Parts.{EachSeen, IsElsewhere, IsKeyed, StandsOnce, here, later}
 use Rattle.printed_constants.proofs.TypedParts.StandingUses.ImportUses.Walk.{IsForm, a_form, a_qualified}
 use Rattle.member_uses.specs.PossibleUses.Candidates.{Candidate, plain_part}

@@ -2,8 +2,8 @@
 use Rattle.std.proofs.Common.{◌≡◌, ◌∙◌, refl, sym, ap, ℕ, Bool, true, false, not, ◌&&◌, List, [], ◌∷◌, ◌++◌}
 use Rattle.go_tree.specs.declared.spans.Span.{Span}
 use Rattle.go_tree.specs.Tree.{NameAt, Expr, ident}
-use Rattle.go_tree.specs.ScopeNames.Means.{is_blank}
-use Rattle.go_tree.specs.GoTypes.Entities.{is_declared_here}
+use Rattle.go_rules.specs.ScopeNames.Means.{is_blank}
+use Rattle.go_rules.specs.GoTypes.Entities.{is_declared_here}
 use Rattle.run_rules.specs.Sites.{an_expr}
 use Rattle.run_rules.specs.Surroundings.{Use, Place, Seen, seen, is_local, is_old}
 use Rattle.printed_constants.specs.TypedParts.StandingUses.ImportUses.Parts as parts

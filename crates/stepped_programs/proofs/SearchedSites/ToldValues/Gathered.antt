@@ -10,7 +10,7 @@ use Rattle.go_tree.specs.FileView.{decl_of}
 use Rattle.pkg_graph.specs.Package.{Package}
 use Rattle.pkg_graph.specs.Views.{package_view}
 use Rattle.pkg_graph.specs.declared.packages.Package as code
-use Rattle.go_tree.specs.GoTypes.Answers.{given}
+use Rattle.go_rules.specs.GoTypes.Answers.{given}
 use Rattle.run_rules.specs.Sites.{MarkRef, Where, a_constant, is_among_marks, inlinable_in}
 use Rattle.run_rules.specs.Respanned.{expr_with, decl_with, packages_with}
 use Rattle.run_rules.specs.Steps.{At}

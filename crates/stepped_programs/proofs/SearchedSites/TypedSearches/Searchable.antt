@@ -1,7 +1,7 @@
 -- The files of a well-typed program may be searched, and a table of its types tells which keys name fields.
 use Rattle.std.proofs.Common.{◌≡◌, true, Some}
 use Rattle.std.specs.Prelude.{slice_get}
-use Rattle.go_tree.specs.GoTypes.WellTyped.{well_typed}
+use Rattle.go_rules.specs.GoTypes.WellTyped.{well_typed}
 use Rattle.told_literals.specs.Laws.{RightTablesTellFields}
 use Rattle.order_runs.specs.CycleRuns.OrderCycles.Orders.{AllOrdered}
 use Rattle.constant_modules.specs.ConstantPrograms.Laws.{SmallFilesTakeFew}

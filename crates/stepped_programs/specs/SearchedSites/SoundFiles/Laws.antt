@@ -1,7 +1,7 @@
 -- The law of searches in files of well-typed programs. It is the contract of a function of this crate (Go specification,
 -- Composite literals; Blocks; For statements).
 use Rattle.std.specs.Prelude.{◌≡◌, true}
-use Rattle.go_tree.specs.GoTypes.WellTyped.{well_typed}
+use Rattle.go_rules.specs.GoTypes.WellTyped.{well_typed}
 use Rattle.order_runs.specs.CycleRuns.OrderCycles.Orders.{AllOrdered}
 use Rattle.run_rules.specs.Inlining.{ReadsAs}
 use Rattle.run_rules.specs.Programs.{linked}

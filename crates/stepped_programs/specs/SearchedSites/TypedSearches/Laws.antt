@@ -1,7 +1,7 @@
 -- The laws of searches in the files of well-typed programs. Each is the contract of a function of this crate (Go
 -- specification, Constant declarations; Composite literals; Identifiers; Types).
 use Rattle.std.specs.Prelude.{◌≡◌, ◌≤◌, true, List}
-use Rattle.go_tree.specs.GoTypes.WellTyped.{well_typed}
+use Rattle.go_rules.specs.GoTypes.WellTyped.{well_typed}
 use Rattle.literal_tables.specs.HasTypes.{HasTypes}
 use Rattle.order_runs.specs.CycleRuns.OrderCycles.Orders.{AllOrdered}
 use Rattle.repeated_parts.specs.declared.literal_types.table.LiteralTypes.{LiteralTypes}

@@ -1,4 +1,4 @@
-use Rattle.go_tree.specs.GoTypes.Programs.{headed}
+use Rattle.go_rules.specs.GoTypes.Programs.{headed}
 use Rattle.typed_in_place.proofs.Extremes.{aliases_least, types_greatest, names_least, values_greatest}
 use Rattle.typed_in_place.proofs.laws.rounds_find_the_least.Goals as goal
 

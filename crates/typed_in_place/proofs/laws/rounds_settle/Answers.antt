@@ -1,4 +1,4 @@
-use Rattle.go_tree.specs.GoTypes.Programs.{headed}
+use Rattle.go_rules.specs.GoTypes.Programs.{headed}
 use Rattle.typed_in_place.proofs.Collected.{aliased_settled, typed_settled, named_settled, valued_settled}
 use Rattle.typed_in_place.proofs.laws.rounds_settle.Goals as goal
 

@@ -1,6 +1,6 @@
 use Rattle.std.proofs.Common.{List, OnOk, subst, sym}
-use Rattle.go_tree.specs.declared.const_eval.consts.Const.{Const}
-use Rattle.go_tree.specs.GoTypes.Entities as go
+use Rattle.go_rules.specs.declared.const_eval.consts.Const.{Const}
+use Rattle.go_rules.specs.GoTypes.Entities as go
 use Rattle.type_table.specs.TypeRelations.Environment.{Environment}
 use Rattle.typed_names.specs.Meanings.{Names, entity_option}
 use Rattle.control_steps.specs.LocalBlocks.Places.{IsPlace}

@@ -1,9 +1,9 @@
 use Rattle.std.proofs.Common.{List, OnOk, ◌∷◌, map, subst, sym}
-use Rattle.go_tree.specs.declared.const_eval.consts.Const.{Const}
+use Rattle.go_rules.specs.declared.const_eval.consts.Const.{Const}
 use Rattle.go_tree.specs.View.{name_at_of}
-use Rattle.go_tree.specs.GoTypes.Entities as go
-use Rattle.go_tree.specs.ScopeNames.FreeNames.{names_of}
-use Rattle.go_tree.specs.ScopeNames.Means.{binding}
+use Rattle.go_rules.specs.GoTypes.Entities as go
+use Rattle.go_rules.specs.ScopeNames.FreeNames.{names_of}
+use Rattle.go_rules.specs.ScopeNames.Means.{binding}
 use Rattle.type_table.specs.TypeRelations.Environment.{Environment}
 use Rattle.typed_names.specs.Meanings.{Names, entity_at}
 use Rattle.control_steps.specs.LocalBlocks.Places.{IsPlace}

@@ -2,7 +2,7 @@ use Rattle.std.proofs.Common.{◌∙◌, ◌+◌, ap, arith, drop, map, subst, s
 use Rattle.std.proofs.lemmas.List.{length-map}
 use Rattle.go_tree.specs.declared.texts.NameAt.{NameAt}
 use Rattle.go_tree.specs.View.{name_at_of}
-use Rattle.go_tree.specs.ScopeNames.FreeNames.{names_of}
+use Rattle.go_rules.specs.ScopeNames.FreeNames.{names_of}
 use Rattle.type_table.specs.TypeRelations.Environment.{defined_types}
 use Rattle.type_table.specs.OperandRules.Values.{typed_of}
 use Rattle.operator_rules.proofs.AccessRules.CallLemmas.{value_item}

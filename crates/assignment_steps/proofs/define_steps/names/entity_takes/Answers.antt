@@ -1,5 +1,5 @@
 use Rattle.std.proofs.Common.{◌≡◌, Some, subst, sym}
-use Rattle.go_tree.specs.GoTypes.Declarations.{assigns_to}
+use Rattle.go_rules.specs.GoTypes.Declarations.{assigns_to}
 use Rattle.type_table.specs.TypeRelations.Environment.{defined_types}
 use Rattle.type_table.specs.OperandRules.Values.{typed_of}
 use Rattle.typed_names.specs.Known.{HasTypes}

@@ -1,6 +1,6 @@
 use Rattle.std.proofs.Common.{◌∙◌, ap, not, sym}
-use Rattle.go_tree.specs.ScopeNames.Means.{is_blank}
-use Rattle.go_tree.specs.GoTypes.Answers.{is_empty}
+use Rattle.go_rules.specs.ScopeNames.Means.{is_blank}
+use Rattle.go_rules.specs.GoTypes.Answers.{is_empty}
 use Rattle.typed_names.specs.Meanings.{entity_at, entity_option}
 use Rattle.assignment_steps.specs.DefineSteps.Defined.{bind_if}
 use Rattle.assignment_steps.proofs.DefineSteps.ShortLemmas.{new_name}

@@ -1,7 +1,7 @@
 use Rattle.std.proofs.Common.{◌≡◌, ◌∙◌, false, map, not, subst, sym, true}
 use Rattle.go_tree.specs.View.{name_at_of}
-use Rattle.go_tree.specs.GoTypes.Answers.{is_empty}
-use Rattle.go_tree.specs.ScopeNames.FreeNames.{names_of}
+use Rattle.go_rules.specs.GoTypes.Answers.{is_empty}
+use Rattle.go_rules.specs.ScopeNames.FreeNames.{names_of}
 use Rattle.assignment_steps.specs.DefineSteps.Defined.{GivesDefined, news_at}
 use Rattle.assignment_steps.proofs.DefineSteps.ShortLemmas.{none_new, short_given, short_refused}
 use Rattle.assignment_steps.proofs.define_steps.short.declared.Goals as goal

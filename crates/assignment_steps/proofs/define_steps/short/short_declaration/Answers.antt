@@ -1,9 +1,9 @@
 use Rattle.std.proofs.Common.{◌∙◌, ap, map, subst, sym}
 use Rattle.go_tree.specs.View.{name_at_of}
-use Rattle.go_tree.specs.GoTypes.Answers.{given, only_if}
-use Rattle.go_tree.specs.GoTypes.Declarations.{defined_by, names_once, some_declared}
-use Rattle.go_tree.specs.GoTypes.Entities as go
-use Rattle.go_tree.specs.ScopeNames.FreeNames.{names_of}
+use Rattle.go_rules.specs.GoTypes.Answers.{given, only_if}
+use Rattle.go_rules.specs.GoTypes.Declarations.{defined_by, names_once, some_declared}
+use Rattle.go_rules.specs.GoTypes.Entities as go
+use Rattle.go_rules.specs.ScopeNames.FreeNames.{names_of}
 use Rattle.type_table.specs.TypeRelations.Environment.{defined_types}
 use Rattle.assignment_steps.specs.DefineSteps.Defined.{GivesShort}
 use Rattle.assignment_steps.proofs.DefineSteps.ShortLemmas.{names_stand}

@@ -1,5 +1,5 @@
 use Rattle.std.proofs.Common.{◌≡◌, ◌∙◌, ◌∷◌, [], IfOk, Ok, ap, ap₂, subst}
-use Rattle.go_tree.specs.GoTypes.Statements.{updates}
+use Rattle.go_rules.specs.GoTypes.Statements.{updates}
 use Rattle.type_table.specs.TypeRelations.Environment.{defined_types}
 use Rattle.operator_rules.specs.AccessRules.Places.{place_of}
 use Rattle.operand_modes.specs.declared.modes.Operand.TheVariants.{Single}

@@ -1,6 +1,6 @@
 use Rattle.std.proofs.Common.{refl, pos}
-use Rattle.go_tree.specs.declared.const_eval.consts.Const.TheVariants.{Whole}
-use Rattle.go_tree.specs.declared.const_eval.kinds.Kind.TheVariants.{UntypedInt}
+use Rattle.go_rules.specs.declared.const_eval.consts.Const.TheVariants.{Whole}
+use Rattle.go_rules.specs.declared.const_eval.kinds.Kind.TheVariants.{UntypedInt}
 use Rattle.name_steps.proofs.ConstantLemmas.{constant_given}
 use Rattle.assignment_steps.proofs.increment_steps.increments.one.Goals as goal
 

@@ -1,10 +1,10 @@
 use Rattle.std.proofs.Common.{◌∙◌, ap, map, subst, sym}
 use Rattle.go_tree.specs.View.{name_at_of}
-use Rattle.go_tree.specs.GoTypes.Answers.{both, given, only_if}
-use Rattle.go_tree.specs.GoTypes.Declarations.{bind_all, constant_entity, constants_declared, may_declare}
-use Rattle.go_tree.specs.GoTypes.Entities as go
-use Rattle.go_tree.specs.GoTypes.Operands.{all_typed}
-use Rattle.go_tree.specs.ScopeNames.FreeNames.{names_of}
+use Rattle.go_rules.specs.GoTypes.Answers.{both, given, only_if}
+use Rattle.go_rules.specs.GoTypes.Declarations.{bind_all, constant_entity, constants_declared, may_declare}
+use Rattle.go_rules.specs.GoTypes.Entities as go
+use Rattle.go_rules.specs.GoTypes.Operands.{all_typed}
+use Rattle.go_rules.specs.ScopeNames.FreeNames.{names_of}
 use Rattle.type_table.specs.TypeRelations.Environment.{defined_types}
 use Rattle.assignment_steps.specs.SpecSteps.Specs.{GivesConstants}
 use Rattle.assignment_steps.proofs.SpecSteps.SpecLemmas.{constants_given, names_counted}

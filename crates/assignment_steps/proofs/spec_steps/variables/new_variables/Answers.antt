@@ -1,10 +1,10 @@
 use Rattle.std.proofs.Common.{◌∙◌, ap, map, Some, subst, sym}
 use Rattle.std.specs.Prelude.{if◌then◌else◌}
 use Rattle.go_tree.specs.View.{name_at_of}
-use Rattle.go_tree.specs.GoTypes.Answers.{given, only_if}
-use Rattle.go_tree.specs.GoTypes.Declarations.{bind_all, bind_each, may_declare, variable_entity, variables_declared}
-use Rattle.go_tree.specs.GoTypes.Entities as go
-use Rattle.go_tree.specs.ScopeNames.FreeNames.{names_of}
+use Rattle.go_rules.specs.GoTypes.Answers.{given, only_if}
+use Rattle.go_rules.specs.GoTypes.Declarations.{bind_all, bind_each, may_declare, variable_entity, variables_declared}
+use Rattle.go_rules.specs.GoTypes.Entities as go
+use Rattle.go_rules.specs.ScopeNames.FreeNames.{names_of}
 use Rattle.type_table.specs.TypeRelations.Environment.{defined_types}
 use Rattle.assignment_steps.specs.SpecSteps.Specs.{GivesVariables}
 use Rattle.assignment_steps.proofs.SpecSteps.SpecLemmas.{names_counted, variables_given}

@@ -1,5 +1,5 @@
 use Rattle.std.proofs.Common.{◌∙◌, map, subst, sym}
-use Rattle.go_tree.specs.GoTypes.Declarations.{bind_all, variable_entity}
+use Rattle.go_rules.specs.GoTypes.Declarations.{bind_all, variable_entity}
 use Rattle.type_table.specs.TypeRelations.Environment.{defined_types}
 use Rattle.type_table.specs.OperandRules.Values.{typed_of}
 use Rattle.operator_rules.specs.Settling.{typed_option}

@@ -1,8 +1,8 @@
 use Rattle.std.proofs.Common.{◌≡◌, ◌∙◌, IfOk, Some, ap, subst}
-use Rattle.go_tree.specs.GoTypes.Entities as go_entity
-use Rattle.go_tree.specs.GoTypes.Operands.{with_value}
-use Rattle.go_tree.specs.GoTypes.Operators.{binary_of}
-use Rattle.go_tree.specs.GoTypes.Statements.{target_at}
+use Rattle.go_rules.specs.GoTypes.Entities as go_entity
+use Rattle.go_rules.specs.GoTypes.Operands.{with_value}
+use Rattle.go_rules.specs.GoTypes.Operators.{binary_of}
+use Rattle.go_rules.specs.GoTypes.Statements.{target_at}
 use Rattle.type_table.specs.TypeRelations.Environment.{defined_types}
 use Rattle.operator_rules.specs.declared.access_rules.places.Place.TheVariants.{Elsewhere}
 use Rattle.operator_rules.specs.AccessRules.Places.{place_of}

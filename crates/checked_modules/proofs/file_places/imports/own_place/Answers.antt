@@ -1,6 +1,6 @@
 use Rattle.std.proofs.Common.{[], ◌∙◌, List, None, ap, map, subst}
 use Rattle.go_tree.specs.declared.spans.Span.{Span}
-use Rattle.go_tree.specs.declared.scope_names.names.ImportName.{ImportName}
+use Rattle.go_rules.specs.declared.scope_names.names.ImportName.{ImportName}
 use Rattle.go_tree.specs.FileView.{file_of}
 use Rattle.pkg_graph.specs.Package as pure
 use Rattle.pkg_graph.specs.Package.{import_specs}

@@ -1,10 +1,10 @@
 use Rattle.std.proofs.Common.{◌≡◌, ◌∙◌, ◌&&◌, false, not, subst, sym, true}
 use Rattle.std.specs.Option.{option_map}
 use Rattle.go_tree.specs.View.{name_at_of}
-use Rattle.go_tree.specs.GoTypes.Bodies.{param_binding}
-use Rattle.go_tree.specs.GoTypes.Declarations.{bound_names}
-use Rattle.go_tree.specs.GoTypes.Entities.{extend, is_declared_here, variable}
-use Rattle.go_tree.specs.ScopeNames.Means.{binding, is_blank}
+use Rattle.go_rules.specs.GoTypes.Bodies.{param_binding}
+use Rattle.go_rules.specs.GoTypes.Declarations.{bound_names}
+use Rattle.go_rules.specs.GoTypes.Entities.{extend, is_declared_here, variable}
+use Rattle.go_rules.specs.ScopeNames.Means.{binding, is_blank}
 use Rattle.type_table.specs.TypeRelations.Environment.{env_type}
 use Rattle.control_steps.specs.LocalBlocks.Places.{IsPlace}
 use Rattle.statement_walk.specs.FunctionLiterals.Params.{AreBound, may_bind}

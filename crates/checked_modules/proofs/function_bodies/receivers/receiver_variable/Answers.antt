@@ -1,5 +1,5 @@
 use Rattle.std.proofs.Common.{[], ap}
-use Rattle.go_tree.specs.GoTypes.Types.{is_untyped}
+use Rattle.go_rules.specs.GoTypes.Types.{is_untyped}
 use Rattle.operand_modes.proofs.OperandAnswers.KeptLemmas.{stands_kept}
 use Rattle.checked_modules.proofs.function_bodies.receivers.receiver_variable.Goals as goal
 

@@ -1,5 +1,5 @@
 use Rattle.std.proofs.Common.{refl, subst, sym}
-use Rattle.go_tree.specs.GoTypes.Entities.{extend, in_block}
+use Rattle.go_rules.specs.GoTypes.Entities.{extend, in_block}
 use Rattle.go_tree.specs.View.{sig_of}
 use Rattle.func_types.specs.Answers.{func_of}
 use Rattle.assignment_steps.proofs.DeclaredBlocks.BlockLemmas.{within_on}

@@ -1,5 +1,5 @@
 use Rattle.std.proofs.Common.{◌≡◌, ◌∙◌, ap, length, map, subst, sym}
-use Rattle.go_tree.specs.GoTypes.Programs.{headed}
+use Rattle.go_rules.specs.GoTypes.Programs.{headed}
 use Rattle.typed_names.specs.Meanings.{world_at}
 use Rattle.declared_types.proofs.Passed.{places_on}
 use Rattle.package_blocks.specs.Headers.{AreHeaders, listed_of}

@@ -1,6 +1,6 @@
 use Rattle.std.proofs.Common.{◌∙◌, ap, false, length, sym, true}
 use Rattle.std.proofs.lemmas.List.{length-replicate}
-use Rattle.go_tree.specs.GoTypes.Programs.{headed}
+use Rattle.go_rules.specs.GoTypes.Programs.{headed}
 use Rattle.operand_modes.proofs.OperandAnswers.KeptLemmas.{keeps_on, keeps_self}
 use Rattle.package_blocks.specs.Headers.{listed_of}
 use Rattle.value_rounds.specs.NameRounds.Passes.{HeaderStands}

@@ -1,6 +1,6 @@
 use Rattle.std.proofs.Common.{◌∙◌, ◌≤◌, ap, arith, false, length, sym, true}
 use Rattle.std.specs.Prelude.{if◌then◌else◌}
-use Rattle.go_tree.specs.GoTypes.Programs.{headed}
+use Rattle.go_rules.specs.GoTypes.Programs.{headed}
 use Rattle.package_blocks.specs.Headers.{listed_of}
 use Rattle.value_rounds.specs.NameRounds.Passes.{HeaderStands}
 use Rattle.collected.specs.PackageValues.Passes.{AreKept}

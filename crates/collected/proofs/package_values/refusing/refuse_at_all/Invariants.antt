@@ -1,5 +1,5 @@
 use Rattle.std.proofs.Common.{false, map}
-use Rattle.go_tree.specs.GoTypes.Programs.{headed}
+use Rattle.go_rules.specs.GoTypes.Programs.{headed}
 use Rattle.package_blocks.specs.Headers.{listed_of}
 use Rattle.value_rounds.specs.NameRounds.Passes.{HeaderStands}
 use Rattle.collected.specs.PackageValues.Passes.{AreKept, FirstLooked}

@@ -1,7 +1,7 @@
 use Rattle.std.proofs.Common.{map, refl, subst}
 use Rattle.go_tree.specs.View.{name_at_of}
-use Rattle.go_tree.specs.GoTypes.Programs.{constants}
-use Rattle.go_tree.specs.ScopeNames.FreeNames.{names_of}
+use Rattle.go_rules.specs.GoTypes.Programs.{constants}
+use Rattle.go_rules.specs.ScopeNames.FreeNames.{names_of}
 use Rattle.package_blocks.specs.Headers.{repeated_type, repeated_values}
 use Rattle.package_blocks.specs.Names.{plain_names}
 use Rattle.initial_values.proofs.ValueBlocks.ListLemmas.{names_alike}

@@ -1,8 +1,8 @@
 use Rattle.std.proofs.Common.{map, refl, subst}
 use Rattle.std.specs.Option.{option_map}
 use Rattle.go_tree.specs.View.{exprs_of, name_at_of, type_of}
-use Rattle.go_tree.specs.GoTypes.Programs.{variables}
-use Rattle.go_tree.specs.ScopeNames.FreeNames.{names_of}
+use Rattle.go_rules.specs.GoTypes.Programs.{variables}
+use Rattle.go_rules.specs.ScopeNames.FreeNames.{names_of}
 use Rattle.package_blocks.specs.Names.{plain_names}
 use Rattle.initial_values.proofs.ValueBlocks.ListLemmas.{names_alike}
 use Rattle.initial_values.proofs.ValueEntities.SpecLemmas.{names_length}

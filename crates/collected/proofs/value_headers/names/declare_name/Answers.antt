@@ -1,5 +1,5 @@
 use Rattle.std.proofs.Common.{[], ◌∷◌, append-nil, refl, subst, sym, true}
-use Rattle.go_tree.specs.ScopeNames.Means.{binding}
+use Rattle.go_rules.specs.ScopeNames.Means.{binding}
 use Rattle.initial_values.specs.ValueBlocks.Values.{Rebinds}
 use Rattle.initial_values.specs.ValueEntities.Entities.{one_found}
 use Rattle.collected.specs.ValueHeaders.Values.{AreEntitiesIfOk, NamesDeclared}

@@ -1,5 +1,5 @@
 use Rattle.std.proofs.Common.{ap, refl}
-use Rattle.go_tree.specs.GoTypes.Programs.{header_names}
+use Rattle.go_rules.specs.GoTypes.Programs.{header_names}
 use Rattle.package_blocks.specs.Headers.{header_of}
 use Rattle.collected.proofs.ValueHeaders.HeaderLemmas.{no_value}
 use Rattle.collected.proofs.ValueHeaders.RefusalLemmas.{names_refused}

@@ -1,6 +1,6 @@
 use Rattle.std.proofs.Common.{map, subst, sym}
 use Rattle.go_tree.specs.View.{name_at_of}
-use Rattle.go_tree.specs.GoTypes.Programs.{constants}
+use Rattle.go_rules.specs.GoTypes.Programs.{constants}
 use Rattle.package_blocks.specs.Headers.{repeated_type, repeated_values}
 use Rattle.initial_values.specs.Spelled.{AllHaveGoodLiterals}
 use Rattle.collected.specs.ValueHeaders.Values.{GivesValues}

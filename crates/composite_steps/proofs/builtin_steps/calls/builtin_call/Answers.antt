@@ -1,5 +1,5 @@
 use Rattle.std.proofs.Common.{subst, sym}
-use Rattle.go_tree.specs.GoTypes.Primary.{builtin_call}
+use Rattle.go_rules.specs.GoTypes.Primary.{builtin_call}
 use Rattle.type_table.specs.TypeRelations.Environment.{defined_types}
 use Rattle.universe_block.specs.Meanings.{builtin_of}
 use Rattle.operand_modes.specs.Operands.{GivesOperand, operands_at}

@@ -1,5 +1,5 @@
 use Rattle.std.proofs.Common.{◌∙◌, ap, map, subst, sym}
-use Rattle.go_tree.specs.GoTypes.Primary.{append_call, builtin_call, cap_call, copy_call, delete_call, len_call, panic_call, print_call, recover_call}
+use Rattle.go_rules.specs.GoTypes.Primary.{append_call, builtin_call, cap_call, copy_call, delete_call, len_call, panic_call, print_call, recover_call}
 use Rattle.type_table.specs.TypeRelations.Environment.{defined_types}
 use Rattle.universe_block.specs.Meanings.{builtin_of}
 use Rattle.type_table.specs.OperandRules.Values.{typed_of}

@@ -1,5 +1,5 @@
 use Rattle.std.proofs.Common.{◌≡◌, ◌∙◌, Some, map, subst, sym}
-use Rattle.go_tree.specs.GoTypes.Operands.{all_typed, spread}
+use Rattle.go_rules.specs.GoTypes.Operands.{all_typed, spread}
 use Rattle.type_table.specs.TypeRelations.Environment.{defined_types}
 use Rattle.type_table.specs.OperandRules.Values.{typed_of}
 use Rattle.operator_rules.specs.AccessRules.Functions.{AreValues}

@@ -1,5 +1,5 @@
 use Rattle.std.proofs.Common.{◌∙◌, map, refl, subst, sym}
-use Rattle.go_tree.specs.GoTypes.Primary.{len_call}
+use Rattle.go_rules.specs.GoTypes.Primary.{len_call}
 use Rattle.type_table.specs.TypeRelations.Environment.{defined_types}
 use Rattle.type_table.specs.OperandRules.Values.{Gives, typed_of}
 use Rattle.operand_modes.proofs.CheckerTables.PartLemmas.{parts_follow}

@@ -1,6 +1,6 @@
 use Rattle.std.proofs.Common.{◌∙◌, ◌∷◌, subst}
-use Rattle.go_tree.specs.GoTypes.Operands.{a_type}
-use Rattle.go_tree.specs.GoTypes.Primary.{make_call}
+use Rattle.go_rules.specs.GoTypes.Operands.{a_type}
+use Rattle.go_rules.specs.GoTypes.Primary.{make_call}
 use Rattle.type_table.specs.TypeRelations.Environment.{defined_types, env_type}
 use Rattle.operator_rules.specs.AccessRules.Functions.{operands_of}
 use Rattle.operand_modes.specs.Operands.{GivesOperand, operands_at}

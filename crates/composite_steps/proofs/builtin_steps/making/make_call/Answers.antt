@@ -1,5 +1,5 @@
 use Rattle.std.proofs.Common.{◌∙◌, ◌∷◌, ap, subst, sym}
-use Rattle.go_tree.specs.GoTypes.Primary.{make_call}
+use Rattle.go_rules.specs.GoTypes.Primary.{make_call}
 use Rattle.type_table.specs.TypeRelations.Environment.{defined_types}
 use Rattle.operand_modes.specs.Operands.{AreOperands, GivesOperand, IsOperand, operand_at, operands_at}
 use Rattle.composite_steps.proofs.BuiltinSteps.MakeLemmas.{no_type_made, type_is}

@@ -1,6 +1,6 @@
 use Rattle.std.proofs.Common.{◌∙◌, ◌∷◌, [], subst, sym}
-use Rattle.go_tree.specs.GoTypes.Operands.{a_type}
-use Rattle.go_tree.specs.GoTypes.Primary.{new_call}
+use Rattle.go_rules.specs.GoTypes.Operands.{a_type}
+use Rattle.go_rules.specs.GoTypes.Primary.{new_call}
 use Rattle.type_table.specs.TypeRelations.Environment.{defined_types, env_type}
 use Rattle.operand_modes.specs.Operands.{AreOperands, GivesOperand, operands_at}
 use Rattle.composite_steps.proofs.BuiltinSteps.MakeLemmas.{no_type_new, only_type_is}

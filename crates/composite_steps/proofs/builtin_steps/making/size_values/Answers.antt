@@ -1,5 +1,5 @@
 use Rattle.std.proofs.Common.{◌∙◌, subst, sym}
-use Rattle.go_tree.specs.GoTypes.Operands.{all_typed}
+use Rattle.go_rules.specs.GoTypes.Operands.{all_typed}
 use Rattle.operand_modes.specs.Lists.{GivesValues}
 use Rattle.operand_modes.proofs.CheckerTables.PartLemmas.{parts_follow}
 use Rattle.composite_steps.proofs.BuiltinSteps.MakeLemmas.{results_no_sizes, sizes_stay}

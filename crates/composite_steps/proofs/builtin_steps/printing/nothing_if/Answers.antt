@@ -1,6 +1,6 @@
 use Rattle.std.proofs.Common.{[], Some, ap}
-use Rattle.go_tree.specs.GoTypes.Answers.{only_if}
-use Rattle.go_tree.specs.GoTypes.Operands.{several}
+use Rattle.go_rules.specs.GoTypes.Answers.{only_if}
+use Rattle.go_rules.specs.GoTypes.Operands.{several}
 use Rattle.composite_steps.proofs.BuiltinSteps.ValueLemmas.{nothing_given}
 use Rattle.composite_steps.proofs.builtin_steps.printing.nothing_if.Goals as goal
 

@@ -1,6 +1,6 @@
 use Rattle.std.proofs.Common.{[], Some, subst}
-use Rattle.go_tree.specs.GoTypes.Answers.{only_if}
-use Rattle.go_tree.specs.GoTypes.Operands.{several}
+use Rattle.go_rules.specs.GoTypes.Answers.{only_if}
+use Rattle.go_rules.specs.GoTypes.Operands.{several}
 use Rattle.operand_modes.specs.Operands.{GivesOperand}
 use Rattle.composite_steps.proofs.builtin_steps.printing.printed.Goals as goal
 

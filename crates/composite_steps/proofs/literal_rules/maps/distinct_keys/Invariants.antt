@@ -1,5 +1,5 @@
 use Rattle.std.proofs.Common.{drop}
-use Rattle.go_tree.specs.GoTypes.Literals.{same_const}
+use Rattle.go_rules.specs.GoTypes.Literals.{same_const}
 use Rattle.composite_steps.specs.LiteralRules.Elements.{key_consts}
 use Rattle.composite_steps.specs.LiteralRules.Sets.{SeenOnce}
 use Rattle.composite_steps.proofs.literal_rules.maps.distinct_keys.Given as goal

@@ -1,7 +1,7 @@
 use Rattle.std.specs.Prelude.{◌≡◌}
 use Rattle.std.specs.List.{list_all}
 use Rattle.std.proofs.Common.{drop}
-use Rattle.go_tree.specs.GoTypes.Literals.{has_key}
+use Rattle.go_rules.specs.GoTypes.Literals.{has_key}
 use Rattle.type_table.specs.TypeRelations.Environment.{defined_types, env_type}
 use Rattle.composite_steps.specs.LiteralRules.Elements.{elements_at}
 use Rattle.composite_steps.proofs.literal_rules.maps.have_keys.Given as goal

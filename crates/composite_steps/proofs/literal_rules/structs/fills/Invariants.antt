@@ -1,6 +1,6 @@
 use Rattle.std.specs.Prelude.{◌≡◌, map}
 use Rattle.std.proofs.Common.{drop}
-use Rattle.go_tree.specs.GoTypes.Literals.{fills}
+use Rattle.go_rules.specs.GoTypes.Literals.{fills}
 use Rattle.type_table.specs.Rows.{field_of}
 use Rattle.type_table.specs.TypesAt.{fields_by}
 use Rattle.type_table.specs.TypeRelations.Environment.{defined_types, env_type}

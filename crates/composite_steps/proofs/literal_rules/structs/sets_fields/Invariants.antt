@@ -1,7 +1,7 @@
 use Rattle.std.specs.Prelude.{◌≡◌, map}
 use Rattle.std.specs.List.{list_all}
 use Rattle.std.proofs.Common.{drop}
-use Rattle.go_tree.specs.GoTypes.Literals.{sets_field}
+use Rattle.go_rules.specs.GoTypes.Literals.{sets_field}
 use Rattle.type_table.specs.Rows.{field_of}
 use Rattle.type_table.specs.TypesAt.{fields_by}
 use Rattle.type_table.specs.TypeRelations.Environment.{defined_types, env_type}

@@ -1,5 +1,5 @@
 use Rattle.std.proofs.Common.{◌≡◌, ◌∙◌, IfSome, None, ap, subst, sym}
-use Rattle.go_tree.specs.GoTypes.Declarations.{constant_entity}
+use Rattle.go_rules.specs.GoTypes.Declarations.{constant_entity}
 use Rattle.type_table.specs.TypeRelations.Environment.{defined_types}
 use Rattle.type_table.specs.declared.operand_rules.values.ValueType.TheVariants.{Typed}
 use Rattle.type_table.specs.OperandRules.Values.{IsType, content_of, type_of, typed_of, within}

@@ -1,7 +1,7 @@
 use Rattle.std.proofs.Common.{◌≡◌, ◌∙◌, IfSome, Some, ap, subst, sym}
-use Rattle.go_tree.specs.GoTypes.Answers.{given}
-use Rattle.go_tree.specs.GoTypes.Declarations.{variable_entity}
-use Rattle.go_tree.specs.GoTypes.Entities as go
+use Rattle.go_rules.specs.GoTypes.Answers.{given}
+use Rattle.go_rules.specs.GoTypes.Declarations.{variable_entity}
+use Rattle.go_rules.specs.GoTypes.Entities as go
 use Rattle.type_table.specs.TypeRelations.Environment.{defined_types}
 use Rattle.type_table.specs.declared.operand_rules.values.ValueType.TheVariants.{Typed}
 use Rattle.type_table.specs.OperandRules.Values.{IsType, typed_of}

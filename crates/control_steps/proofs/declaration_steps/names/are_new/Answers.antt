@@ -2,8 +2,8 @@ use Rattle.std.specs.Prelude.{◌≡◌, map, not}
 use Rattle.std.specs.List.{list_all}
 use Rattle.std.proofs.Common.{◌∙◌, ◌+◌, ap, drop, refl, subst, sym}
 use Rattle.go_tree.specs.View.{name_at_of}
-use Rattle.go_tree.specs.GoTypes.Entities.{is_declared_here}
-use Rattle.go_tree.specs.ScopeNames.FreeNames.{names_of}
+use Rattle.go_rules.specs.GoTypes.Entities.{is_declared_here}
+use Rattle.go_rules.specs.ScopeNames.FreeNames.{names_of}
 use Rattle.typed_names.proofs.TypeExprs.NewNames.{drop_all, drop_item}
 use Rattle.control_steps.proofs.DeclarationSteps.BindLemmas.{stands_already, stands_new}
 use Rattle.control_steps.proofs.declaration_steps.names.are_new.Goals as goal

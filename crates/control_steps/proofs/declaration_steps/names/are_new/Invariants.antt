@@ -1,10 +1,10 @@
 use Rattle.std.specs.Prelude.{◌≡◌, List, map, not}
 use Rattle.std.specs.List.{list_all}
 use Rattle.std.proofs.Common.{drop}
-use Rattle.go_tree.specs.declared.const_eval.consts.Const.{Const}
+use Rattle.go_rules.specs.declared.const_eval.consts.Const.{Const}
 use Rattle.go_tree.specs.View.{name_at_of}
-use Rattle.go_tree.specs.GoTypes.Entities.{Env, is_declared_here}
-use Rattle.go_tree.specs.ScopeNames.FreeNames.{names_of}
+use Rattle.go_rules.specs.GoTypes.Entities.{Env, is_declared_here}
+use Rattle.go_rules.specs.ScopeNames.FreeNames.{names_of}
 use Rattle.type_table.specs.TypeRelations.Environment.{Environment}
 use Rattle.typed_names.specs.declared.scopes.Scope.{Scope}
 use Rattle.typed_names.specs.Meanings.{Names}

@@ -1,6 +1,6 @@
 use Rattle.std.proofs.Common.{◌∙◌, map, sym}
 use Rattle.go_tree.specs.View.{name_at_of}
-use Rattle.go_tree.specs.ScopeNames.FreeNames.{names_of}
+use Rattle.go_rules.specs.ScopeNames.FreeNames.{names_of}
 use Rattle.control_steps.proofs.DeclarationSteps.BindLemmas.{not_once, once_and_new}
 use Rattle.control_steps.proofs.declaration_steps.names.may_declare.Goals as goal
 

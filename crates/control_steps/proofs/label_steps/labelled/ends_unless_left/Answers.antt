@@ -1,6 +1,6 @@
 use Rattle.std.proofs.Common.{◌∙◌, ◌&&◌, Some, ap, false, not, subst, sym}
 use Rattle.go_tree.specs.View.{stmt_of}
-use Rattle.go_tree.specs.GoTypes.Jumps.{breaks}
+use Rattle.go_rules.specs.GoTypes.Jumps.{breaks}
 use Rattle.control_steps.specs.Ends.{EndsAs}
 use Rattle.control_steps.proofs.LabelSteps.LabelLemmas.{label_ends, label_refused}
 use Rattle.control_steps.proofs.label_steps.labelled.ends_unless_left.Goals as goal

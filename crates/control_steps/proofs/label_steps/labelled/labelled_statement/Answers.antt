@@ -1,7 +1,7 @@
 use Rattle.std.proofs.Common.{◌∙◌, ◌&&◌, Some, ap, false, not, sym, true}
 use Rattle.go_tree.specs.View.{stmt_of}
-use Rattle.go_tree.specs.GoTypes.Answers.{given, only_if}
-use Rattle.go_tree.specs.GoTypes.Jumps as go
+use Rattle.go_rules.specs.GoTypes.Answers.{given, only_if}
+use Rattle.go_rules.specs.GoTypes.Jumps as go
 use Rattle.control_steps.proofs.LabelSteps.LabelLemmas.{label_used}
 use Rattle.control_steps.proofs.label_steps.labelled.labelled_statement.Goals as goal
 

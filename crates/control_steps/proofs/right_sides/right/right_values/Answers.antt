@@ -1,7 +1,7 @@
 use Rattle.std.proofs.Common.{map, subst, sym}
-use Rattle.go_tree.specs.GoTypes.Answers.{given}
-use Rattle.go_tree.specs.GoTypes.Entities as go_entity
-use Rattle.go_tree.specs.GoTypes.Statements.{assigned_values}
+use Rattle.go_rules.specs.GoTypes.Answers.{given}
+use Rattle.go_rules.specs.GoTypes.Entities as go_entity
+use Rattle.go_rules.specs.GoTypes.Statements.{assigned_values}
 use Rattle.type_table.specs.TypeRelations.Environment.{defined_types}
 use Rattle.operator_rules.specs.AccessRules.Places.{place_of}
 use Rattle.operand_modes.specs.Lists.{AreStored, GivesValues}

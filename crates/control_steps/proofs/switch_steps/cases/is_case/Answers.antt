@@ -1,5 +1,5 @@
 use Rattle.go_tree.specs.declared.operators.BinOp.TheVariants.{Eq}
-use Rattle.go_tree.specs.GoTypes.Operators.{comparison}
+use Rattle.go_rules.specs.GoTypes.Operators.{comparison}
 use Rattle.type_table.specs.TypeRelations.Environment.{defined_types}
 use Rattle.type_table.specs.OperandRules.Values.{typed_of}
 use Rattle.control_steps.proofs.SwitchSteps.SwitchLemmas.{case_met, case_not_met}

@@ -1,5 +1,5 @@
 use Rattle.std.proofs.Common.{subst, sym}
-use Rattle.go_tree.specs.GoTypes.Statements.{tag_value}
+use Rattle.go_rules.specs.GoTypes.Statements.{tag_value}
 use Rattle.type_table.specs.TypeRelations.Environment.{defined_types}
 use Rattle.type_table.specs.OperandRules.Values.{Gives}
 use Rattle.operator_rules.specs.AccessRules.Slices.{IsBoundValue, bound_of}

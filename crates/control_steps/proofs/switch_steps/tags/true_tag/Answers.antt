@@ -1,6 +1,6 @@
 use Rattle.std.proofs.Common.{refl}
-use Rattle.go_tree.specs.declared.const_eval.consts.Const.TheVariants.{Truth}
-use Rattle.go_tree.specs.declared.const_eval.kinds.Kind.TheVariants.{UntypedBool}
+use Rattle.go_rules.specs.declared.const_eval.consts.Const.TheVariants.{Truth}
+use Rattle.go_rules.specs.declared.const_eval.kinds.Kind.TheVariants.{UntypedBool}
 use Rattle.name_steps.proofs.ConstantLemmas.{constant_given}
 use Rattle.std.specs.Prelude.{true}
 use Rattle.control_steps.proofs.switch_steps.tags.true_tag.Goals as goal

@@ -1,6 +1,6 @@
 use Rattle.std.proofs.Common.{◌∙◌, ◌||◌, sym}
-use Rattle.go_tree.specs.GoTypes.Defined.{comparable, under}
-use Rattle.go_tree.specs.GoTypes.Relations.{has_nil}
+use Rattle.go_rules.specs.GoTypes.Defined.{comparable, under}
+use Rattle.go_rules.specs.GoTypes.Relations.{has_nil}
 use Rattle.type_table.specs.TypeRelations.Environment.{defined_types, env_type}
 use Rattle.control_steps.proofs.SwitchSteps.SwitchLemmas.{no_tag, tag_given}
 use Rattle.control_steps.proofs.switch_steps.tags.typed_tag.Goals as goal

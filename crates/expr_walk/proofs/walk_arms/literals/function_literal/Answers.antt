@@ -1,9 +1,9 @@
 use Rattle.std.proofs.Common.{Some, subst, sym}
 use Rattle.go_tree.specs.View.{sig_of}
-use Rattle.go_tree.specs.GoTypes.Answers.{given}
-use Rattle.go_tree.specs.GoTypes.Entities.{elsewhere}
-use Rattle.go_tree.specs.GoTypes.Operands.{a_function}
-use Rattle.go_tree.specs.GoTypes.TypeNames.{func_type}
+use Rattle.go_rules.specs.GoTypes.Answers.{given}
+use Rattle.go_rules.specs.GoTypes.Entities.{elsewhere}
+use Rattle.go_rules.specs.GoTypes.Operands.{a_function}
+use Rattle.go_rules.specs.GoTypes.TypeNames.{func_type}
 use Rattle.func_types.specs.Answers.{func_of}
 use Rattle.operand_modes.specs.OperandAnswers.Located.{GivesAt}
 use Rattle.operand_modes.proofs.OperandAnswers.KeptLemmas.{keeps_on, stands_kept}

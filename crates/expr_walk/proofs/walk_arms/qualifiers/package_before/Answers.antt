@@ -1,7 +1,7 @@
 use Rattle.std.proofs.Common.{◌≡◌, subst, sym}
 use Rattle.go_tree.specs.View.{expr_of}
-use Rattle.go_tree.specs.GoTypes.Entities.{meaning, package_of}
-use Rattle.go_tree.specs.GoTypes.Statements.{package_before}
+use Rattle.go_rules.specs.GoTypes.Entities.{meaning, package_of}
+use Rattle.go_rules.specs.GoTypes.Statements.{package_before}
 use Rattle.typed_names.specs.Scopes.{env_at}
 use Rattle.expr_walk.proofs.walk_arms.qualifiers.package_before.Goals as goal
 

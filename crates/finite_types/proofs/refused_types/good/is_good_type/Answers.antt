@@ -1,6 +1,6 @@
 use Rattle.std.proofs.Common.{◌∙◌, ◌||◌, Err, ap, subst, sym}
 use Rattle.go_tree.specs.FileView.{type_spec_of}
-use Rattle.go_tree.specs.GoTypes.TypeNames.{type_meant}
+use Rattle.go_rules.specs.GoTypes.TypeNames.{type_meant}
 use Rattle.type_flags.specs.Flags.{flag_at}
 use Rattle.typed_names.specs.Scopes.{env_at}
 use Rattle.typed_names.specs.TypeExprs.Answers.{GivesType}

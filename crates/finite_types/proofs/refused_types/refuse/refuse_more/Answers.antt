@@ -1,7 +1,7 @@
 use Rattle.std.proofs.Common.{◌∙◌, ◌+◌, List, ap, drop, subst, sym}
 use Rattle.go_tree.specs.declared.spans.Span.{Span}
-use Rattle.go_tree.specs.declared.const_eval.consts.Const.{Const}
-use Rattle.go_tree.specs.GoTypes.Programs.{Headed, Program}
+use Rattle.go_rules.specs.declared.const_eval.consts.Const.{Const}
+use Rattle.go_rules.specs.GoTypes.Programs.{Headed, Program}
 use Rattle.declared_types.specs.Headers.{IsTypeHeader}
 use Rattle.typed_names.proofs.TypeExprs.NewNames.{drop_item}
 use Rattle.finite_types.specs.RefusedTypes.Steps.{AreTyped, HeadersPassed, OpenHeader}

@@ -1,5 +1,5 @@
 use Rattle.std.proofs.Common.{◌∙◌, None, ap, get_or, sym}
-use Rattle.go_tree.specs.GoTypes.Answers.{one_of}
+use Rattle.go_rules.specs.GoTypes.Answers.{one_of}
 use Rattle.header_order.specs.FirstRefusals.Files.{files_of, header_place, place_in}
 use Rattle.header_order.proofs.FirstRefusals.ToldLemmas.{item_same, place_found, place_missing, place_passed}
 use Rattle.header_order.proofs.first_refusals.first.first_told.Goals as goal

@@ -1,5 +1,5 @@
 use Rattle.std.proofs.Common.{ap, sym, Some}
-use Rattle.go_tree.specs.GoTypes.Answers.{given}
+use Rattle.go_rules.specs.GoTypes.Answers.{given}
 use Rattle.package_blocks.proofs.NumberLemmas.{item_gone, item_there}
 use Rattle.header_order.proofs.first_refusals.first.header_at.Goals as goal
 

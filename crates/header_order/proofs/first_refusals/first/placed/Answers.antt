@@ -1,5 +1,5 @@
 use Rattle.std.proofs.Common.{◌+◌, ◌-◌, ap, arith, drop, get_or, sym, Some}
-use Rattle.go_tree.specs.GoTypes.Answers.{given}
+use Rattle.go_rules.specs.GoTypes.Answers.{given}
 use Rattle.typed_names.proofs.TypeExprs.NewNames.{drop_all, drop_item}
 use Rattle.package_blocks.proofs.CollectedLemmas.{item_either}
 use Rattle.header_order.specs.RefusedImports.First.{refused_at}

@@ -1,5 +1,5 @@
 use Rattle.std.proofs.Common.{OnOk, subst, sym}
-use Rattle.go_tree.specs.GoTypes.Programs.{header_names}
+use Rattle.go_rules.specs.GoTypes.Programs.{header_names}
 use Rattle.package_blocks.specs.Headers.{header_of}
 use Rattle.initial_values.specs.ValueBlocks.Copies.{AddsCopies}
 use Rattle.initial_values.proofs.ValueBlocks.ListLemmas.{names_alike}

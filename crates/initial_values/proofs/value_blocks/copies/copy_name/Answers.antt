@@ -1,5 +1,5 @@
 use Rattle.std.proofs.Common.{◌∙◌, ◌&&◌, ◌<◌, Some, ap, bytes_eq, cond, nat_eq, subst, sym}
-use Rattle.go_tree.specs.ScopeNames.Means.{means}
+use Rattle.go_rules.specs.ScopeNames.Means.{means}
 use Rattle.typed_names.specs.Meanings.{block_at, with_member}
 use Rattle.initial_values.proofs.ValueBlocks.CopyLemmas.{block_within, copy_added, copy_missing}
 use Rattle.initial_values.proofs.value_blocks.copies.copy_name.Goals as goal

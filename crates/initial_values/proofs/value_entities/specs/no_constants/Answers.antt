@@ -1,5 +1,5 @@
 use Rattle.std.proofs.Common.{◌∙◌, ap, length, nat_eq, sym, None}
-use Rattle.go_tree.specs.GoTypes.Declarations.{constant_entity}
+use Rattle.go_rules.specs.GoTypes.Declarations.{constant_entity}
 use Rattle.initial_values.proofs.ValueEntities.SpecLemmas.{no_value_bound}
 use Rattle.initial_values.proofs.value_entities.specs.no_constants.Goals as goal
 

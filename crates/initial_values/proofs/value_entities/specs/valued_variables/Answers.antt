@@ -1,6 +1,6 @@
 use Rattle.std.proofs.Common.{◌∙◌, map, subst, sym}
 use Rattle.std.specs.Option.{option_map}
-use Rattle.go_tree.specs.ScopeNames.FreeNames.{names_of}
+use Rattle.go_rules.specs.ScopeNames.FreeNames.{names_of}
 use Rattle.go_tree.specs.View.{exprs_of, name_at_of, type_of}
 use Rattle.operator_rules.specs.Settling.{typed_option}
 use Rattle.expr_walk.proofs.WalkArms.ExprArms.{at}

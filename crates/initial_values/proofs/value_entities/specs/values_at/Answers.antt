@@ -1,6 +1,6 @@
 use Rattle.std.proofs.Common.{◌≡◌, ◌∙◌, ap, length, map, subst, sym, rules}
 use Rattle.std.specs.Vec.{vec_len}
-use Rattle.go_tree.specs.ScopeNames.FreeNames.{names_of}
+use Rattle.go_rules.specs.ScopeNames.FreeNames.{names_of}
 use Rattle.go_tree.specs.View.{exprs_of, name_at_of}
 use Rattle.operator_rules.specs.Settling.{typed_option}
 use Rattle.operand_modes.specs.Operands.{operands_at}

@@ -1,7 +1,7 @@
 use Rattle.std.proofs.Common.{◌∙◌, ap, map, subst, sym}
 use Rattle.std.specs.Option.{option_map}
-use Rattle.go_tree.specs.ScopeNames.FreeNames.{names_of}
-use Rattle.go_tree.specs.GoTypes.Bodies.{no_values}
+use Rattle.go_rules.specs.ScopeNames.FreeNames.{names_of}
+use Rattle.go_rules.specs.GoTypes.Bodies.{no_values}
 use Rattle.go_tree.specs.View.{exprs_of, name_at_of, type_of}
 use Rattle.operator_rules.specs.Settling.{typed_option}
 use Rattle.initial_values.specs.ValueEntities.Steps.{GivesZeros}

@@ -1,6 +1,6 @@
 use Rattle.std.proofs.Common.{[], ◌++◌, ◌∙◌, ap, sym}
 use Rattle.std.specs.Option.{option_map}
-use Rattle.go_tree.specs.ScopeNames.FreeNames.{free_expr, free_type_option}
+use Rattle.go_rules.specs.ScopeNames.FreeNames.{free_expr, free_type_option}
 use Rattle.go_tree.specs.View.{expr_of, type_of}
 use Rattle.name_walks.specs.EachOnce.{each_once}
 use Rattle.initial_values.proofs.ValuePlaces.NameLemmas.{append_nothing}

@@ -1,5 +1,5 @@
 use Rattle.std.proofs.Common.{◌∙◌, Some, ap, bytes_eq, cond, sym}
-use Rattle.go_tree.specs.ScopeNames.Means.{means}
+use Rattle.go_rules.specs.ScopeNames.Means.{means}
 use Rattle.typed_names.specs.Meanings.{with_name}
 use Rattle.initial_values.proofs.ValuePlaces.ImportLemmas.{import_added}
 use Rattle.initial_values.proofs.value_places.places.add_import.Goals as goal

@@ -1,5 +1,5 @@
 use Rattle.std.proofs.Common.{◌∙◌, ap, sym}
-use Rattle.go_tree.specs.ScopeNames.Means.{is_blank}
+use Rattle.go_rules.specs.ScopeNames.Means.{is_blank}
 use Rattle.jump_rules.proofs.DistinctNames.SeenLemmas.{blank_adds, other_adds}
 use Rattle.jump_rules.proofs.distinct_names.names.add_unless_blank.Goals as goal
 

@@ -1,7 +1,7 @@
 use Rattle.std.proofs.Common.{◌+◌, [], ◌∷◌, drop, map, subst, sym}
 use Rattle.go_tree.specs.View.{name_at_of}
-use Rattle.go_tree.specs.GoTypes.Declarations.{not_blank}
-use Rattle.go_tree.specs.ScopeNames.FreeNames.{names_of}
+use Rattle.go_rules.specs.GoTypes.Declarations.{not_blank}
+use Rattle.go_rules.specs.ScopeNames.FreeNames.{names_of}
 use Rattle.typed_names.proofs.TypeExprs.NewNames.{drop_all, drop_item}
 use Rattle.jump_rules.specs.DistinctNames.Seen.{AddsNames, AreSeen}
 use Rattle.jump_rules.proofs.DistinctNames.SeenLemmas.{counted, counted_again, counted_seen, seen_end, seen_start}

@@ -1,6 +1,6 @@
 use Rattle.std.proofs.Common.{◌∙◌, ◌∷◌, if◌then◌else◌, refl, subst, sym}
 use Rattle.go_tree.specs.View.{stmt_of}
-use Rattle.go_tree.specs.GoTypes.Jumps.{is_loop}
+use Rattle.go_rules.specs.GoTypes.Jumps.{is_loop}
 use Rattle.jump_rules.specs.declared.around.Around.{Around}
 use Rattle.jump_rules.specs.declared.around.LabelAround.{LabelAround}
 use Rattle.jump_rules.specs.Labels.{IsAround}

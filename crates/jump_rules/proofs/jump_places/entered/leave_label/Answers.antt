@@ -1,7 +1,7 @@
 use Rattle.std.proofs.Common.{rules, ◌≡◌, ◌∙◌, ◌∷◌, if◌then◌else◌, length, refl, subst, sym}
 use Rattle.std.specs.Vec.{vec_len}
 use Rattle.go_tree.specs.View.{stmt_of}
-use Rattle.go_tree.specs.GoTypes.Jumps.{is_loop}
+use Rattle.go_rules.specs.GoTypes.Jumps.{is_loop}
 use Rattle.jump_rules.specs.declared.around.Around.{Around}
 use Rattle.jump_rules.specs.Labels.{IsAround}
 use Rattle.jump_rules.proofs.JumpPlaces.LabelLemmas.{label_ends}

@@ -1,7 +1,7 @@
 use Rattle.std.proofs.Common.{◌∙◌, [], ap, map, sym}
 use Rattle.go_tree.specs.Lists.{fields_from}
 use Rattle.go_tree.specs.View.{field_of}
-use Rattle.go_tree.specs.ScopeNames.FreeNames.{free_fields}
+use Rattle.go_rules.specs.ScopeNames.FreeNames.{free_fields}
 use Rattle.jump_rules.specs.UsedLocals.Used.{and_names, used_of}
 use Rattle.jump_rules.proofs.UsedLocals.UsedLemmas.{fields_end, fields_more}
 use Rattle.jump_rules.proofs.used_locals.types.+types.Goals as goal

@@ -1,6 +1,6 @@
 use Rattle.std.proofs.Common.{[], map}
 use Rattle.go_tree.specs.View.{param_of}
-use Rattle.go_tree.specs.ScopeNames.FreeNames.{free_params}
+use Rattle.go_rules.specs.ScopeNames.FreeNames.{free_params}
 use Rattle.jump_rules.specs.UsedLocals.Used.{and_names, used_of}
 use Rattle.jump_rules.proofs.UsedLocals.UsedLemmas.{params_end, params_more}
 use Rattle.jump_rules.proofs.used_locals.types.use_params.Goals as goal

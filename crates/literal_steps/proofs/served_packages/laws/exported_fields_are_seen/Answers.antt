@@ -2,8 +2,8 @@ use Rattle.literal_steps.proofs.ServedPackages.FormNames.{function_opens}
 use Rattle.literal_steps.proofs.ServedPackages.OpenTypes.FieldsSeen.{selected_seen}
 use Rattle.literal_steps.proofs.ServedPackages.OpenTypes.LiteralsSeen.{literal_seen}
 use Rattle.literal_steps.proofs.ServedPackages.OpenTypes.World.{collected_open, file_open, imports_open}
-use Rattle.go_tree.specs.GoTypes.Collect.{collected}
-use Rattle.go_tree.specs.GoTypes.Programs.{file_block}
+use Rattle.go_rules.specs.GoTypes.Collect.{collected}
+use Rattle.go_rules.specs.GoTypes.Programs.{file_block}
 use Rattle.literal_steps.proofs.served_packages.laws.exported_fields_are_seen.Goals as goal
 
 pub returns-clause-programs : goal.returns-clause-programs

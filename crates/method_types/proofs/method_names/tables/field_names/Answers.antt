@@ -1,5 +1,5 @@
 use Rattle.std.proofs.Common.{◌∙◌, ◌+◌, Some, ap, bytes_eq, cond, drop, map, subst}
-use Rattle.go_tree.specs.ScopeNames.Means.{means}
+use Rattle.go_rules.specs.ScopeNames.Means.{means}
 use Rattle.typed_names.specs.declared.entities.Entity.TheVariants.{Refused}
 use Rattle.typed_names.proofs.TypeExprs.NewNames.{drop_item}
 use Rattle.method_types.proofs.MethodNames.TableLemmas.{FieldsLeft, left_one}

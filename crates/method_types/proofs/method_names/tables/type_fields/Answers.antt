@@ -1,5 +1,5 @@
 use Rattle.std.proofs.Common.{IfOk, List, [], ◌∷◌, ◌∙◌, ◌≡◌, ℕ, ap, map, subst}
-use Rattle.go_tree.specs.GoTypes.Answers.{is_among}
+use Rattle.go_rules.specs.GoTypes.Answers.{is_among}
 use Rattle.method_types.specs.MethodNames.Known.{has_name}
 use Rattle.method_types.proofs.MethodNames.TableLemmas.{row_names}
 use Rattle.method_types.proofs.method_names.tables.type_fields.Goals as goal

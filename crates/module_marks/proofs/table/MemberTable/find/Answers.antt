@@ -1,5 +1,5 @@
 use Rattle.std.proofs.Common.{◌<◌, ◌∙◌, ap, sym, arith, length, Some}
-use Rattle.go_tree.specs.GoTypes.Answers.{given}
+use Rattle.go_rules.specs.GoTypes.Answers.{given}
 use Rattle.run_rules.specs.Sites.{mark_of}
 use Rattle.file_names.specs.declared.members.Member.{Member}
 use Rattle.module_marks.specs.Views.{mark_ref_of}

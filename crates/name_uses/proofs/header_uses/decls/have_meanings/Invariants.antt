@@ -1,6 +1,6 @@
 use Rattle.std.proofs.Common.{◌≡◌, drop, map, is_some}
 use Rattle.go_tree.specs.View.{param_of}
-use Rattle.go_tree.specs.GoTypes.TypeNames.{params_meant}
+use Rattle.go_rules.specs.GoTypes.TypeNames.{params_meant}
 use Rattle.name_uses.specs.Walk.{walk_of}
 use Rattle.name_uses.proofs.header_uses.decls.have_meanings.Given as goal
 

@@ -1,6 +1,6 @@
 use Rattle.std.proofs.Common.{◌∙◌, ap}
-use Rattle.go_tree.specs.GoTypes.Answers.{meets}
-use Rattle.go_tree.specs.GoTypes.Literals.{is_struct}
+use Rattle.go_rules.specs.GoTypes.Answers.{meets}
+use Rattle.go_rules.specs.GoTypes.Literals.{is_struct}
 use Rattle.name_uses.specs.Inside.{seen}
 use Rattle.name_uses.specs.Views.{literal_under}
 use Rattle.name_uses.proofs.StateSteps.{fields_at}

@@ -1,5 +1,5 @@
 use Rattle.std.proofs.Common.{◌∙◌, ap, sym, Some}
-use Rattle.go_tree.specs.GoTypes.Types.{is_untyped}
+use Rattle.go_rules.specs.GoTypes.Types.{is_untyped}
 use Rattle.type_table.specs.TypeRelations.Environment.{env_type}
 use Rattle.type_table.specs.Rows.{row_of}
 use Rattle.operand_modes.proofs.OperandAnswers.AddedLemmas.{added_keeps, added_ready, same_keeps, same_ready}

@@ -1,5 +1,5 @@
 use Rattle.std.proofs.Common.{subst}
-use Rattle.go_tree.specs.GoTypes.Entities as go_entity
+use Rattle.go_rules.specs.GoTypes.Entities as go_entity
 use Rattle.operand_modes.specs.Operands.{GivesOperand}
 use Rattle.operand_modes.proofs.OperandAnswers.AnswerLemmas.{operand_refused, stands_nowhere}
 use Rattle.operand_modes.proofs.operand_answers.located.elsewhere.Goals as goal

@@ -1,5 +1,5 @@
 use Rattle.std.proofs.Common.{arith}
-use Rattle.go_tree.specs.GoTypes.Operands.{value}
+use Rattle.go_rules.specs.GoTypes.Operands.{value}
 use Rattle.type_table.specs.OperandRules.Values.{content_of, type_of}
 use Rattle.operator_rules.proofs.AccessRules.CallLemmas.{lengths_differ, type_item, value_item}
 use Rattle.operator_rules.proofs.access_rules.calls.takes_all.Goals as goal

@@ -1,6 +1,6 @@
 use Rattle.std.specs.Prelude.{◌≡◌}
 use Rattle.std.proofs.Common.{drop}
-use Rattle.go_tree.specs.GoTypes.Operands.{takes_all}
+use Rattle.go_rules.specs.GoTypes.Operands.{takes_all}
 use Rattle.type_table.specs.TypeRelations.Environment.{defined_types}
 use Rattle.operator_rules.specs.AccessRules.Functions.{types_at, operands_of}
 use Rattle.operator_rules.proofs.access_rules.calls.takes_all.Given as goal

@@ -1,6 +1,6 @@
 use Rattle.std.proofs.Common.{arith}
-use Rattle.go_tree.specs.GoTypes.Entities.{run}
-use Rattle.go_tree.specs.GoTypes.Operands.{value}
+use Rattle.go_rules.specs.GoTypes.Entities.{run}
+use Rattle.go_rules.specs.GoTypes.Operands.{value}
 use Rattle.type_table.specs.TypeRelations.Environment.{env_type}
 use Rattle.operator_rules.proofs.AccessRules.CallLemmas.{lengths_differ, type_item}
 use Rattle.operator_rules.proofs.access_rules.calls.takes_results.Goals as goal

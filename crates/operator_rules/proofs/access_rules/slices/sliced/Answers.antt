@@ -1,6 +1,6 @@
 use Rattle.std.specs.Prelude.{refl}
 use mathlib.Core.Path.{sym, ◌∙◌}
-use Rattle.go_tree.specs.GoTypes.Entities.{run}
+use Rattle.go_rules.specs.GoTypes.Entities.{run}
 use Rattle.type_table.specs.TypeRelations.Environment.{defined_types, env_type}
 use Rattle.type_table.specs.OperandRules.Values.{content_of, typed_of}
 use Rattle.operator_rules.specs.AccessRules.Slices.{bound_of}

@@ -1,6 +1,6 @@
 use Rattle.std.proofs.Common.{[], ◌+◌, drop, false, map, subst}
 use Rattle.go_tree.specs.View.{param_of}
-use Rattle.go_tree.specs.ScopeNames.FreeNames.{name_then, params_names}
+use Rattle.go_rules.specs.ScopeNames.FreeNames.{name_then, params_names}
 use Rattle.typed_names.proofs.TypeExprs.NewNames.{drop_item}
 use Rattle.package_blocks.specs.FuncHeaders.Names.{AddsNames, NamesLeft}
 use Rattle.package_blocks.proofs.FuncHeaders.DistinctNames.{names_fail, names_more}

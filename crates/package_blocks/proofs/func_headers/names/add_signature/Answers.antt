@@ -1,6 +1,6 @@
 use Rattle.std.proofs.Common.{map, subst}
 use Rattle.go_tree.specs.View.{param_of}
-use Rattle.go_tree.specs.ScopeNames.FreeNames.{params_names}
+use Rattle.go_rules.specs.ScopeNames.FreeNames.{params_names}
 use Rattle.package_blocks.specs.FuncHeaders.Names.{AddsNames}
 use Rattle.package_blocks.proofs.FuncHeaders.DistinctNames.{names_twice, then_answered}
 use Rattle.package_blocks.proofs.func_headers.names.add_signature.Goals as goal

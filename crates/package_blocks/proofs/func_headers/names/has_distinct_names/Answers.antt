@@ -1,5 +1,5 @@
 use Rattle.go_tree.specs.View.{sig_of}
-use Rattle.go_tree.specs.ScopeNames.FreeNames.{sig_names}
+use Rattle.go_rules.specs.ScopeNames.FreeNames.{sig_names}
 use Rattle.package_blocks.proofs.FuncHeaders.DistinctNames.{once_answered}
 use Rattle.package_blocks.proofs.func_headers.names.has_distinct_names.Goals as goal
 

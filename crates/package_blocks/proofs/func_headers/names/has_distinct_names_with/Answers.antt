@@ -1,8 +1,8 @@
 use Rattle.std.proofs.Common.{IfOk, [], ◌++◌, ◌≡◌, false, subst}
 use Rattle.std.specs.Option.{option_map}
 use Rattle.go_tree.specs.View.{name_at_of, sig_of}
-use Rattle.go_tree.specs.GoTypes.Declarations.{names_once}
-use Rattle.go_tree.specs.ScopeNames.FreeNames.{name_then, sig_names}
+use Rattle.go_rules.specs.GoTypes.Declarations.{names_once}
+use Rattle.go_rules.specs.ScopeNames.FreeNames.{name_then, sig_names}
 use Rattle.package_blocks.specs.FuncHeaders.Names.{AddsNames}
 use Rattle.package_blocks.proofs.FuncHeaders.DistinctNames.{names_once_all, names_twice, once_answered, option_then, then_answered}
 use Rattle.package_blocks.proofs.func_headers.names.has_distinct_names_with.Goals as goal

@@ -1,5 +1,5 @@
 use Rattle.std.proofs.Common.{◌∙◌, ap}
-use Rattle.go_tree.specs.ScopeNames.Means.{means}
+use Rattle.go_rules.specs.ScopeNames.Means.{means}
 use Rattle.typed_names.proofs.NameLaws.{name_set, names_of}
 use Rattle.package_blocks.proofs.numbers.PathNumbers.set.Goals as goal
 

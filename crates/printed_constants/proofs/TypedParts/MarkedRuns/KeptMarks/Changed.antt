@@ -5,8 +5,8 @@ use Rattle.std.proofs.lemmas.Option.{same_Some}
 use Rattle.go_tree.specs.File.{ImportSpec, File}
 use Rattle.pkg_graph.specs.Package.{SourceTree, Package, import_specs}
 use Rattle.pkg_graph.specs.Members.{package_name, name_or}
-use Rattle.go_tree.specs.GoTypes.Answers.{given}
-use Rattle.go_tree.specs.ScopeNames.Means.{is_blank}
+use Rattle.go_rules.specs.GoTypes.Answers.{given}
+use Rattle.go_rules.specs.ScopeNames.Means.{is_blank}
 use Rattle.typed_in_place.specs.ProgramsAlike.{OneByOne}
 use Rattle.typed_in_place.proofs.ProgramsReplaced.{each_one}
 use Rattle.run_rules.specs.Programs.{number_from, package_number}
@@ -17,7 +17,7 @@ use Rattle.order_runs.proofs.CycleRuns.StepCycles.StepAlike.{one-changed}
 use Rattle.order_runs.specs.CycleRuns.ImportCycles.OtherImports.{import_path}
 use Rattle.order_runs.proofs.CycleRuns.ImportCycles.ImportPaths.{past-blank-numbered, past-imports, qualifier-read}
 use Rattle.pkg_graph.specs.Members as members
-use Rattle.go_tree.specs.ScopeNames.Means as scopes
+use Rattle.go_rules.specs.ScopeNames.Means as scopes
 
 module _ {S : Type 0} (F : Package S → Package S) (path : (p : Package S) → (F p).path ≡ p.path) (name : (p : Package S) → (F p).name ≡ p.name) where
   number-stays : (i k : ℕ) (ps : List (Package S)) (x : List ℕ) → number_from k (change_nth i F ps) x ≡ number_from k ps x

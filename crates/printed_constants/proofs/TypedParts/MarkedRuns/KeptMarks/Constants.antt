@@ -5,7 +5,7 @@ use Rattle.std.proofs.lemmas.Option.{same_Some}
 use Rattle.go_tree.specs.Tree.{NameAt, Expr, ident, selector, Exprs, no_exprs, expr_and, const_decl, ValueSpecs, no_specs, spec}
 use Rattle.go_tree.specs.File.{TypeSpec, Decl, values, types, func, File}
 use Rattle.pkg_graph.specs.Package.{Package}
-use Rattle.go_tree.specs.GoTypes.Answers.{given, otherwise}
+use Rattle.go_rules.specs.GoTypes.Answers.{given, otherwise}
 use Rattle.run_rules.specs.Surroundings.{Use, Place, Seen, seen, alike, head_use, later_uses, value_use, comma_slot, in_constant}
 use Rattle.run_rules.specs.Places.{written_seen, expr_seen, all_seen}
 use Rattle.run_rules.specs.Programs.{top_place, constants_at_top, decl_seen}

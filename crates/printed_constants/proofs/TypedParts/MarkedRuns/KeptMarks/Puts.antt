@@ -3,7 +3,7 @@ use Rattle.std.proofs.Common.{◌≡◌, ◌∙◌, ap, ℕ, true, false, nat_eq
 use Rattle.std.specs.Prelude.{slice_get}
 use Rattle.go_tree.specs.Tree.{Expr, ident, selector}
 use Rattle.pkg_graph.specs.Package.{Package}
-use Rattle.go_tree.specs.GoTypes.Answers.{given, otherwise}
+use Rattle.go_rules.specs.GoTypes.Answers.{given, otherwise}
 use Rattle.run_rules.specs.FormTrees.{ConstForm, Form, as_expr, form_identifiers, outside_changes}
 use Rattle.run_rules.specs.Naming.{Names, Named, unnamed, unnamed_in, new_first, name_added, names_by, named_package, named_packages, member_qualifier}
 use Rattle.run_rules.specs.Places.{expr_seen}

@@ -4,10 +4,10 @@ use Rattle.std.specs.Prelude.{slice_get}
 use Rattle.std.proofs.lemmas.Option.{same_Some}
 use Rattle.go_tree.specs.Tree.{NameAt, Expr, ident, int_lit, rune_lit, str_lit, composite, selector, index, slice, call, func_lit, type_operand, unary, binary, star, Exprs, no_exprs, expr_and, const_decl, ValueSpecs, no_specs, spec}
 use Rattle.go_tree.specs.File.{TypeSpec, Decl, values, types, func}
-use Rattle.go_tree.specs.ScopeNames.FreeNames.{free_type_option, free_expr, free_exprs}
+use Rattle.go_rules.specs.ScopeNames.FreeNames.{free_type_option, free_expr, free_exprs}
 use Rattle.pkg_graph.specs.Package.{Package}
-use Rattle.go_tree.specs.GoTypes.Answers.{given}
-use Rattle.go_tree.specs.GoTypes.Agreement.{In, head}
+use Rattle.go_rules.specs.GoTypes.Answers.{given}
+use Rattle.go_rules.specs.GoTypes.Agreement.{In, head}
 use Rattle.run_rules.specs.Respanned.{name_with, type_with, expr_with, exprs_with, specs_with, type_spec_with, decl_with}
 use Rattle.run_rules.specs.Sites.{Where, Inlinable, a_constant, an_alias, constant_in_spec, less, nth_constant, aliased, inlinable_in}
 use Rattle.run_rules.specs.Steps.{At}

@@ -8,9 +8,9 @@ use Rattle.go_tree.specs.declared.tokens.Token.{Token}
 use Rattle.go_tree.specs.declared.tokens.Comment.{Comment}
 use Rattle.go_tree.specs.Tree.{NameAt, TypeExpr, Expr, Exprs, no_exprs, expr_and, const_decl, var_decl, empty, eval, step, assign, define, return_, break_, continue_, inner, if_, for_, range_, switch, defer, label, ValueSpecs, no_specs, spec}
 use Rattle.go_tree.specs.File.{TypeSpec, Func, Decl, values, types, func, File}
-use Rattle.go_tree.specs.declared.scope_names.names.Entity.{Entity}
-use Rattle.go_tree.specs.declared.scope_names.names.FileNames.{FileNames}
-use Rattle.go_tree.specs.ScopeNames.Means.{Environment, outermost}
+use Rattle.go_rules.specs.declared.scope_names.names.Entity.{Entity}
+use Rattle.go_rules.specs.declared.scope_names.names.FileNames.{FileNames}
+use Rattle.go_rules.specs.ScopeNames.Means.{Environment, outermost}
 use Rattle.directive_scan.specs.declared.mark_types.Mark.{Mark}
 use Rattle.directive_scan.specs.declared.mark_types.MarkKind.TheVariants.{Constant}
 use Rattle.directive_scan.specs.declared.mark_types.BadReason.TheVariants.{NotNamedConstant}
@@ -20,7 +20,7 @@ use Rattle.directive_scan.specs.Items.{Item, type_verdict, names_constant, const
 use Rattle.directive_scan.specs.Marked.{mark_by, is_marked, good_marks}
 use Rattle.run_rules.specs.ImportRules.Removed.{same_span}
 use Rattle.pkg_graph.specs.Members.{specs_names, decl_names}
-use Rattle.go_tree.specs.GoTypes.Answers.{given}
+use Rattle.go_rules.specs.GoTypes.Answers.{given}
 use Rattle.typed_in_place.proofs.Rising.{and_first, and_second}
 use Rattle.constant_steps.proofs.NamesOutside.{equal_numbers}
 use Rattle.order_runs.proofs.RunSteps.SeatedUses.{Among, first, later}

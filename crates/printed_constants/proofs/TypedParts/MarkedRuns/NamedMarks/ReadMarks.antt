@@ -5,7 +5,7 @@ use Rattle.std.specs.List.{starts_with}
 use Rattle.std.proofs.lemmas.Option.{same_Some}
 use Rattle.go_tree.specs.declared.spans.Span.{Span}
 use Rattle.go_tree.specs.File.{Decl}
-use Rattle.go_tree.specs.ScopeNames.Means.{outermost}
+use Rattle.go_rules.specs.ScopeNames.Means.{outermost}
 use Rattle.directive_scan.specs.declared.mark_types.Mark.{Mark}
 use Rattle.directive_scan.specs.Marked.{good_marks}
 use Rattle.pkg_graph.specs.Package.{SourceTree, Package}

@@ -3,8 +3,8 @@ use Rattle.std.proofs.Common.{◌≡◌, refl, ap, subst, ℕ, Bool, true, false
 use Rattle.std.proofs.lemmas.Option.{same_Some}
 use Rattle.go_tree.specs.Tree.{Expr, ident, int_lit, rune_lit, str_lit, composite, selector, index, slice, call, func_lit, type_operand, unary, binary, star}
 use Rattle.pkg_graph.specs.Package.{Package}
-use Rattle.go_tree.specs.GoTypes.Answers.{meets}
-use Rattle.go_tree.proofs.GoTypes.Agreeing.{from_given}
+use Rattle.go_rules.specs.GoTypes.Answers.{meets}
+use Rattle.go_rules.proofs.GoTypes.Agreeing.{from_given}
 use Rattle.run_rules.specs.Surroundings.{Place}
 use Rattle.run_rules.specs.Sites.{MarkRef, Where, Inlinable, an_expr, is_among_marks, is_free_function, not_function, inlinable, name_mark, qualifier, member_of, qualified_mark, selected_method, marked, marked_as, called_mark, expr_mark}
 use Rattle.run_rules.specs.Steps.{At}

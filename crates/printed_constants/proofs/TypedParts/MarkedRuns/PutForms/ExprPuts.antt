@@ -8,12 +8,12 @@ use Rattle.go_tree.specs.declared.operators.UnOp.{UnOp}
 use Rattle.go_tree.specs.declared.operators.BinOp.{BinOp}
 use Rattle.go_tree.specs.GoWords.Terminals.{level_of}
 use Rattle.go_layout.specs.Parens.{header_within}
-use Rattle.go_tree.specs.GoTypes.Answers.{given}
-use Rattle.go_tree.specs.GoTypes.Types.{GoType}
-use Rattle.go_tree.specs.GoTypes.Defined.{under}
-use Rattle.go_tree.specs.GoTypes.Entities.{defined_in}
-use Rattle.go_tree.specs.GoTypes.TypeNames.{type_meant}
-use Rattle.go_tree.specs.GoTypes.Typing.{parts, all_parts}
+use Rattle.go_rules.specs.GoTypes.Answers.{given}
+use Rattle.go_rules.specs.GoTypes.Types.{GoType}
+use Rattle.go_rules.specs.GoTypes.Defined.{under}
+use Rattle.go_rules.specs.GoTypes.Entities.{defined_in}
+use Rattle.go_rules.specs.GoTypes.TypeNames.{type_meant}
+use Rattle.go_rules.specs.GoTypes.Typing.{parts, all_parts}
 use Rattle.run_rules.specs.Surroundings.{Use, called, other, a_slot, Place, seen, head_use, later_uses, arg_uses, unary_use, operand_use, elem_use, is_bracketed, inner_slot, last_slot, in_slot, callee_place, comma_slot, elem_closed, in_literal}
 use Rattle.run_rules.specs.Places.{type_seen, sig_seen, expr_seen, all_seen, option_seen, elems_seen, key_seen, value_seen, stmts_seen}
 use Rattle.run_rules.specs.Rewriting.{new_name, new_type, new_sig, new_expr, new_all, new_option, new_elems, new_stmts}

@@ -8,7 +8,7 @@ use Rattle.go_tree.specs.declared.spans.Span.{Span}
 use Rattle.go_tree.specs.Tree.{NameAt, TypeExpr, named, pointer, slice_type, map_type, struct_type, Fields, no_fields, field, Expr}
 use Rattle.go_tree.specs.File.{Decl}
 use Rattle.go_tree.specs.FileBare.{bare_decl}
-use Rattle.go_tree.specs.ScopeNames.Scopes.{expr_span}
+use Rattle.go_rules.specs.ScopeNames.Scopes.{expr_span}
 use Rattle.order_runs.proofs.CycleLaws.BareWith.{decl-with}
 use Rattle.splice_laws.specs.Swaps.{Swap, DeclIn, DeclsIn, in_this_decl, in_later_decls}
 use Rattle.run_rules.specs.Forms.{is_at}

@@ -5,9 +5,9 @@ use Rattle.std.specs.Option.{option_map}
 use Rattle.go_tree.specs.Tree.{NameAt, Param, Sig, TypeExpr, named, Expr, ident, composite, Exprs, no_exprs, ExprOption, no_expr, Elems, no_elems, elem, Value, braced, ValueOption, no_value, Stmt, const_decl, empty, eval, return_, inner, if_, switch, Stmts, no_stmts, StmtOption, no_stmt, no_block, Arms, no_arms, Cases, no_cases, ValueSpecs, no_specs, spec}
 use Rattle.go_tree.specs.Bare.{bare_name, bare_param, bare_sig, bare_type, bare_expr, bare_exprs, bare_expr_option, bare_elems, bare_value, bare_value_option, bare_stmt, bare_stmts, bare_stmt_option, bare_arms, bare_cases, bare_value_specs}
 use Rattle.go_tree.specs.File.{Decl, values}
-use Rattle.go_tree.specs.GoTypes.Types.{GoType}
-use Rattle.go_tree.specs.GoTypes.Declarations.{Repeated}
-use Rattle.go_tree.specs.ScopeNames.Scopes.{expr_span}
+use Rattle.go_rules.specs.GoTypes.Types.{GoType}
+use Rattle.go_rules.specs.GoTypes.Declarations.{Repeated}
+use Rattle.go_rules.specs.ScopeNames.Scopes.{expr_span}
 use Rattle.run_rules.specs.Surroundings.{Use, Place}
 use Rattle.run_rules.specs.Places.{type_seen, written_seen, params_seen, sig_seen, expr_seen, all_seen, option_seen, elems_seen, key_seen, value_seen, stmt_seen, stmts_seen, first_seen, arms_seen, cases_seen, constants_seen, variables_seen}
 use Rattle.run_rules.specs.Rewriting.{new_names, new_label, new_type, new_written, new_params, new_sig, new_expr, new_all, new_option, new_elems, new_key, new_value, new_stmt, new_stmts, new_first, new_arms, new_cases, new_constants, new_variables}

@@ -4,8 +4,8 @@ use Rattle.std.specs.Prelude.{ℕ, suc, Bool, true, false, List, [], ◌∷◌, 
 use Rattle.go_tree.specs.Tree.{NameAt, TypeExpr, Expr, Exprs, ExprOption, Stmt, const_decl, var_decl, eval, step, assign, define, return_, inner, if_, for_, range_, switch, defer, label, Stmts, stmt_and, StmtOption, no_block, some_block, nothing, assigns, defines, Arms, arm, Cases, case, ValueSpecs, spec}
 use Rattle.go_tree.specs.Bare.{bare_name}
 use Rattle.go_tree.specs.declared.operators.BinOp.{BinOp}
-use Rattle.go_tree.specs.GoTypes.Bodies.{labelled}
-use Rattle.go_tree.specs.GoTypes.Declarations.{Repeated, nothing_to_repeat}
+use Rattle.go_rules.specs.GoTypes.Bodies.{labelled}
+use Rattle.go_rules.specs.GoTypes.Declarations.{Repeated, nothing_to_repeat}
 use Rattle.go_layout.specs.LayoutLaws.Formed.{is_call}
 use Rattle.run_rules.specs.Surroundings.{whole, stored, updated, deferred_call, alone, other, a_slot, Place, seen_stmt, alike, first_operand_use, right_uses, every_use, value_use, return_uses, after_stmt, after_first, block, looping, switching, in_heading, at_stmt, plain_slot, ranged, repeated_by, in_constant, after_constants, before_repeats, after_variables}
 use Rattle.run_rules.specs.Places.{written_seen, old_seen, after_arms, expr_seen, all_seen, option_seen, stmt_seen, stmts_seen, first_seen, arms_seen, cases_seen, constants_seen, variables_seen}

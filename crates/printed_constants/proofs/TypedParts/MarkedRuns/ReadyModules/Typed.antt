@@ -2,7 +2,7 @@
 use Rattle.std.proofs.Common.{◌≡◌, sym, ◌∙◌, true, ◌&&◌, List, []}
 use Rattle.go_tree.specs.declared.spans.Span.{Span}
 use Rattle.pkg_graph.specs.Package as run
-use Rattle.go_tree.specs.GoTypes.WellTyped.{well_typed}
+use Rattle.go_rules.specs.GoTypes.WellTyped.{well_typed}
 use Rattle.go_translation.specs.Packages.{Package, sources, are_distinct, are_linked, are_well_typed}
 use Rattle.run_rules.specs.Programs.{linked}
 use Rattle.run_rules.specs.Respanned.{packages_with}

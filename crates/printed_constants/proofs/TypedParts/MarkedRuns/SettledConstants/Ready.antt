@@ -6,8 +6,8 @@ use Rattle.go_tree.specs.File.{Decl}
 use Rattle.go_tree.specs.FileBare.{bare_decl, bare_file}
 use Rattle.order_runs.proofs.CycleLaws.BareWith as spans
 use Rattle.pkg_graph.specs.Package.{SourceTree, Package}
-use Rattle.go_tree.specs.GoTypes.Programs.{Program}
-use Rattle.go_tree.specs.GoTypes.WellTyped.{well_typed}
+use Rattle.go_rules.specs.GoTypes.Programs.{Program}
+use Rattle.go_rules.specs.GoTypes.WellTyped.{well_typed}
 use Rattle.run_rules.specs.Laws.{file_found}
 use Rattle.run_rules.specs.Programs.{in_dependency_order, linked_file, linked_package, linked_packages, linked}
 use Rattle.run_rules.specs.Respanned.{decls_with}

@@ -1,8 +1,8 @@
 -- A step over a constant settles its file in a program that is ready, and leaves one that is; so it keeps cycles.
 use Rattle.std.proofs.Common.{◌≡◌, refl, ap, ◌∙◌, inl, true, false, List, Option}
 use Rattle.go_tree.specs.Tree.{Expr}
-use Rattle.go_tree.specs.GoTypes.Answers.{meets}
-use Rattle.go_tree.specs.GoTypes.WellTyped.{well_typed}
+use Rattle.go_rules.specs.GoTypes.Answers.{meets}
+use Rattle.go_rules.specs.GoTypes.WellTyped.{well_typed}
 use Rattle.run_rules.specs.Cycles.{is_recursive}
 use Rattle.run_rules.specs.Programs.{linked}
 use Rattle.run_rules.specs.Run.{Standing, Logged, Next, Run, ends, goes_on}

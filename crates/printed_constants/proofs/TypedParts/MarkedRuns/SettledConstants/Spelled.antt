@@ -5,15 +5,15 @@ use Rattle.std.proofs.lemmas.Option.{same_Some}
 use Rattle.std.proofs.lemmas.Slice.Eq.{bytes_eq-Decides}
 use Rattle.go_tree.specs.Tree.{NameAt, TypeExpr, Expr, Exprs, no_exprs, expr_and, const_decl, var_decl, empty, eval, step, assign, define, return_, break_, continue_, inner, if_, for_, range_, switch, defer, label, ValueSpecs, no_specs, spec}
 use Rattle.go_tree.specs.File.{ImportSpec, TypeSpec, Receiver, Decl, values, types, func}
-use Rattle.go_tree.specs.ScopeNames.FreeNames.{names_of}
-use Rattle.go_tree.specs.ScopeNames.Identifiers.{identifiers, imports_identifiers, expr_identifiers, exprs_identifiers, specs_identifiers, type_identifiers, type_option_identifiers, type_specs_identifiers, receiver_identifiers, sig_identifiers, stmts_identifiers, decl_identifiers, decls_identifiers}
+use Rattle.go_rules.specs.ScopeNames.FreeNames.{names_of}
+use Rattle.go_rules.specs.ScopeNames.Identifiers.{identifiers, imports_identifiers, expr_identifiers, exprs_identifiers, specs_identifiers, type_identifiers, type_option_identifiers, type_specs_identifiers, receiver_identifiers, sig_identifiers, stmts_identifiers, decl_identifiers, decls_identifiers}
 use Rattle.go_layout.specs.LayoutLaws.Formed.{FormedName}
-use Rattle.go_tree.specs.ScopeNames.Means as names
-use Rattle.go_tree.specs.ScopeNames.Means.{Environment, is_blank, binding, means, numbered}
+use Rattle.go_rules.specs.ScopeNames.Means as names
+use Rattle.go_rules.specs.ScopeNames.Means.{Environment, is_blank, binding, means, numbered}
 use Rattle.pkg_graph.specs.Package.{SourceTree, Package, import_specs}
 use Rattle.pkg_graph.specs.Members.{Target, imported, member, import_name, name_or, package_name, specs_names, block_names, unless_method, items_from, decls_from, files_from, package_block}
 use Rattle.pkg_graph.specs.Members as members
-use Rattle.go_tree.specs.GoTypes.Answers.{given}
+use Rattle.go_rules.specs.GoTypes.Answers.{given}
 use Rattle.constant_steps.specs.FormImports.Written.{NoneUnnamed}
 use Rattle.run_rules.specs.Naming.{unnamed_package}
 use Rattle.run_rules.specs.Respanned.{expr_with, exprs_with, specs_with, name_with, type_spec_with, type_option_with, decl_with, decls_with, file_with, func_with}

@@ -7,18 +7,18 @@ use Rattle.go_tree.specs.declared.spans.Span.{Span}
 use Rattle.go_tree.specs.File.{ImportSpec, ImportDecl, File}
 use Rattle.go_tree.specs.GoWords.Tokens.Pieces as pieces
 use Rattle.go_tree.specs.GoWords.Tokens.Pieces.{keyword_spellings}
-use Rattle.go_tree.specs.ScopeNames.Fresh.{is_new}
-use Rattle.go_tree.specs.ScopeNames.Identifiers.{identifiers}
-use Rattle.go_tree.specs.ScopeNames.Means.{is_blank, predeclared}
-use Rattle.go_tree.specs.declared.scope_names.names.ImportName.{ImportName}
+use Rattle.go_rules.specs.ScopeNames.Fresh.{is_new}
+use Rattle.go_rules.specs.ScopeNames.Identifiers.{identifiers}
+use Rattle.go_rules.specs.ScopeNames.Means.{is_blank, predeclared}
+use Rattle.go_rules.specs.declared.scope_names.names.ImportName.{ImportName}
 use Rattle.run_rules.specs.declared.import_rules.new_import.NewImport.{NewImport}
 use Rattle.run_rules.specs.ImportRules.Needs.{serving, avoided}
 use Rattle.pkg_graph.specs.Package.{SourceTree, Package, specs_in, import_specs}
 use Rattle.pkg_graph.specs.Members.{package_name, name_or, import_name}
-use Rattle.go_tree.specs.GoTypes.Answers.{is_among}
-use Rattle.go_tree.specs.GoTypes.Programs as typed
-use Rattle.go_tree.specs.GoTypes.Programs.{Import, is_init, import_sound, names_in, all_headers}
-use Rattle.go_tree.specs.GoTypes.WellTyped.{well_typed}
+use Rattle.go_rules.specs.GoTypes.Answers.{is_among}
+use Rattle.go_rules.specs.GoTypes.Programs as typed
+use Rattle.go_rules.specs.GoTypes.Programs.{Import, is_init, import_sound, names_in, all_headers}
+use Rattle.go_rules.specs.GoTypes.WellTyped.{well_typed}
 use Rattle.typed_in_place.specs.ImportRule.{imports_sound, import_names}
 use Rattle.typed_in_place.specs.ProgramsAlike.{OneByOne, no_more, and_more}
 use Rattle.typed_in_place.proofs.Rising.{and_first, and_second}

@@ -2,10 +2,10 @@
 use Rattle.std.proofs.Common.{◌≡◌, ◌∙◌, refl, sym, ap, ℕ, suc, Bool, List, [], ◌∷◌, ◌++◌, map, Option, Some, None}
 use Rattle.go_tree.specs.Tree.{NameAt, Param, named, const_decl, var_decl, Expr, ValueSpecs, no_specs, spec}
 use Rattle.go_tree.specs.File.{TypeSpec, Receiver, Func, Decl, values, types, func, File}
-use Rattle.go_tree.specs.ScopeNames.FreeNames.{names_of}
-use Rattle.go_tree.specs.ScopeNames.Scopes.{not_blank, param_names}
+use Rattle.go_rules.specs.ScopeNames.FreeNames.{names_of}
+use Rattle.go_rules.specs.ScopeNames.Scopes.{not_blank, param_names}
 use Rattle.pkg_graph.specs.Package.{Package}
-use Rattle.go_tree.specs.GoTypes.Answers.{is_among}
+use Rattle.go_rules.specs.GoTypes.Answers.{is_among}
 use Rattle.run_rules.specs.Surroundings.{Place, Seen, in_constant}
 use Rattle.run_rules.specs.Programs.{world, headed_func, top_place, body_place, with_receiver, constants_at_top, variables_at_top, types_at_top, receiver_seen, func_seen, decl_seen}
 use Rattle.run_rules.specs.Rewriting.{Changes, new_sig, new_stmts}

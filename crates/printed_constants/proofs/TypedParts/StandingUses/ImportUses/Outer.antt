@@ -3,13 +3,13 @@ use Rattle.std.proofs.Common.{◌≡◌, ◌∙◌, refl, sym, ap, ℕ, zero, su
 use Rattle.std.proofs.lemmas.Bool.Decides.{nat_tests}
 use Rattle.go_tree.specs.Tree.{NameAt}
 use Rattle.go_tree.specs.File.{ImportSpec, ImportDecl, Decl, File}
-use Rattle.go_tree.specs.ScopeNames.FreeNames.{names_of}
-use Rattle.go_tree.specs.ScopeNames.Means.{Environment, means, is_blank, binding, numbered, or_else}
-use Rattle.go_tree.specs.ScopeNames.Means as universe
+use Rattle.go_rules.specs.ScopeNames.FreeNames.{names_of}
+use Rattle.go_rules.specs.ScopeNames.Means.{Environment, means, is_blank, binding, numbered, or_else}
+use Rattle.go_rules.specs.ScopeNames.Means as universe
 use Rattle.scope_tables.proofs.TableLaws.{first_of}
 use Rattle.pkg_graph.specs.Package.{SourceTree, Package, import_specs, specs_in}
 use Rattle.pkg_graph.specs.Members.{Target, imported, member, predeclared, name_or, package_name, import_name, block_names, items_from, decls_from, files_from, package_block}
-use Rattle.go_tree.specs.GoTypes.Answers.{given, is_among}
+use Rattle.go_rules.specs.GoTypes.Answers.{given, is_among}
 use Rattle.run_rules.specs.Surroundings.{Place, is_local}
 use Rattle.run_rules.specs.Sites.{Where, imported_by, outer}
 use Rattle.run_rules.specs.Steps.{change_nth, means_import, with_file, named_by_import}

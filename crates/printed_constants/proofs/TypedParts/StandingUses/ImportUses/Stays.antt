@@ -1,10 +1,10 @@
 -- Where expressions alone are replaced, what is declared stays.
 use Rattle.std.proofs.Common.{◌≡◌, refl, ap, ℕ, suc, Bool, false, if◌then◌else◌, List, [], ◌∷◌, ◌++◌, Option, Some, None}
 use Rattle.go_tree.specs.Tree.{NameAt, Param, Sig, Expr, Stmt, const_decl, var_decl, empty, eval, step, assign, define, inner, return_, break_, continue_, if_, for_, range_, switch, defer, label, StmtOption, no_stmt, some_stmt, RangeLeft, nothing, assigns, defines, ValueSpecs, no_specs, spec}
-use Rattle.go_tree.specs.ScopeNames.Scopes.{not_blank, specs_declare}
-use Rattle.go_tree.specs.ScopeNames.Scopes as scopes
-use Rattle.go_tree.specs.GoTypes.Bodies.{labelled}
-use Rattle.go_tree.specs.GoTypes.Declarations.{Repeated, nothing_to_repeat}
+use Rattle.go_rules.specs.ScopeNames.Scopes.{not_blank, specs_declare}
+use Rattle.go_rules.specs.ScopeNames.Scopes as scopes
+use Rattle.go_rules.specs.GoTypes.Bodies.{labelled}
+use Rattle.go_rules.specs.GoTypes.Declarations.{Repeated, nothing_to_repeat}
 use Rattle.run_rules.specs.Surroundings.{Place, plain_slot, repeated_by, after_constants, after_variables, first_declares, left_declares}
 use Rattle.run_rules.specs.Rewriting.{Changes, new_label, new_names, new_params, new_sig, new_stmt, new_first, new_left, new_constants, new_variables}
 

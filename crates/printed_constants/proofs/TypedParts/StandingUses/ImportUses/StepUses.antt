@@ -7,14 +7,14 @@ use Rattle.std.proofs.lemmas.Bool.Decides.{nat_tests}
 use Rattle.go_tree.specs.declared.spans.Span.{Span}
 use Rattle.go_tree.specs.Tree.{TypeExpr, named, pointer, slice_type, map_type, struct_type, Expr, ident, int_lit, rune_lit, str_lit, composite, selector, index, slice, call, func_lit, type_operand, unary, binary, star}
 use Rattle.go_tree.specs.File.{Decl, File, ImportDecl}
-use Rattle.go_tree.specs.declared.scope_names.names.FileNames.{FileNames}
-use Rattle.go_tree.specs.declared.scope_names.names.ImportName.{ImportName}
-use Rattle.go_tree.specs.ScopeNames.FreeNames.{names_of}
-use Rattle.go_tree.specs.ScopeNames.Scopes.{expr_span}
+use Rattle.go_rules.specs.declared.scope_names.names.FileNames.{FileNames}
+use Rattle.go_rules.specs.declared.scope_names.names.ImportName.{ImportName}
+use Rattle.go_rules.specs.ScopeNames.FreeNames.{names_of}
+use Rattle.go_rules.specs.ScopeNames.Scopes.{expr_span}
 use Rattle.scope_tables.specs.Table.{Table}
 use Rattle.pkg_graph.specs.Package.{Package, import_specs}
 use Rattle.pkg_graph.specs.Members.{import_name}
-use Rattle.go_tree.specs.GoTypes.Answers.{is_among}
+use Rattle.go_rules.specs.GoTypes.Answers.{is_among}
 use Rattle.constant_steps.specs.FormImports.ImportLaws.Steps.{used_before, used_after}
 use Rattle.run_rules.specs.Surroundings.{Place, Seen, seen, seen_type, seen_stmt}
 use Rattle.run_rules.specs.Programs.{decl_seen}

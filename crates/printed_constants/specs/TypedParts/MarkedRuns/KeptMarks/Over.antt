@@ -2,7 +2,7 @@
 -- declarations; Qualified identifiers; Package clause).
 use Rattle.std.specs.Prelude.{◌≡◌, ℕ, false, List}
 use Rattle.go_tree.specs.Tree.{Expr}
-use Rattle.go_tree.specs.ScopeNames.Means.{is_blank}
+use Rattle.go_rules.specs.ScopeNames.Means.{is_blank}
 use Rattle.run_rules.specs.Naming.{names_by}
 use Rattle.run_rules.specs.Sites.{MarkRef, an_expr}
 use Rattle.run_rules.specs.Steps.{At}

@@ -6,9 +6,9 @@ use Rattle.go_tree.specs.declared.spans.Span.{Span}
 use Rattle.go_tree.specs.Tree.{Expr}
 use Rattle.pkg_graph.specs.Package as run
 use Rattle.pkg_graph.specs.Reads.{Source}
-use Rattle.go_tree.specs.GoTypes.Entities.{World}
-use Rattle.go_tree.specs.GoTypes.Programs.{SourceFile, Program, Headed, headed}
-use Rattle.go_tree.specs.GoTypes.Collect.{collected}
+use Rattle.go_rules.specs.GoTypes.Entities.{World}
+use Rattle.go_rules.specs.GoTypes.Programs.{SourceFile, Program, Headed, headed}
+use Rattle.go_rules.specs.GoTypes.Collect.{collected}
 use Rattle.typed_in_place.specs.ImportRule.{imports_used, package_imports}
 use Rattle.go_translation.specs.Packages.{Package, sources, are_linked}
 use Rattle.go_translation.specs.SameMeaning.{WellTyped}

@@ -3,7 +3,7 @@
 use Rattle.std.specs.Prelude.{◌≡◌, true, List}
 use Rattle.go_tree.specs.FileBare.{bare_file}
 use Rattle.go_tree.specs.Tree.{Expr}
-use Rattle.go_tree.specs.GoTypes.WellTyped.{well_typed}
+use Rattle.go_rules.specs.GoTypes.WellTyped.{well_typed}
 use Rattle.pkg_graph.specs.Package.{Package}
 use Rattle.run_rules.specs.Cycles.{is_recursive}
 use Rattle.run_rules.specs.Laws.{file_found}

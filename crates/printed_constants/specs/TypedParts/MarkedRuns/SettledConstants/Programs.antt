@@ -2,7 +2,7 @@
 -- declarations; Passing arguments to ... parameters; Qualified identifiers).
 use Rattle.std.specs.Prelude.{◌≡◌, true, List}
 use Rattle.go_tree.specs.Tree.{Expr}
-use Rattle.go_tree.specs.GoTypes.WellTyped.{well_typed}
+use Rattle.go_rules.specs.GoTypes.WellTyped.{well_typed}
 use Rattle.run_rules.specs.Programs.{linked}
 use Rattle.run_rules.specs.Run.{Standing, Logged, Next, Run, ends, goes_on}
 use Rattle.run_rules.specs.Sites.{MarkRef, an_expr}

@@ -10,7 +10,7 @@ use Rattle.pkg_graph.specs.Package as run
 use Rattle.pkg_graph.specs.Reads.{Source}
 use Rattle.go_kernel.specs.Kernel.{FuncName}
 use Rattle.go_translation.specs.SameMeaning.{WellTyped, SameMeaning}
-use Rattle.go_tree.specs.GoTypes.WellTyped.{well_typed}
+use Rattle.go_rules.specs.GoTypes.WellTyped.{well_typed}
 use Rattle.run_rules.specs.Programs.{linked}
 use Rattle.run_rules.specs.Cycles.{is_recursive}
 use Rattle.run_rules.specs.Sites.{MarkRef}

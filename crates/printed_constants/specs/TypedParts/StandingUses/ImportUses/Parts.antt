@@ -3,10 +3,10 @@
 use Rattle.std.specs.Prelude.{◌≡◌, ℕ, Bool, true, false, List, [], ◌∷◌, Some, is_some}
 use Rattle.go_tree.specs.Tree.{NameAt, Expr, ident, composite, selector, func_lit}
 use Rattle.pkg_graph.specs.Package.{Package}
-use Rattle.go_tree.specs.GoTypes.Answers.{given}
-use Rattle.go_tree.specs.GoTypes.Defined.{under}
-use Rattle.go_tree.specs.GoTypes.Entities.{defined_in}
-use Rattle.go_tree.specs.GoTypes.TypeNames.{type_meant, func_type}
+use Rattle.go_rules.specs.GoTypes.Answers.{given}
+use Rattle.go_rules.specs.GoTypes.Defined.{under}
+use Rattle.go_rules.specs.GoTypes.Entities.{defined_in}
+use Rattle.go_rules.specs.GoTypes.TypeNames.{type_meant, func_type}
 use Rattle.run_rules.specs.Surroundings.{Use, other, a_slot, in_slot, inner_slot, Place, Seen, seen, is_local}
 use Rattle.run_rules.specs.Sites.{Where}
 use Rattle.run_rules.specs.Steps.{named_by_import}

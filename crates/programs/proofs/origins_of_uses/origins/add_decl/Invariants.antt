@@ -1,6 +1,6 @@
 use Rattle.std.proofs.Common.{◌≡◌, drop, map}
 use Rattle.go_tree.specs.declared.spans.Span.{Span}
-use Rattle.go_tree.specs.ScopeNames.Means.{or_else}
+use Rattle.go_rules.specs.ScopeNames.Means.{or_else}
 use Rattle.member_uses.specs.PossibleUses.Views.{part_of}
 use Rattle.programs.specs.OriginsOfUses.Origins.{at_span, first_origin}
 use Rattle.programs.proofs.origins_of_uses.origins.add_decl.Given as goal

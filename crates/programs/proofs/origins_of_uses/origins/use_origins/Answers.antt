@@ -1,7 +1,7 @@
 use Rattle.std.proofs.Common.{◌∙◌, ◌<◌, ap, length, arith, List}
 use Rattle.go_tree.specs.declared.spans.Span.{Span}
 use Rattle.go_tree.specs.FileView.{decl_of}
-use Rattle.go_tree.specs.ScopeNames.Means.{or_else}
+use Rattle.go_rules.specs.ScopeNames.Means.{or_else}
 use Rattle.member_uses.specs.PossibleUses.Parts.{parts_of}
 use Rattle.programs.specs.OriginsOfUses.Origins.{at_span, first_origin}
 use Rattle.programs.proofs.OriginsOfUses.Tables.{counted, within, next_decl}

@@ -1,4 +1,4 @@
-use Rattle.go_tree.specs.ScopeNames.Scopes.{environment_at}
+use Rattle.go_rules.specs.ScopeNames.Scopes.{environment_at}
 use Rattle.run_rules.proofs.ImportRules.NeedLaws.{one_is_needed}
 use Rattle.run_rules.proofs.import_rules.laws.one_name_is_needed.Goals as goal
 

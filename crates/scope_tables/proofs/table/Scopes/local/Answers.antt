@@ -1,5 +1,5 @@
 use Rattle.std.proofs.Common.{◌∙◌, ℕ, List, [], Some, None, sym, ap, option_map, position, slice_get, bytes_eq}
-use Rattle.go_tree.specs.declared.scope_names.names.Entity.TheVariants.{Local}
+use Rattle.go_rules.specs.declared.scope_names.names.Entity.TheVariants.{Local}
 use Rattle.scope_tables.specs.NamedScopes.{Extent, innermost}
 use Rattle.scope_tables.specs.declared.rows.Row.{Row}
 use Rattle.scope_tables.specs.Table.{part_of}

@@ -1,8 +1,8 @@
 use Rattle.std.proofs.Common.{◌∙◌, ap, ap₂, codes, sym}
 use Rattle.go_tree.specs.View.{sig_of}
-use Rattle.go_tree.specs.GoTypes.Answers.{without}
-use Rattle.go_tree.specs.GoTypes.Declarations.{not_blank}
-use Rattle.go_tree.specs.ScopeNames.FreeNames.{sig_names}
+use Rattle.go_rules.specs.GoTypes.Answers.{without}
+use Rattle.go_rules.specs.GoTypes.Declarations.{not_blank}
+use Rattle.go_rules.specs.ScopeNames.FreeNames.{sig_names}
 use Rattle.jump_rules.specs.UsedLocals.Used.{and_names, set_name}
 use Rattle.statement_walk.proofs.FunctionLiterals.EndLemmas.{blank_restored, no_blank}
 use Rattle.statement_walk.proofs.function_literals.ends.end_params.Goals as goal

@@ -1,7 +1,7 @@
 use Rattle.std.proofs.Common.{◌∙◌, Some, ap, subst, sym}
-use Rattle.go_tree.specs.GoTypes.Answers.{only_if}
-use Rattle.go_tree.specs.GoTypes.Entities.{elsewhere}
-use Rattle.go_tree.specs.GoTypes.Operands.{a_function}
+use Rattle.go_rules.specs.GoTypes.Answers.{only_if}
+use Rattle.go_rules.specs.GoTypes.Entities.{elsewhere}
+use Rattle.go_rules.specs.GoTypes.Operands.{a_function}
 use Rattle.operator_rules.specs.AccessRules.Functions.{types_at}
 use Rattle.func_types.specs.Answers.{func_of}
 use Rattle.operand_modes.specs.OperandAnswers.Located.{GivesAt}

@@ -1,8 +1,8 @@
 use Rattle.std.proofs.Common.{◌∷◌, Err, map, subst, sym}
 use Rattle.std.specs.Option.{option_map}
 use Rattle.go_tree.specs.View.{name_at_of, param_of}
-use Rattle.go_tree.specs.GoTypes.Bodies.{param_binding, param_binds}
-use Rattle.go_tree.specs.GoTypes.Entities.{extend}
+use Rattle.go_rules.specs.GoTypes.Bodies.{param_binding, param_binds}
+use Rattle.go_rules.specs.GoTypes.Entities.{extend}
 use Rattle.func_types.specs.Answers.{types_at}
 use Rattle.type_table.specs.TypeRelations.Environment.{env_type}
 use Rattle.assignment_steps.proofs.DeclaredBlocks.BlockLemmas.{none_left, within_on}

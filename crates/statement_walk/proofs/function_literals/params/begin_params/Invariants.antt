@@ -1,6 +1,6 @@
 use Rattle.std.proofs.Common.{◌≡◌, drop, false, map}
 use Rattle.go_tree.specs.View.{param_of}
-use Rattle.go_tree.specs.ScopeNames.FreeNames.{params_names}
+use Rattle.go_rules.specs.ScopeNames.FreeNames.{params_names}
 use Rattle.jump_rules.specs.UsedLocals.Pending.{all_begun}
 use Rattle.jump_rules.specs.UsedLocals.Used.{used_of}
 use Rattle.statement_walk.proofs.function_literals.params.begin_params.Given as goal

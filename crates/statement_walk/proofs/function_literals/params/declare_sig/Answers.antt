@@ -1,8 +1,8 @@
 use Rattle.std.proofs.Common.{◌++◌, Err, List, map, subst}
 use Rattle.go_tree.specs.declared.types.Param.{Param}
 use Rattle.go_tree.specs.View.{param_of}
-use Rattle.go_tree.specs.GoTypes.Bodies.{param_binds}
-use Rattle.go_tree.specs.GoTypes.Entities.{Binds, extend}
+use Rattle.go_rules.specs.GoTypes.Bodies.{param_binds}
+use Rattle.go_rules.specs.GoTypes.Entities.{Binds, extend}
 use Rattle.func_types.specs.Answers.{types_at}
 use Rattle.type_table.specs.declared.nodes.TypeId.{TypeId}
 use Rattle.assignment_steps.proofs.DeclaredBlocks.BlockLemmas.{within_on}

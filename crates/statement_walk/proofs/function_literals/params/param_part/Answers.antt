@@ -1,7 +1,7 @@
 use Rattle.std.proofs.Common.{◌≡◌, false, map, subst}
 use Rattle.go_tree.specs.View.{param_of, sig_of}
-use Rattle.go_tree.specs.GoTypes.Entities.{in_block}
-use Rattle.go_tree.specs.ScopeNames.FreeNames.{params_names}
+use Rattle.go_rules.specs.GoTypes.Entities.{in_block}
+use Rattle.go_rules.specs.ScopeNames.FreeNames.{params_names}
 use Rattle.func_types.specs.Answers.{func_of}
 use Rattle.jump_rules.specs.UsedLocals.Pending.{all_begun}
 use Rattle.jump_rules.specs.UsedLocals.Used.{used_of}

@@ -1,7 +1,7 @@
 use Rattle.std.proofs.Common.{◌≡◌, ◌∙◌, subst, sym}
-use Rattle.go_tree.specs.GoTypes.Answers.{meets}
-use Rattle.go_tree.specs.GoTypes.Operands.{typed}
-use Rattle.go_tree.specs.GoTypes.Statements.{range_assigns}
+use Rattle.go_rules.specs.GoTypes.Answers.{meets}
+use Rattle.go_rules.specs.GoTypes.Operands.{typed}
+use Rattle.go_rules.specs.GoTypes.Statements.{range_assigns}
 use Rattle.type_table.specs.TypeRelations.Environment.{defined_types}
 use Rattle.operand_modes.specs.Operands.{operand_at}
 use Rattle.operand_modes.specs.OperandAnswers.Located.{GivesAt, IsThereIfOk}

@@ -1,7 +1,7 @@
 use Rattle.std.proofs.Common.{◌∙◌, ap, is_some, subst, sym}
-use Rattle.go_tree.specs.GoTypes.Answers.{meets}
-use Rattle.go_tree.specs.GoTypes.Operands.{Typed, typed}
-use Rattle.go_tree.specs.GoTypes.Statements as go
+use Rattle.go_rules.specs.GoTypes.Answers.{meets}
+use Rattle.go_rules.specs.GoTypes.Operands.{Typed, typed}
+use Rattle.go_rules.specs.GoTypes.Statements as go
 use Rattle.type_table.specs.TypeRelations.Environment.{defined_types}
 use Rattle.operand_modes.specs.Operands.{IsOperand, operand_at}
 use Rattle.operand_modes.proofs.OperandAnswers.AnswerLemmas.{single_is}

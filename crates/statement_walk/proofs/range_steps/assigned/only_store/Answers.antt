@@ -1,5 +1,5 @@
 use Rattle.std.proofs.Common.{◌∙◌, ap, sym}
-use Rattle.go_tree.specs.GoTypes.Answers.{given}
+use Rattle.go_rules.specs.GoTypes.Answers.{given}
 use Rattle.statement_walk.specs.RangeSteps.Ranges.{stored_type}
 use Rattle.statement_walk.proofs.range_steps.assigned.only_store.Goals as goal
 

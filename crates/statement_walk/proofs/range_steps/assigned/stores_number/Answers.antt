@@ -1,5 +1,5 @@
 use Rattle.std.proofs.Common.{◌∙◌, ◌&&◌, ap, sym}
-use Rattle.go_tree.specs.GoTypes.Operands.{fits}
+use Rattle.go_rules.specs.GoTypes.Operands.{fits}
 use Rattle.type_table.specs.TypeRelations.Environment.{defined_types, env_type}
 use Rattle.type_table.specs.OperandRules.Values.{typed_of}
 use Rattle.statement_walk.proofs.range_steps.assigned.stores_number.Goals as goal

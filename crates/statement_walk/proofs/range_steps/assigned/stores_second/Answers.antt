@@ -1,5 +1,5 @@
 use Rattle.std.proofs.Common.{◌∙◌, ◌&&◌, [], IfSome, ap, ap₂, subst, sym}
-use Rattle.go_tree.specs.GoTypes.Statements.{range_stores}
+use Rattle.go_rules.specs.GoTypes.Statements.{range_stores}
 use Rattle.type_table.specs.TypeRelations.Environment.{defined_types}
 use Rattle.type_table.specs.declared.operand_rules.values.ValueType.TheVariants.{Typed}
 use Rattle.type_table.specs.OperandRules.Values.{IsType}

@@ -1,5 +1,5 @@
 use Rattle.std.proofs.Common.{◌∙◌, ◌&&◌, ap, subst, sym}
-use Rattle.go_tree.specs.GoTypes.Statements.{range_stores}
+use Rattle.go_rules.specs.GoTypes.Statements.{range_stores}
 use Rattle.type_table.specs.TypeRelations.Environment.{defined_types}
 use Rattle.assignment_steps.specs.Targets.{AreTargets, targets_of}
 use Rattle.statement_walk.specs.RangeSteps.Ranges.{listed, second_of}

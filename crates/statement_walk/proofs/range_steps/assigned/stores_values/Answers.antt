@@ -1,6 +1,6 @@
 use Rattle.std.proofs.Common.{◌∙◌, ap, sym}
-use Rattle.go_tree.specs.GoTypes.Answers.{meets}
-use Rattle.go_tree.specs.GoTypes.Statements.{range_stores}
+use Rattle.go_rules.specs.GoTypes.Answers.{meets}
+use Rattle.go_rules.specs.GoTypes.Statements.{range_stores}
 use Rattle.type_table.specs.TypeRelations.Environment.{defined_types}
 use Rattle.assignment_steps.specs.Targets.{targets_of}
 use Rattle.statement_walk.specs.RangeSteps.Ranges.{listed_option}

@@ -1,7 +1,7 @@
 use Rattle.std.proofs.Common.{◌∙◌, ◌&&◌, ap, subst, sym}
-use Rattle.go_tree.specs.GoTypes.Operands.{fits}
-use Rattle.go_tree.specs.GoTypes.Relations.{is_whole_number}
-use Rattle.go_tree.specs.GoTypes.Statements.{range_assigns}
+use Rattle.go_rules.specs.GoTypes.Operands.{fits}
+use Rattle.go_rules.specs.GoTypes.Relations.{is_whole_number}
+use Rattle.go_rules.specs.GoTypes.Statements.{range_assigns}
 use Rattle.type_table.specs.TypeRelations.Environment.{defined_types, env_type}
 use Rattle.type_table.specs.OperandRules.Values.{IsType, content_of, type_of}
 use Rattle.assignment_steps.specs.Targets.{targets_of}

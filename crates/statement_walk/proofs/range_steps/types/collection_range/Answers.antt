@@ -1,5 +1,5 @@
 use Rattle.std.proofs.Common.{◌∙◌, ap, subst, sym}
-use Rattle.go_tree.specs.GoTypes.Defined.{under}
+use Rattle.go_rules.specs.GoTypes.Defined.{under}
 use Rattle.type_table.specs.TypeRelations.Environment.{defined_types}
 use Rattle.type_table.specs.OperandRules.Values.{IsType, type_of}
 use Rattle.statement_walk.specs.RangeSteps.Ranges.{collection_types}

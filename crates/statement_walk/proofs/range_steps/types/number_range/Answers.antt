@@ -1,5 +1,5 @@
 use Rattle.std.proofs.Common.{◌∙◌, ◌∷◌, [], IfSome, Some, ap, subst, sym}
-use Rattle.go_tree.specs.GoTypes.Answers.{given, only_if}
+use Rattle.go_rules.specs.GoTypes.Answers.{given, only_if}
 use Rattle.type_table.specs.TypeRelations.Environment.{defined_types, env_type}
 use Rattle.type_table.specs.declared.operand_rules.values.ValueType.TheVariants.{Typed}
 use Rattle.type_table.specs.OperandRules.Values.{IsType}

@@ -1,5 +1,5 @@
 use Rattle.std.proofs.Common.{◌∙◌, ◌∷◌, [], IfSome, Some, ap, ap₂, subst, sym}
-use Rattle.go_tree.specs.declared.const_eval.kinds.Kind.TheVariants.{Int}
+use Rattle.go_rules.specs.declared.const_eval.kinds.Kind.TheVariants.{Int}
 use Rattle.type_table.specs.TypeRelations.Environment.{env_type}
 use Rattle.type_table.specs.declared.operand_rules.values.ValueType.TheVariants.{Typed}
 use Rattle.type_table.specs.OperandRules.Values.{IsType}

@@ -1,8 +1,8 @@
 use Rattle.std.specs.Prelude.{◌≡◌, map}
 use Rattle.std.proofs.Common.{◌∙◌, ◌+◌, ap, drop, refl, subst, sym}
 use Rattle.go_tree.specs.View.{name_at_of}
-use Rattle.go_tree.specs.ScopeNames.FreeNames.{names_of}
-use Rattle.go_tree.specs.ScopeNames.Means.{is_blank}
+use Rattle.go_rules.specs.ScopeNames.FreeNames.{names_of}
+use Rattle.go_rules.specs.ScopeNames.Means.{is_blank}
 use Rattle.typed_names.proofs.TypeExprs.NewNames.{drop_all, drop_item}
 use Rattle.statement_walk.specs.RangeSteps.Ranges.{some_named}
 use Rattle.statement_walk.proofs.RangeSteps.VariableLemmas.{named_already, named_later}

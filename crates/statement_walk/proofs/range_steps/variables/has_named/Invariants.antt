@@ -1,7 +1,7 @@
 use Rattle.std.specs.Prelude.{◌≡◌, map}
 use Rattle.std.proofs.Common.{drop}
 use Rattle.go_tree.specs.View.{name_at_of}
-use Rattle.go_tree.specs.ScopeNames.FreeNames.{names_of}
+use Rattle.go_rules.specs.ScopeNames.FreeNames.{names_of}
 use Rattle.statement_walk.specs.RangeSteps.Ranges.{some_named}
 use Rattle.statement_walk.proofs.range_steps.variables.has_named.Given as goal
 

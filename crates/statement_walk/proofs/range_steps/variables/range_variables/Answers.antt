@@ -1,6 +1,6 @@
 use Rattle.std.proofs.Common.{map, subst}
 use Rattle.go_tree.specs.View.{name_at_of}
-use Rattle.go_tree.specs.ScopeNames.FreeNames.{names_of}
+use Rattle.go_rules.specs.ScopeNames.FreeNames.{names_of}
 use Rattle.type_table.specs.TypeRelations.Environment.{defined_types}
 use Rattle.operand_modes.specs.OperandAnswers.Located.{GivesAt, IsThereIfOk}
 use Rattle.statement_walk.proofs.RangeSteps.VariableLemmas.{variables_lifted, variables_refused}

@@ -1,6 +1,6 @@
 use Rattle.std.proofs.Common.{◌∙◌, ◌++◌, ◌∷◌, [], arith, ap, Ok, subst, sym}
 use Rattle.type_table.specs.TypeRelations.Environment.{defined_types}
-use Rattle.go_tree.specs.GoTypes.Statements.{range_binds}
+use Rattle.go_rules.specs.GoTypes.Statements.{range_binds}
 use Rattle.typed_names.specs.declared.entities.Entity.TheVariants.{Variable}
 use Rattle.control_steps.specs.DeclarationSteps.Entities.{GivesBinds}
 use Rattle.statement_walk.specs.RangeSteps.Ranges.{listed}

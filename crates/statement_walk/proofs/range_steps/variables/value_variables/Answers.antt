@@ -1,9 +1,9 @@
 use Rattle.std.proofs.Common.{◌∙◌, ap, map, refl, subst, sym}
 use Rattle.go_tree.specs.View.{name_at_of}
-use Rattle.go_tree.specs.GoTypes.Answers.{given}
-use Rattle.go_tree.specs.GoTypes.Declarations.{some_declared}
-use Rattle.go_tree.specs.GoTypes.Statements as go
-use Rattle.go_tree.specs.ScopeNames.FreeNames.{names_of}
+use Rattle.go_rules.specs.GoTypes.Answers.{given}
+use Rattle.go_rules.specs.GoTypes.Declarations.{some_declared}
+use Rattle.go_rules.specs.GoTypes.Statements as go
+use Rattle.go_rules.specs.ScopeNames.FreeNames.{names_of}
 use Rattle.type_table.specs.TypeRelations.Environment.{defined_types}
 use Rattle.type_table.specs.OperandRules.Values.{typed_of}
 use Rattle.assignment_steps.specs.SpecSteps.Specs.{GivesVariables}

@@ -1,8 +1,8 @@
 use Rattle.std.proofs.Common.{◌∙◌, Some, false, subst}
 use Rattle.go_tree.specs.View.{exprs_of}
-use Rattle.go_tree.specs.GoTypes.Answers.{both, only_if}
-use Rattle.go_tree.specs.GoTypes.Statements.{updates}
-use Rattle.go_tree.specs.GoTypes.Typing as go
+use Rattle.go_rules.specs.GoTypes.Answers.{both, only_if}
+use Rattle.go_rules.specs.GoTypes.Statements.{updates}
+use Rattle.go_rules.specs.GoTypes.Typing as go
 use Rattle.operand_modes.specs.OperandAnswers.Lists.{GivesAll}
 use Rattle.operand_modes.proofs.OperandAnswers.KeptLemmas.{all_kept, env_kept, stands_kept}
 use Rattle.control_steps.specs.Ends.{EndsAs}

@@ -1,8 +1,8 @@
 use Rattle.std.proofs.Common.{◌∷◌, [], Some, false, subst}
 use Rattle.go_tree.specs.View.{expr_of}
-use Rattle.go_tree.specs.GoTypes.Answers.{given, only_if}
-use Rattle.go_tree.specs.GoTypes.Statements.{one_more, step_op, updates}
-use Rattle.go_tree.specs.GoTypes.Typing.{parts, place}
+use Rattle.go_rules.specs.GoTypes.Answers.{given, only_if}
+use Rattle.go_rules.specs.GoTypes.Statements.{one_more, step_op, updates}
+use Rattle.go_rules.specs.GoTypes.Typing.{parts, place}
 use Rattle.operand_modes.proofs.OperandAnswers.KeptLemmas.{stands_kept}
 use Rattle.control_steps.specs.Ends.{EndsAs}
 use Rattle.expr_walk.proofs.WalkArms.ExprArms.{at, expr_there}

@@ -1,8 +1,8 @@
 use Rattle.std.proofs.Common.{◌∙◌, ap, subst, sym}
 use Rattle.go_tree.specs.Tree as tree
 use Rattle.go_tree.specs.View.{expr_of, exprs_of}
-use Rattle.go_tree.specs.GoTypes.Statements.{is_panic}
-use Rattle.go_tree.specs.GoTypes.Typing as go
+use Rattle.go_rules.specs.GoTypes.Statements.{is_panic}
+use Rattle.go_rules.specs.GoTypes.Typing as go
 use Rattle.expr_walk.specs.Walked.{IsWalkedAt}
 use Rattle.expr_walk.proofs.LaterWalks.{walked_later}
 use Rattle.expr_walk.proofs.WalkArms.ExprArms.{at, read_before}

@@ -1,6 +1,6 @@
 use Rattle.std.proofs.Common.{◌∙◌, subst, sym}
 use Rattle.go_tree.specs.View.{expr_of}
-use Rattle.go_tree.specs.GoTypes.Typing.{parts, place}
+use Rattle.go_rules.specs.GoTypes.Typing.{parts, place}
 use Rattle.assignment_steps.specs.Targets.{GivesTarget}
 use Rattle.expr_walk.proofs.WalkArms.ExprArms.{at, expr_there}
 use Rattle.statement_walk.proofs.SimpleWalk.TargetWalks.{blank_stored, others_stored}

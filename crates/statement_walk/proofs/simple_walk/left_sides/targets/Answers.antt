@@ -1,7 +1,7 @@
 use Rattle.std.proofs.Common.{◌+◌, Err, Ok, drop, map, subst, sym}
 use Rattle.go_tree.specs.Lists.{exprs_from}
 use Rattle.go_tree.specs.View.{expr_of}
-use Rattle.go_tree.specs.GoTypes.Typing as go
+use Rattle.go_rules.specs.GoTypes.Typing as go
 use Rattle.typed_names.proofs.TypeExprs.NewNames.{drop_all, drop_item}
 use Rattle.assignment_steps.specs.Targets.{GivesTarget, GivesTargets}
 use Rattle.expr_walk.specs.Walked.{AreAllWalkedAt}

@@ -1,6 +1,6 @@
 use Rattle.std.specs.Option.{option_map}
 use Rattle.go_tree.specs.View.{name_at_of}
-use Rattle.go_tree.specs.GoTypes.Bodies.{may_break}
+use Rattle.go_rules.specs.GoTypes.Bodies.{may_break}
 use Rattle.statement_walk.proofs.simple_walk.returns.break_out.Goals as goal
 
 pub returns : goal.returns

@@ -1,6 +1,6 @@
 use Rattle.std.proofs.Common.{sym}
 use Rattle.go_tree.specs.View.{exprs_of}
-use Rattle.go_tree.specs.GoTypes.Typing as go
+use Rattle.go_rules.specs.GoTypes.Typing as go
 use Rattle.expr_walk.proofs.WalkArms.ExprArms.{at}
 use Rattle.statement_walk.proofs.SimpleWalk.SimpleLemmas.{all_there, body_kept, types_kept}
 use Rattle.statement_walk.proofs.simple_walk.returns.give_back.Goals as goal

@@ -1,6 +1,6 @@
 use Rattle.std.specs.Option.{option_map}
 use Rattle.go_tree.specs.View.{name_at_of}
-use Rattle.go_tree.specs.GoTypes.Bodies.{may_continue}
+use Rattle.go_rules.specs.GoTypes.Bodies.{may_continue}
 use Rattle.statement_walk.proofs.simple_walk.returns.go_on.Goals as goal
 
 pub returns : goal.returns

@@ -1,7 +1,7 @@
 use Rattle.std.proofs.Common.{subst, sym}
 use Rattle.go_tree.specs.Tree as tree
 use Rattle.go_tree.specs.View.{exprs_of, stmt_of}
-use Rattle.go_tree.specs.GoTypes.Typing as go
+use Rattle.go_rules.specs.GoTypes.Typing as go
 use Rattle.control_steps.specs.Ends.{EndsAs}
 use Rattle.expr_walk.proofs.WalkArms.ExprArms.{at}
 use Rattle.statement_walk.specs.SimpleWalk.Simple.{IsSimpleAt}

@@ -1,6 +1,6 @@
 use mathlib.Core.Path.{sym, subst}
 use Rattle.std.proofs.Common.{◌++◌}
-use Rattle.go_tree.specs.GoTypes.Operands.{leaves}
+use Rattle.go_rules.specs.GoTypes.Operands.{leaves}
 use Rattle.type_table.specs.declared.operand_rules.values.Content.TheVariants.{Shift}
 use Rattle.type_table.specs.OperandRules.Open.{IsOpenedAt, IsWithin}
 use Rattle.type_table.specs.OperandRules.Values.{content_of}

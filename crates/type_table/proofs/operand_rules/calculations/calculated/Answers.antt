@@ -1,6 +1,6 @@
 use mathlib.Core.Path.{sym, ◌∙◌, subst}
 use Rattle.std.proofs.Common.{◌≡◌, true}
-use Rattle.go_tree.specs.ConstEval.Exact.{represents}
+use Rattle.go_rules.specs.ConstEval.Exact.{represents}
 use Rattle.type_table.proofs.OperandRules.ArithmeticLemmas.{calculated_exact}
 use Rattle.type_table.proofs.OperandRules.OpenedLemmas.{left_there}
 use Rattle.type_table.proofs.operand_rules.calculations.calculated.Goals as goal

@@ -1,4 +1,4 @@
-use Rattle.go_tree.specs.ConstEval.Literals.{literal_value}
+use Rattle.go_rules.specs.ConstEval.Literals.{literal_value}
 use Rattle.type_table.proofs.OperandRules.LiteralLemmas.{literal_gives}
 use Rattle.type_table.proofs.operand_rules.literals.literal.Goals as goal
 

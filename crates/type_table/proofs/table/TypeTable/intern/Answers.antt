@@ -1,5 +1,5 @@
 use Rattle.std.proofs.Common.{length, map, subst, sym, ap, ◌∙◌}
-use Rattle.go_tree.specs.GoTypes.Table.{AllBelow, IsTable, node_parts}
+use Rattle.go_rules.specs.GoTypes.Table.{AllBelow, IsTable, node_parts}
 use Rattle.type_table.specs.Rows.{row_of}
 use Rattle.type_table.proofs.InternLaws.{all_below, inserted_rows, interned_table, stored_row}
 use Rattle.type_table.proofs.table.TypeTable.intern.Goals as goal

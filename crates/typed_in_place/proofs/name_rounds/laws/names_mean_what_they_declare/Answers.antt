@@ -1,4 +1,4 @@
-use Rattle.go_tree.specs.GoTypes.Programs.{headed}
+use Rattle.go_rules.specs.GoTypes.Programs.{headed}
 use Rattle.typed_in_place.proofs.SettledNames.{constant_means}
 use Rattle.typed_in_place.proofs.MethodsAside.{alias_is_declared}
 use Rattle.typed_in_place.proofs.name_rounds.laws.names_mean_what_they_declare.Goals as goal

@@ -1,4 +1,4 @@
-use Rattle.go_tree.specs.GoTypes.Programs.{headed}
+use Rattle.go_rules.specs.GoTypes.Programs.{headed}
 use Rattle.typed_in_place.proofs.Collected.{names_are_added, headers_are_refused, none_refused}
 use Rattle.typed_in_place.proofs.name_rounds.laws.rounds_by_names_and_of_headers.Goals as goal
 

@@ -1,5 +1,5 @@
 use Rattle.std.proofs.Common.{◌∙◌, ap, subst, sym}
-use Rattle.go_tree.specs.ScopeNames.Means.{means}
+use Rattle.go_rules.specs.ScopeNames.Means.{means}
 use Rattle.typed_names.specs.Known.{HaveTypes}
 use Rattle.typed_names.proofs.NameLaws.{names_of, name_set, named_anew, types_set}
 use Rattle.typed_names.proofs.blocks.Block.set.Goals as goal

@@ -1,5 +1,5 @@
 use Rattle.std.proofs.Common.{◌∙◌, ◌++◌, ◌∷◌, [], ap, bytes_eq, cond, subst, sym, Some}
-use Rattle.go_tree.specs.ScopeNames.Means.{means}
+use Rattle.go_rules.specs.ScopeNames.Means.{means}
 use Rattle.typed_names.specs.declared.locals.Binding.{Binding}
 use Rattle.typed_names.specs.Locals.{innermost, KnowsTops}
 use Rattle.typed_names.proofs.LocalLaws.{added_name, innermost_last}

@@ -1,6 +1,6 @@
 use Rattle.std.proofs.Common.{◌∙◌, ap, sym, is_some}
 use Rattle.std.proofs.lemmas.Bool.{true≢false}
-use Rattle.go_tree.specs.ScopeNames.Means.{means}
+use Rattle.go_rules.specs.ScopeNames.Means.{means}
 use Rattle.typed_names.proofs.NameLaws.{names_of, name_found, name_set}
 use Rattle.typed_names.proofs.locals.Tops.put_back.Goals as goal
 

@@ -1,5 +1,5 @@
 use Rattle.std.proofs.Common.{◌∙◌, ap}
-use Rattle.go_tree.specs.ScopeNames.Means.{means}
+use Rattle.go_rules.specs.ScopeNames.Means.{means}
 use Rattle.typed_names.proofs.NameLaws.{names_of, name_set}
 use Rattle.typed_names.proofs.locals.Tops.set.Goals as goal
 

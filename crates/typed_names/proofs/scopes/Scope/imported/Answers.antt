@@ -1,5 +1,5 @@
 use Rattle.std.proofs.Common.{◌∙◌, ap}
-use Rattle.go_tree.specs.GoTypes.Entities.{package_of}
+use Rattle.go_rules.specs.GoTypes.Entities.{package_of}
 use Rattle.typed_names.proofs.scopes.Scope.imported.Goals as goal
 
 pub returns : goal.returns

@@ -1,6 +1,6 @@
 use Rattle.std.proofs.Common.{◌∙◌, ap, sym}
-use Rattle.go_tree.specs.GoTypes.Answers.{given}
-use Rattle.go_tree.specs.GoTypes.Entities as go
+use Rattle.go_rules.specs.GoTypes.Answers.{given}
+use Rattle.go_rules.specs.GoTypes.Entities as go
 use Rattle.typed_names.specs.Meanings.{world_at}
 use Rattle.typed_names.proofs.scopes.Scope.qualified.Goals as goal
 

@@ -1,11 +1,11 @@
 use Rattle.std.proofs.Common.{◌∙◌, ◌+◌, [], List, Err, Some, ap, ap₂, arith, drop, map, subst, sym}
-use Rattle.go_tree.specs.declared.const_eval.consts.Const.{Const}
+use Rattle.go_rules.specs.declared.const_eval.consts.Const.{Const}
 use Rattle.go_tree.specs.Lists.{fields_from}
 use Rattle.go_tree.specs.Tree.{no_fields}
 use Rattle.go_tree.specs.View.{field_of, fields_of, name_at_of, type_of}
-use Rattle.go_tree.specs.GoTypes.Answers.{both, given}
-use Rattle.go_tree.specs.GoTypes.TypeNames as go
-use Rattle.go_tree.specs.GoTypes.Types.{map_of, pointer_to, slice_of}
+use Rattle.go_rules.specs.GoTypes.Answers.{both, given}
+use Rattle.go_rules.specs.GoTypes.TypeNames as go
+use Rattle.go_rules.specs.GoTypes.Types.{map_of, pointer_to, slice_of}
 use Rattle.type_table.specs.TypeRelations.Environment.{env_type}
 use Rattle.typed_names.specs.Scopes.{env_at}
 use Rattle.typed_names.specs.TypeExprs.Answers.{GivesFields, GivesType}

@@ -1,6 +1,6 @@
 use Rattle.std.proofs.Common.{◌≡◌, ◌∙◌, [], Some, ap, map, subst, sym, true}
-use Rattle.go_tree.specs.GoTypes.Answers.{only_if}
-use Rattle.go_tree.specs.GoTypes.Types.{struct_of}
+use Rattle.go_rules.specs.GoTypes.Answers.{only_if}
+use Rattle.go_rules.specs.GoTypes.Types.{struct_of}
 use Rattle.type_table.specs.TypeRelations.Environment.{env_type}
 use Rattle.type_table.specs.Rows.{field_of}
 use Rattle.type_table.specs.TypesAt.{fields_by}

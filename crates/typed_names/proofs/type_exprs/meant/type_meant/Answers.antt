@@ -1,8 +1,8 @@
 use Rattle.std.proofs.Common.{[], Some, length, subst}
 use Rattle.go_tree.specs.View.{type_of}
-use Rattle.go_tree.specs.GoTypes.Answers.{given, only_if}
-use Rattle.go_tree.specs.GoTypes.Defined.{has_keys}
-use Rattle.go_tree.specs.GoTypes.TypeNames as go
+use Rattle.go_rules.specs.GoTypes.Answers.{given, only_if}
+use Rattle.go_rules.specs.GoTypes.Defined.{has_keys}
+use Rattle.go_rules.specs.GoTypes.TypeNames as go
 use Rattle.typed_names.specs.Scopes.{env_at}
 use Rattle.typed_names.specs.TypeExprs.Answers.{GivesType}
 use Rattle.typed_names.proofs.TypeExprs.FlagsKept.{defined_kept, flags_kept}

@@ -1,10 +1,10 @@
 use Rattle.std.proofs.Common.{◌≡◌, ◌∙◌, Option, None, Some, ap, refl, sym}
 use Rattle.std.specs.Option.{option_map}
 use Rattle.go_tree.specs.View.{name_at_of}
-use Rattle.go_tree.specs.GoTypes.Answers.{given}
-use Rattle.go_tree.specs.GoTypes.Entities as go
-use Rattle.go_tree.specs.GoTypes.Entities.{Entity, meaning, package_of, type_of_name}
-use Rattle.go_tree.specs.GoTypes.TypeNames.{named_meaning}
+use Rattle.go_rules.specs.GoTypes.Answers.{given}
+use Rattle.go_rules.specs.GoTypes.Entities as go
+use Rattle.go_rules.specs.GoTypes.Entities.{Entity, meaning, package_of, type_of_name}
+use Rattle.go_rules.specs.GoTypes.TypeNames.{named_meaning}
 use Rattle.typed_names.specs.Scopes.{env_at}
 use Rattle.typed_names.proofs.type_exprs.named.named_entity.Goals as goal
 

@@ -1,5 +1,5 @@
 use Rattle.std.proofs.Common.{◌∙◌, ap, sym, subst, IfSome}
-use Rattle.go_tree.specs.GoTypes.Entities.{type_of_name}
+use Rattle.go_rules.specs.GoTypes.Entities.{type_of_name}
 use Rattle.typed_names.specs.Known.{HasTypes}
 use Rattle.typed_names.specs.Meanings.{entity_option}
 use Rattle.typed_names.specs.TypeExprs.Answers.{GivesType}

@@ -1,4 +1,4 @@
-use Rattle.go_tree.specs.GoTypes.Programs.{headed}
+use Rattle.go_rules.specs.GoTypes.Programs.{headed}
 use Rattle.value_rounds.proofs.NameRounds.Known.{declared_known}
 use Rattle.value_rounds.proofs.NameRounds.RefusedSteps.{so_far_start, so_far_step, so_far_end}
 use Rattle.value_rounds.proofs.name_rounds.laws.headers_are_refused_step_by_step.Goals as goal

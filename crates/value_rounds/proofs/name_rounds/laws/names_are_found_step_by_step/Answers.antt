@@ -1,4 +1,4 @@
-use Rattle.go_tree.specs.GoTypes.Programs.{headed}
+use Rattle.go_rules.specs.GoTypes.Programs.{headed}
 use Rattle.value_rounds.proofs.NameRounds.FoundSteps.{found_start, found_step, found_end}
 use Rattle.value_rounds.proofs.NameRounds.SinglesFirst.{all_first}
 use Rattle.value_rounds.proofs.name_rounds.laws.names_are_found_step_by_step.Goals as goal

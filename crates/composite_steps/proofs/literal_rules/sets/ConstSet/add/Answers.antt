@@ -3,7 +3,7 @@ use Rattle.std.specs.Int.{w128}
 use Rattle.std.specs.Prelude.{not, ◌||◌, bytes_eq}
 use Rattle.std.specs.List.{list_any}
 use mathlib.Core.Path.{ap, ap₂, subst, sym, ◌∙◌}
-use Rattle.go_tree.specs.GoTypes.Literals.{same_const}
+use Rattle.go_rules.specs.GoTypes.Literals.{same_const}
 use Rattle.name_walks.specs.EachOnce.{with_name}
 use Rattle.composite_steps.specs.LiteralRules.Sets.{same_number}
 use Rattle.composite_steps.proofs.LiteralRules.SetLemmas.{number_more, number_there, text_more, text_there}

@@ -1,5 +1,5 @@
 use Rattle.std.proofs.Common.{◌≡◌, ◌∙◌, ap, subst}
-use Rattle.go_tree.specs.ScopeNames.Means.{means}
+use Rattle.go_rules.specs.ScopeNames.Means.{means}
 use Rattle.typed_names.proofs.NameLaws.{names_of, name_set}
 use Rattle.jump_rules.specs.UsedLocals.Used.{set_name, used_of}
 use Rattle.jump_rules.proofs.UsedLocals.UsedLemmas.{set_used}

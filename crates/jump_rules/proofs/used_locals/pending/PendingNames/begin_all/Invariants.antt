@@ -1,6 +1,6 @@
 use Rattle.std.proofs.Common.{◌≡◌, drop, map}
 use Rattle.go_tree.specs.View.{name_at_of}
-use Rattle.go_tree.specs.ScopeNames.FreeNames.{names_of}
+use Rattle.go_rules.specs.ScopeNames.FreeNames.{names_of}
 use Rattle.jump_rules.specs.UsedLocals.Pending.{all_begun}
 use Rattle.jump_rules.specs.UsedLocals.Used.{used_of}
 use Rattle.jump_rules.proofs.used_locals.pending.PendingNames.begin_all.Given as goal

@@ -1,4 +1,4 @@
-use Rattle.go_tree.specs.GoTypes.Primary.{index_of, index_place}
+use Rattle.go_rules.specs.GoTypes.Primary.{index_of, index_place}
 use Rattle.type_table.specs.TypeRelations.Environment.{defined_types}
 use Rattle.type_table.specs.OperandRules.Values.{content_of, typed_of}
 use Rattle.operand_modes.proofs.CheckerTables.PartLemmas.{parts_follow}

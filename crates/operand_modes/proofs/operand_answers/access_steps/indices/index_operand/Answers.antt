@@ -1,7 +1,7 @@
 use Rattle.std.proofs.Common.{◌∙◌, Some, sym, subst}
-use Rattle.go_tree.specs.GoTypes.Answers.{both}
-use Rattle.go_tree.specs.GoTypes.Operands.{place_by, typed}
-use Rattle.go_tree.specs.GoTypes.Primary.{index_of, index_place}
+use Rattle.go_rules.specs.GoTypes.Answers.{both}
+use Rattle.go_rules.specs.GoTypes.Operands.{place_by, typed}
+use Rattle.go_rules.specs.GoTypes.Primary.{index_of, index_place}
 use Rattle.type_table.specs.TypeRelations.Environment.{defined_types}
 use Rattle.operand_modes.specs.declared.modes.Operand.TheVariants.{Single}
 use Rattle.operand_modes.specs.Operands.{IsOperand, operand_at}

@@ -1,8 +1,8 @@
 use Rattle.std.proofs.Common.{subst}
-use Rattle.go_tree.specs.GoTypes.Answers.{both, given}
-use Rattle.go_tree.specs.GoTypes.Entities as go_entity
-use Rattle.go_tree.specs.GoTypes.Operands.{with_value}
-use Rattle.go_tree.specs.GoTypes.Primary.{sliced}
+use Rattle.go_rules.specs.GoTypes.Answers.{both, given}
+use Rattle.go_rules.specs.GoTypes.Entities as go_entity
+use Rattle.go_rules.specs.GoTypes.Operands.{with_value}
+use Rattle.go_rules.specs.GoTypes.Primary.{sliced}
 use Rattle.type_table.specs.TypeRelations.Environment.{defined_types}
 use Rattle.operand_modes.specs.OperandAnswers.Located.{GivesAt, IsThereIfOk}
 use Rattle.operand_modes.specs.OperandAnswers.AccessSteps.Bounds.{GivesBound, IsBoundIfOk}

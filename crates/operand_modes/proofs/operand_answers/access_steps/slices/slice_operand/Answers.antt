@@ -1,6 +1,6 @@
 use Rattle.std.proofs.Common.{◌∙◌, subst, sym}
-use Rattle.go_tree.specs.GoTypes.Operands.{with_value}
-use Rattle.go_tree.specs.GoTypes.Primary.{sliced}
+use Rattle.go_rules.specs.GoTypes.Operands.{with_value}
+use Rattle.go_rules.specs.GoTypes.Primary.{sliced}
 use Rattle.type_table.specs.TypeRelations.Environment.{defined_types}
 use Rattle.operand_modes.specs.declared.modes.Operand.TheVariants.{Single}
 use Rattle.operand_modes.specs.Operands.{GivesOperand, IsOperand, operand_at}

@@ -1,7 +1,7 @@
 use Rattle.std.proofs.Common.{subst}
-use Rattle.go_tree.specs.GoTypes.Answers.{both}
-use Rattle.go_tree.specs.GoTypes.Operators.{binary_of}
-use Rattle.go_tree.specs.GoTypes.Entities as go_entity
+use Rattle.go_rules.specs.GoTypes.Answers.{both}
+use Rattle.go_rules.specs.GoTypes.Operators.{binary_of}
+use Rattle.go_rules.specs.GoTypes.Entities as go_entity
 use Rattle.type_table.specs.TypeRelations.Environment.{defined_types}
 use Rattle.operand_modes.specs.OperandAnswers.Located.{GivesAt, IsThereIfOk}
 use Rattle.operand_modes.proofs.OperandAnswers.AnswerLemmas.{first_refused, lifted_both, second_refused}

@@ -1,5 +1,5 @@
 use Rattle.std.proofs.Common.{◌∙◌, sym, subst}
-use Rattle.go_tree.specs.GoTypes.Operators.{recover_compared}
+use Rattle.go_rules.specs.GoTypes.Operators.{recover_compared}
 use Rattle.type_table.specs.TypeRelations.Environment.{defined_types}
 use Rattle.operand_modes.specs.declared.modes.Operand.TheVariants.{Single}
 use Rattle.operand_modes.specs.Operands.{GivesOperand, IsOperand, operand_at}

@@ -1,5 +1,5 @@
 use Rattle.std.proofs.Common.{◌∙◌, sym, subst}
-use Rattle.go_tree.specs.GoTypes.Operators.{binary_value_operand}
+use Rattle.go_rules.specs.GoTypes.Operators.{binary_value_operand}
 use Rattle.type_table.specs.TypeRelations.Environment.{defined_types}
 use Rattle.type_table.specs.OperandRules.Values.{typed_of}
 use Rattle.operand_modes.specs.Operands.{GivesOperand, IsOperand, operand_at}

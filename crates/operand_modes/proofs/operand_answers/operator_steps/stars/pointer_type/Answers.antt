@@ -1,6 +1,6 @@
 use Rattle.std.proofs.Common.{◌∙◌, Some, ap, sym}
-use Rattle.go_tree.specs.GoTypes.Operands.{a_type}
-use Rattle.go_tree.specs.GoTypes.Types.{pointer_to}
+use Rattle.go_rules.specs.GoTypes.Operands.{a_type}
+use Rattle.go_rules.specs.GoTypes.Types.{pointer_to}
 use Rattle.type_table.specs.TypeRelations.Environment.{env_type}
 use Rattle.operand_modes.proofs.OperandAnswers.AnswerLemmas.{added_refused, type_given}
 use Rattle.operand_modes.proofs.OperandAnswers.OperatorSteps.StepLemmas.{inner}

@@ -1,8 +1,8 @@
 use Rattle.std.proofs.Common.{Some, sym, subst}
-use Rattle.go_tree.specs.GoTypes.Entities as go_entity
-use Rattle.go_tree.specs.GoTypes.Operands.{a_type, place_by}
-use Rattle.go_tree.specs.GoTypes.Operators.{star_of}
-use Rattle.go_tree.specs.GoTypes.Types.{pointer_to}
+use Rattle.go_rules.specs.GoTypes.Entities as go_entity
+use Rattle.go_rules.specs.GoTypes.Operands.{a_type, place_by}
+use Rattle.go_rules.specs.GoTypes.Operators.{star_of}
+use Rattle.go_rules.specs.GoTypes.Types.{pointer_to}
 use Rattle.type_table.specs.TypeRelations.Environment.{defined_types, env_type}
 use Rattle.type_table.specs.OperandRules.Values.{content_of}
 use Rattle.operand_modes.specs.Operands.{operand_at}

@@ -1,5 +1,5 @@
 use Rattle.std.proofs.Common.{sym, subst}
-use Rattle.go_tree.specs.GoTypes.Operators.{address_of}
+use Rattle.go_rules.specs.GoTypes.Operators.{address_of}
 use Rattle.type_table.specs.TypeRelations.Environment.{defined_types}
 use Rattle.type_table.specs.OperandRules.Values.{Gives, content_of, type_of, typed_of}
 use Rattle.operator_rules.specs.AccessRules.Places.{place_of}

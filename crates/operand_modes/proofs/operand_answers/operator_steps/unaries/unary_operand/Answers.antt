@@ -1,5 +1,5 @@
 use Rattle.std.proofs.Common.{◌∙◌, sym, subst}
-use Rattle.go_tree.specs.GoTypes.Operators.{unary_of}
+use Rattle.go_rules.specs.GoTypes.Operators.{unary_of}
 use Rattle.type_table.specs.TypeRelations.Environment.{defined_types}
 use Rattle.operator_rules.specs.AccessRules.Places.{place_of}
 use Rattle.operand_modes.specs.declared.modes.Operand.TheVariants.{Single}

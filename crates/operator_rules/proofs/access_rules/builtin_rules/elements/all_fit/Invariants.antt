@@ -1,7 +1,7 @@
 use Rattle.std.specs.Prelude.{◌≡◌, map}
 use Rattle.std.specs.List.{list_all}
 use Rattle.std.proofs.Common.{drop}
-use Rattle.go_tree.specs.GoTypes.Operands.{fits}
+use Rattle.go_rules.specs.GoTypes.Operands.{fits}
 use Rattle.type_table.specs.TypeRelations.Environment.{defined_types, env_type}
 use Rattle.type_table.specs.OperandRules.Values.{typed_of}
 use Rattle.operator_rules.proofs.access_rules.builtin_rules.elements.all_fit.Given as goal

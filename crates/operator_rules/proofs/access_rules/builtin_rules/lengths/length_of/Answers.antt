@@ -1,8 +1,8 @@
 use Rattle.std.proofs.Common.{rules, to_z-of_z, SFits}
 use Rattle.std.specs.Int.{w128}
 use mathlib.Core.Path.{sym, subst, ◌∙◌}
-use Rattle.go_tree.specs.declared.const_eval.kinds.Kind.TheVariants as kind
-use Rattle.go_tree.specs.ConstEval.Exact.{number, Answers}
+use Rattle.go_rules.specs.declared.const_eval.kinds.Kind.TheVariants as kind
+use Rattle.go_rules.specs.ConstEval.Exact.{number, Answers}
 use Rattle.type_table.specs.OperandRules.Values.{content_of}
 use Rattle.operator_rules.proofs.AccessRules.BuiltinRules.LengthLemmas.{length_gives}
 use Rattle.operator_rules.proofs.access_rules.builtin_rules.lengths.length_of.Goals as goal

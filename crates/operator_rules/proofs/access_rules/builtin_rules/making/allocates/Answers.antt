@@ -1,4 +1,4 @@
-use Rattle.go_tree.specs.GoTypes.Entities.{run}
+use Rattle.go_rules.specs.GoTypes.Entities.{run}
 use Rattle.operator_rules.proofs.access_rules.builtin_rules.making.allocates.Goals as goal
 
 pub returns-clause-gives : goal.returns-clause-gives

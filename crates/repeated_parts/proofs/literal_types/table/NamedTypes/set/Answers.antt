@@ -1,5 +1,5 @@
 use Rattle.std.proofs.Common.{◌∙◌, ap}
-use Rattle.go_tree.specs.ScopeNames.Means.{means}
+use Rattle.go_rules.specs.ScopeNames.Means.{means}
 use Rattle.repeated_parts.proofs.LiteralTypes.Names.{names_of, name_set}
 use Rattle.repeated_parts.proofs.literal_types.table.NamedTypes.set.Goals as goal
 

@@ -1,6 +1,6 @@
 use Rattle.std.proofs.Common.{◌≡◌, ◌∙◌, ◌||◌, IfOk, OnOk, ap, subst, sym}
 use Rattle.std.specs.List.{list_any}
-use Rattle.go_tree.specs.GoTypes.Literals.{same_const}
+use Rattle.go_rules.specs.GoTypes.Literals.{same_const}
 use Rattle.type_table.specs.OperandRules.Values.{IsKept, content_of}
 use Rattle.composite_steps.specs.LiteralRules.Sets.{new_and_distinct}
 use Rattle.statement_walk.specs.RangeSteps.CaseSteps.Cases.{AddsAll, once_in, once_of}

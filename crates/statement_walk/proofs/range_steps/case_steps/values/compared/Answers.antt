@@ -1,6 +1,6 @@
 use Rattle.std.proofs.Common.{◌≡◌, ◌∙◌, false, map, subst, sym, true}
 use Rattle.std.specs.List.{list_all}
-use Rattle.go_tree.specs.GoTypes.Statements.{case_value}
+use Rattle.go_rules.specs.GoTypes.Statements.{case_value}
 use Rattle.type_table.specs.TypeRelations.Environment.{defined_types}
 use Rattle.type_table.specs.OperandRules.Values.{typed_of}
 use Rattle.operator_rules.specs.AccessRules.Functions.{AreValues}

@@ -1,5 +1,5 @@
 use Rattle.std.proofs.Common.{◌∙◌, ap, sym}
-use Rattle.go_tree.specs.GoTypes.Bodies.{no_values}
+use Rattle.go_rules.specs.GoTypes.Bodies.{no_values}
 use Rattle.control_steps.proofs.TakenLemmas.{none_written}
 use Rattle.statement_walk.proofs.simple_walk.constant_groups.groups.has_none.Goals as goal
 

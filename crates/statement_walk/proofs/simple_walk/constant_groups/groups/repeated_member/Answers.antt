@@ -1,8 +1,8 @@
 use Rattle.std.proofs.Common.{◌≡◌, None, map, subst, sym}
 use Rattle.std.specs.Option.{option_map}
 use Rattle.go_tree.specs.View.{exprs_of, name_at_of, type_of}
-use Rattle.go_tree.specs.ScopeNames.FreeNames.{names_of}
-use Rattle.go_tree.specs.GoTypes.Declarations.{new_constants}
+use Rattle.go_rules.specs.ScopeNames.FreeNames.{names_of}
+use Rattle.go_rules.specs.GoTypes.Declarations.{new_constants}
 use Rattle.statement_walk.specs.SimpleWalk.ConstantGroups.Groups.{GivesDeclared, IsWalkedFrom, in_spec, repeated_from}
 use Rattle.statement_walk.proofs.SimpleWalk.ConstantGroups.GroupLemmas.{none_before}
 use Rattle.statement_walk.proofs.SimpleWalk.ConstantGroups.MemberLemmas.{member_there, within_self}

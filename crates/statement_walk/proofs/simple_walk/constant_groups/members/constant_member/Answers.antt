@@ -1,11 +1,11 @@
 use Rattle.std.proofs.Common.{◌∙◌, map, subst, sym}
 use Rattle.std.specs.Option.{option_map}
 use Rattle.go_tree.specs.View.{exprs_of, name_at_of, type_of}
-use Rattle.go_tree.specs.GoTypes.Declarations.{new_constants}
-use Rattle.go_tree.specs.GoTypes.Entities.{extend}
-use Rattle.go_tree.specs.GoTypes.TypeNames as go_type
-use Rattle.go_tree.specs.GoTypes.Typing as go
-use Rattle.go_tree.specs.ScopeNames.FreeNames.{names_of}
+use Rattle.go_rules.specs.GoTypes.Declarations.{new_constants}
+use Rattle.go_rules.specs.GoTypes.Entities.{extend}
+use Rattle.go_rules.specs.GoTypes.TypeNames as go_type
+use Rattle.go_rules.specs.GoTypes.Typing as go
+use Rattle.go_rules.specs.ScopeNames.FreeNames.{names_of}
 use Rattle.control_steps.specs.DeclarationSteps.Entities.{AreEntities, binds_at}
 use Rattle.control_steps.specs.LocalBlocks.Places.{IsPlace}
 use Rattle.expr_walk.proofs.WalkArms.ExprArms.{at}

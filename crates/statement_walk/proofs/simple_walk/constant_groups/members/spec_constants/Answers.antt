@@ -1,12 +1,12 @@
 use Rattle.std.proofs.Common.{map, subst}
 use Rattle.std.specs.Option.{option_map}
 use Rattle.go_tree.specs.View.{exprs_of, name_at_of, type_of}
-use Rattle.go_tree.specs.GoTypes.Declarations.{new_constants}
-use Rattle.go_tree.specs.GoTypes.TypeNames as go_type
-use Rattle.go_tree.specs.GoTypes.Typing as go
+use Rattle.go_rules.specs.GoTypes.Declarations.{new_constants}
+use Rattle.go_rules.specs.GoTypes.TypeNames as go_type
+use Rattle.go_rules.specs.GoTypes.Typing as go
 use Rattle.operand_modes.specs.OperandAnswers.Lists.{GivesAll}
 use Rattle.operand_modes.proofs.OperandAnswers.KeptLemmas.{env_kept, keeps_on}
-use Rattle.go_tree.specs.ScopeNames.FreeNames.{names_of}
+use Rattle.go_rules.specs.ScopeNames.FreeNames.{names_of}
 use Rattle.control_steps.specs.LocalBlocks.Places.{in_block_of}
 use Rattle.expr_walk.proofs.CallSteps.{arguments_there}
 use Rattle.expr_walk.proofs.WalkArms.ExprArms.{at}

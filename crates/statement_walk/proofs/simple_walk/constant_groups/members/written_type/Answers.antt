@@ -1,7 +1,7 @@
 use Rattle.std.proofs.Common.{Err, Ok, Some, subst, sym}
 use Rattle.std.specs.Option.{option_map}
 use Rattle.go_tree.specs.View.{type_of}
-use Rattle.go_tree.specs.GoTypes.TypeNames.{type_meant, written_type}
+use Rattle.go_rules.specs.GoTypes.TypeNames.{type_meant, written_type}
 use Rattle.operand_modes.proofs.OperandAnswers.KeptLemmas.{stands_kept}
 use Rattle.assignment_steps.specs.SpecSteps.Specs.{GivesWritten}
 use Rattle.expr_walk.proofs.WalkArms.ExprArms.{at}

@@ -1,6 +1,6 @@
 use Rattle.std.proofs.Common.{◌≡◌, ℕ, ◌<◌, List, length, Option, Some, None, refl, subst, sym}
-use Rattle.go_tree.specs.GoTypes.Defined.{methods}
-use Rattle.go_tree.specs.GoTypes.Primary.{find_method}
+use Rattle.go_rules.specs.GoTypes.Defined.{methods}
+use Rattle.go_rules.specs.GoTypes.Primary.{find_method}
 use Rattle.type_table.specs.TypesAt.{type_at}
 use Rattle.type_table.specs.TypeRelations.Environment.{Environment, MethodRow, defined_types}
 use Rattle.type_table.specs.TypeRelations.Inside.{seen}

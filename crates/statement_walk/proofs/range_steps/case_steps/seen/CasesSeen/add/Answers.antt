@@ -1,6 +1,6 @@
 use Rattle.std.proofs.Common.{◌∙◌, ◌+◌, ◌&&◌, ◌++◌, ap, map, sym}
-use Rattle.go_tree.specs.GoTypes.Literals.{same_const}
-use Rattle.go_tree.specs.GoTypes.Statements.{case_constants}
+use Rattle.go_rules.specs.GoTypes.Literals.{same_const}
+use Rattle.go_rules.specs.GoTypes.Statements.{case_constants}
 use Rattle.type_table.specs.OperandRules.Values.{typed_of}
 use Rattle.composite_steps.specs.LiteralRules.Sets.{new_and_distinct}
 use Rattle.statement_walk.specs.RangeSteps.CaseSteps.Cases.{count}

@@ -1,0 +1,3 @@
+pub mod ScopeNames
+pub mod ConstEval
+pub mod GoTypes
