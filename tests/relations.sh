@@ -13,7 +13,7 @@ top=$(cd "$(dirname "${BASH_SOURCE[0]}")/.." && pwd)
 . "$top/tests/counts.sh"
 cd "$top" || exit 1
 
-declared=$'package main
+declared=$'package p
 
 type D int
 
@@ -31,7 +31,7 @@ printf '%s' "$declared" >"$work/module/types.go"
 
 # checked TEXT: what is answered of the module with this text in main.go.
 checked() {
-    printf 'package main\n\n%s\n' "$1" >"$work/module/main.go"
+    printf 'package p\n\n%s\n' "$1" >"$work/module/main.go"
     "$show" check "$work/module" 2>&1
 }
 
@@ -59,10 +59,12 @@ for ((from = 0; from < 20; from++)); do
     for ((to = 0; to < 16; to++)); do
         sign=${signs[from]:to:1}
         if ((from < 16)); then
-            relates "$([ "$sign" = = ] && echo yes)" "var x *(${types[to]}) = new(${types[from]}); _ = x"
+            relates "$([ "$sign" = = ] && echo yes)" "var x *${types[to]} = new(${types[from]}); _ = x"
         fi
         relates "$([[ $sign == [=a] ]] && echo yes)" "var x ${types[to]} = ${values[from]}; _ = x"
-        relates "$([ "$sign" != - ] && echo yes)" "_ = (${types[to]})(${values[from]})"
+        type=${types[to]}
+        [[ $type == "*"* ]] && type="($type)"
+        relates "$([ "$sign" != - ] && echo yes)" "_ = $type(${values[from]})"
     done
 done
 got=$(checked "$all")

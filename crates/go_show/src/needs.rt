@@ -65,7 +65,7 @@ struct Asked {
     bound: NameList,
 }
 
-fn asked(alloc: Global, path: &[u8], own: &[u8], words: &[String]) -> Result<Asked, NoMemory> {
+fn read_asked(alloc: Global, path: &[u8], own: &[u8], words: &[String]) -> Result<Asked, NoMemory> {
     Ok(Asked {
         path: Text::copied(alloc, path)?,
         own: Name::copied(alloc, own)?,
@@ -129,7 +129,7 @@ fn write_needed<W: Write>(
     let Ok(at) = place.as_str().parse::<u32>() else {
         return Err(unusable());
     };
-    let asked = asked(alloc, path.as_bytes(), own.as_bytes(), others)?;
+    let asked = read_asked(alloc, path.as_bytes(), own.as_bytes(), others)?;
     let needed = needed_in(alloc, file, others, at, &asked)?;
     write_name(out, &needed)
 }
