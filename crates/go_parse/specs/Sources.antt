@@ -1,5 +1,5 @@
 -- Why a text reads as no file (Go specification, Source file organization).
-use Rattle.std.specs.Prelude.{List, length, Some, None}
+use Rattle.std.specs.Prelude.{ℕ, List, length, Some, None}
 use Rattle.std.specs.Str.{IsValidUpTo}
 use Rattle.go_tree.specs.declared.tokens.Token.{Token}
 use Rattle.go_tree.specs.declared.tokens.Comment.{Comment}
