@@ -1,4 +1,5 @@
 -- Names told apart from keys of composite literals.
+pub mod KeysTaken
 pub mod TypingMarked
 pub mod SmallMarked
 pub mod HereMarked

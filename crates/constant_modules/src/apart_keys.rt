@@ -1,4 +1,4 @@
-//! Keys of composite literals that are predeclared identifiers, and that no import of their file has for its name, in
+//! Keys of composite literals that are predeclared as values, and that no import of their file has for its name, in
 //! programs of any declarations: definitions and laws alone, without code (Go specification, Composite literals; Import
 //! declarations; Predeclared identifiers).
 

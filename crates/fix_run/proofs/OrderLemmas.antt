@@ -11,7 +11,7 @@ use Rattle.std.proofs.lemmas.List.Elements.{All-head, All-tail}
 use Rattle.fix_io.specs.Files.{HeldFile, IsAscending, paths}
 use Rattle.folder_reading.specs.Sources.{AreOctets, sources_in}
 use Rattle.go_tree.specs.GoWords.Tokens.Characters.{each}
-use Rattle.module_reading.specs.Files.{sources_of}
+use Rattle.module_texts.specs.Files.{sources_of}
 use Rattle.pkg_graph.specs.ModuleFiles.PathLists.{path_at}
 use Rattle.pkg_graph.specs.ModuleFiles.Pieces.{comes_before}
 use Rattle.pkg_graph.specs.ModuleFiles.Selected.{is_selected, selected, selected_from}

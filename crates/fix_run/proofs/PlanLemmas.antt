@@ -11,7 +11,7 @@ use Rattle.fix_io.specs.Writes.{writes_from}
 use Rattle.fix_io.specs.Writes as written
 use Rattle.folder_reading.specs.Limits.{AreFew, AreRead, AreWithin, first_too_long}
 use Rattle.folder_reading.specs.Sources.{AreOctets, sources_in, source_at}
-use Rattle.module_reading.specs.Files.{sources_of}
+use Rattle.module_texts.specs.Files.{sources_of}
 use Rattle.pkg_graph.specs.ModuleFiles.PathLists.{has_path}
 use Rattle.pkg_graph.specs.ModuleFiles.Selected.{is_selected, module_file, selected}
 use Rattle.pkg_graph.specs.Reads.{Source, is_at}

@@ -1,3 +1,4 @@
 pub mod Nesting
 pub mod Frames
 pub mod Over
+pub mod Sources

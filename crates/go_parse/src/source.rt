@@ -4,7 +4,8 @@ ghost use Rattle.std.specs.Prelude.{◌≢◌, ◌≤◌, IfErr, IfOk, None, len
 ghost use Rattle.go_tree.specs.FileView.{file_of};
 ghost use Rattle.go_tree.specs.GoWords.Tokens.{TokensOf};
 ghost use Rattle.go_nesting.specs.Over.{IsFirstOver};
-ghost use Rattle.go_parse.specs.Sources.{IsSource, IsSupported, IsTree, RefusesText, RefusesTokens};
+ghost use Rattle.go_nesting.specs.Sources.{IsSource, IsSupported, IsTree};
+ghost use Rattle.go_parse.specs.Sources.{RefusesText, RefusesTokens};
 
 use crate::parser::{ParseError, parse};
 use go_nesting::{MAX_LIMIT, weight_over};

@@ -4,9 +4,9 @@ use Rattle.std.proofs.Common.{◌≡◌, ℕ, List, subst, sym}
 use Rattle.pkg_graph.specs.declared.packages.Package.{Package}
 use Rattle.package_blocks.specs.Collected.{AreOrdered}
 use Rattle.package_blocks.specs.Imports.{views}
-use Rattle.module_reading.specs.declared.reading.ReadModule.{ReadModule}
-use Rattle.module_reading.specs.Files.{sources_of}
-use Rattle.module_reading.specs.Modules.{IsReadFrom, go_sources}
+use Rattle.module_texts.specs.declared.modules.ReadModule.{ReadModule}
+use Rattle.module_texts.specs.Files.{sources_of}
+use Rattle.module_texts.specs.Modules.{IsReadFrom, go_sources}
 use Rattle.collected.specs.ValueHeaders.SpelledDecls.{PackagesAreSpelled}
 use Rattle.collected.proofs.ValueHeaders.SpelledHeaders.{read_packages_spelled}
 use Rattle.checked_modules.specs.FunctionBodies.Walked.{PackagesAreWalked}

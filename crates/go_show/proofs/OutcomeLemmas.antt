@@ -8,7 +8,8 @@ use Rattle.go_layout.specs.FileLayout.{file_layout}
 use Rattle.go_parse.specs.declared.source.Source.{Source}
 use Rattle.go_parse.specs.declared.source.ReadError.{ReadError}
 use Rattle.go_parse.specs.declared.source.ReadError.TheVariants.{NotUtf8, BadToken, Unsupported, TooDeep, NotRead, NoMemory}
-use Rattle.go_parse.specs.Sources.{IsSource, RefusesText}
+use Rattle.go_nesting.specs.Sources.{IsSource}
+use Rattle.go_parse.specs.Sources.{RefusesText}
 use Rattle.go_show.specs.Outcomes.{Reads, Says, SaysWhy, ShowsFile, ShowsTree}
 
 says_no_want : (before after : Option (List ℕ)) (e : ReadError) → Says before after e → e ≢ NoMemory

@@ -4,7 +4,7 @@ use Rattle.go_tree.specs.declared.spans.Span.{Span}
 use Rattle.go_tree.specs.declared.tokens.Token.{Token}
 use Rattle.go_tree.specs.declared.tokens.Comment.{Comment}
 use Rattle.go_tree.specs.File.{File}
-use Rattle.go_parse.specs.Sources.{IsSource}
+use Rattle.go_nesting.specs.Sources.{IsSource}
 use Rattle.text_edits.specs.declared.edit.Edit.{Edit}
 use Rattle.text_edits.specs.Applied.{Within}
 use Rattle.run_rules.specs.declared.import_rules.new_import.NewImport.{NewImport}

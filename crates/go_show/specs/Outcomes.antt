@@ -10,7 +10,8 @@ use Rattle.go_layout.specs.FileLayout.{file_layout}
 use Rattle.go_parse.specs.declared.source.ReadError.{ReadError}
 use Rattle.go_parse.specs.declared.source.ReadError.TheVariants.{NotUtf8, BadToken, Unsupported, TooDeep, NotRead}
 use Rattle.go_parse.specs.declared.source.ReadError.TheVariants.{NoMemory}
-use Rattle.go_parse.specs.Sources.{IsSource, RefusesText}
+use Rattle.go_nesting.specs.Sources.{IsSource}
+use Rattle.go_parse.specs.Sources.{RefusesText}
 
 -- a reason and the byte at which it is seen
 abbrev pub reason_line : List ℕ → ℕ → List ℕ

@@ -2,7 +2,7 @@
 
 ghost use Rattle.std.specs.Prelude.{◌≤◌, length};
 ghost use Rattle.go_tree.specs.FileView.{file_of};
-ghost use Rattle.go_parse.specs.Sources.{IsSource};
+ghost use Rattle.go_nesting.specs.Sources.{IsSource};
 
 use crate::blocks::last_element;
 use crate::tree::write_fault;

@@ -12,7 +12,7 @@ use Rattle.directive_scan.specs.Marked.{good_marks, bad_marks}
 use Rattle.run_rules.specs.Texts.{FileText}
 use Rattle.directive_scan.specs.declared.mark_types.BadMark.{BadMark}
 use Rattle.run_rules.specs.Marks.{BadAt, text_at, marks_by_number, file_marks, files_marks, file_bad, files_bad}
-use Rattle.module_reading.specs.declared.files.ScannedFile.{ScannedFile}
+use Rattle.module_texts.specs.declared.files.ScannedFile.{ScannedFile}
 use Rattle.module_marks.specs.Views.{file_text, texts_of}
 
 abbrev paths : List ScannedFile → List (List ℕ)

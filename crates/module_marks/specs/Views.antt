@@ -3,7 +3,7 @@ use Rattle.std.specs.Prelude.{ℕ, List, map}
 use Rattle.run_rules.specs.Sites.{MarkRef}
 use Rattle.run_rules.specs.Marks.{BadAt}
 use Rattle.run_rules.specs.Texts.{FileText}
-use Rattle.module_reading.specs.declared.files.ScannedFile.{ScannedFile}
+use Rattle.module_texts.specs.declared.files.ScannedFile.{ScannedFile}
 use Rattle.file_names.specs.declared.members.MarkRef as code
 use Rattle.module_marks.specs.declared.file_marks.BadMarkAt.{BadMarkAt}
 

@@ -5,7 +5,7 @@ ghost use Rattle.std.specs.Option.{option_map};
 ghost use Rattle.go_tree.specs.FileView.{file_of};
 ghost use Rattle.directive_scan.specs.Marked.{good_marks, bad_marks};
 ghost use Rattle.run_rules.specs.Marks.{found_in, marks_by_number};
-ghost use Rattle.module_reading.specs.Files.{IsScanned};
+ghost use Rattle.module_texts.specs.Files.{IsScanned};
 ghost use Rattle.module_marks.specs.Views.{mark_ref_of, bad_at_of};
 
 use crate::spans::declared_spans;
@@ -13,7 +13,7 @@ use directive_scan::{BadMark, Mark, marks};
 use file_names::MarkRef;
 use go_tree::scope_names::FileNames;
 use go_tree::{FileTree, NoMemory, Text};
-use module_reading::ScannedFile;
+use module_texts::ScannedFile;
 use pkg_graph::SourceTree;
 use std::alloc::Global;
 

@@ -6,7 +6,7 @@ ghost use Rattle.pkg_graph.specs.Package as pure;
 ghost use Rattle.pkg_graph.specs.Views.{package_view, source_of};
 ghost use Rattle.run_rules.specs.Programs.{numbered};
 ghost use Rattle.run_rules.specs.Marks.{file_marks, files_marks, packages_marks, file_bad, files_bad, bad_of};
-ghost use Rattle.module_reading.specs.Files.{IsScanned};
+ghost use Rattle.module_texts.specs.Files.{IsScanned};
 ghost use Rattle.file_names.specs.Members.{IsBlockOf};
 ghost use Rattle.module_marks.specs.Views.{mark_ref_of, bad_at_of, texts_of};
 ghost use Rattle.module_marks.specs.Sources.{FindsSources};
@@ -16,7 +16,7 @@ use crate::sources::Sources;
 use file_names::{block_members, member_names, names_of_file};
 use go_tree::NoMemory;
 use go_tree::scope_names::{FileNames, NameList};
-use module_reading::ScannedFile;
+use module_texts::ScannedFile;
 use pkg_graph::{Package, SourceTree};
 use std::alloc::Global;
 

@@ -3,14 +3,14 @@
 ghost use Rattle.std.specs.Prelude.{◌≡◌, All, IfSome, map, IfOk};
 ghost use Rattle.std.specs.Option.{option_map};
 ghost use Rattle.run_rules.specs.Marks.{text_at};
-ghost use Rattle.module_reading.specs.Files.{IsScanned};
+ghost use Rattle.module_texts.specs.Files.{IsScanned};
 ghost use Rattle.file_names.specs.Places.{Finds};
 ghost use Rattle.module_marks.specs.Views.{file_text, texts_of};
 ghost use Rattle.module_marks.specs.Sources.{FindsSources};
 
 use file_names::{Places, find_packages};
 use go_tree::NoMemory;
-use module_reading::ScannedFile;
+use module_texts::ScannedFile;
 use pkg_graph::Package;
 use std::alloc::Global;
 

@@ -4,8 +4,8 @@ use Rattle.pkg_graph.specs.ModuleFiles.Selected.{module_file}
 use Rattle.pkg_graph.specs.ModuleFiles.ModuleFile.{module_of}
 use Rattle.pkg_graph.specs.Reads.{is_at}
 use Rattle.source_files.specs.declared.files.SourceFile.{SourceFile}
-use Rattle.module_reading.specs.Files.{is_go_file, source_of, sources_of}
-use Rattle.module_reading.specs.Modules.{answer_in, module_answer}
+use Rattle.module_texts.specs.Files.{is_go_file, source_of, sources_of}
+use Rattle.module_texts.specs.Modules.{answer_in, module_answer}
 
 -- the rest begins with the element at its place
 drop_at : {A : Type 0} (xs : List A) (i : ℕ) (x : A) → i < length xs → x ≡ slice_index_or xs i x → drop i xs ≡ x ∷ drop (suc i) xs

@@ -4,13 +4,13 @@ use Rattle.std.proofs.lemmas.List.{append-nil, length-map, length-take-le, map_p
 use Rattle.std.proofs.lemmas.List.Elements.{All-map, All-push, filter-append}
 use Rattle.std.proofs.lemmas.List.Filters.{length-filter_both}
 use Rattle.pkg_graph.specs.declared.module_files.faults.GraphError.TheVariants.{NoModuleLine, OldGo, MixedPackage, NoPackage, Cycle, Internal, NoMemory}
-use Rattle.module_reading.specs.declared.faults.ReadFault.{ReadFault}
-use Rattle.module_reading.specs.declared.faults.ReadFault.TheVariants.{Text, Module}
+use Rattle.module_texts.specs.declared.faults.ReadFault.{ReadFault}
+use Rattle.module_texts.specs.declared.faults.ReadFault.TheVariants.{Text, Module}
 use Rattle.source_files.specs.declared.files.SourceFile.{SourceFile}
-use Rattle.module_reading.specs.declared.files.ScannedFile.{ScannedFile}
-use Rattle.module_reading.specs.Files.{AreScanned, IsScanned, go_files, is_go_file}
-use Rattle.module_reading.specs.Refusals.{HasTokens, IsOfScan, RefusesScan}
-use Rattle.module_reading.proofs.Lemmas.{filter_cut}
+use Rattle.module_texts.specs.declared.files.ScannedFile.{ScannedFile}
+use Rattle.module_texts.specs.Files.{AreScanned, IsScanned, go_files, is_go_file}
+use Rattle.module_texts.specs.Refusals.{HasTokens, IsOfScan, RefusesScan}
+use Rattle.module_texts.proofs.Lemmas.{filter_cut}
 
 kept : (before : List SourceFile) (x : SourceFile) → is_go_file x ≡ true → go_files (before ++ x ∷ []) ≡ go_files before ++ x ∷ []
 kept before x t = filter-append is_go_file before (x ∷ []) ∙ ap (λ b. go_files before ++ cond b (x ∷ []) []) t

@@ -10,13 +10,13 @@ use Rattle.pkg_graph.specs.Views as views
 use Rattle.pkg_graph.specs.declared.packages.SourceTree.{SourceTree}
 use Rattle.go_tree.specs.declared.spans.Span.{Span}
 use Rattle.run_rules.specs.Inlining.{IsSourceFile}
-use Rattle.module_reading.specs.declared.faults.TextFault.TheVariants.{NotUtf8, BadToken, Unsupported, TooDeep, NotRead}
-use Rattle.module_reading.specs.declared.faults.ReadFault.{ReadFault}
-use Rattle.module_reading.specs.declared.faults.ReadFault.TheVariants.{Text, Module}
-use Rattle.module_reading.specs.declared.files.ScannedFile.{ScannedFile}
-use Rattle.module_reading.specs.Files.{AreTreesOf, IsScanned, IsTreeOf, source_of}
-use Rattle.module_reading.specs.Refusals.{FailsFirst, HasTree, IsUnread, IsUnreadAt, RefusesTrees}
-use Rattle.module_reading.proofs.Lemmas.{fails_at}
+use Rattle.module_texts.specs.declared.faults.TextFault.TheVariants.{NotUtf8, BadToken, Unsupported, TooDeep, NotRead}
+use Rattle.module_texts.specs.declared.faults.ReadFault.{ReadFault}
+use Rattle.module_texts.specs.declared.faults.ReadFault.TheVariants.{Text, Module}
+use Rattle.module_texts.specs.declared.files.ScannedFile.{ScannedFile}
+use Rattle.module_texts.specs.Files.{AreTreesOf, IsScanned, IsTreeOf, source_of}
+use Rattle.module_texts.specs.Refusals.{FailsFirst, HasTree, IsUnread, IsUnreadAt, RefusesTrees}
+use Rattle.module_texts.proofs.Lemmas.{fails_at}
 
 trees_push : (ss : List ScannedFile) (ts : List SourceTree) (s : ScannedFile) (t : SourceTree) → AreTreesOf ss ts → IsTreeOf s t → AreTreesOf (ss ++ s ∷ []) (ts ++ t ∷ [])
 trees_push [] [] s t h is = (is, tt)

@@ -1,13 +1,13 @@
 //! The words of all files, and how deeply they nest.
 
 ghost use Rattle.std.specs.Prelude.{◌<◌, ◌^◌, All, MatchOption, length};
-ghost use Rattle.module_reading.specs.Files.{IsScanned};
-ghost use Rattle.module_reading.specs.Refusals.{FailsFirst, HasFirstWord, HasWords, IsDeepAt, IsShallow};
+ghost use Rattle.module_texts.specs.Files.{IsScanned};
+ghost use Rattle.module_texts.specs.Refusals.{FailsFirst, HasFirstWord, HasWords, IsDeepAt, IsShallow};
 
-use crate::files::ScannedFile;
 use go_nesting::{MAX_LIMIT, weight_over};
 use go_scan::unsupported;
 use go_tree::Span;
+use module_texts::ScannedFile;
 
 /// The first file that has a word that isn't supported, by its number, and the first such word.
 pub(crate) fn first_unsupported(files: &[ScannedFile]) -> Option<(u32, Span)>

@@ -2,14 +2,8 @@
 #![tactic(auto)]
 
 mod checks;
-mod faults;
-mod files;
-mod laws;
 mod reading;
 mod scanned;
 mod trees;
 
-pub use faults::{ReadFault, TextFault};
-pub use files::{ScannedFile, is_go_file};
-pub use laws::selected_files_read_alike;
-pub use reading::{ReadModule, read_module_files};
+pub use reading::read_module_files;

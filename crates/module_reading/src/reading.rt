@@ -2,28 +2,18 @@
 
 ghost use Rattle.std.specs.Prelude.{◌≡◌, ◌<◌, ◌^◌, ◌≤◌, All, IfErr, IfOk, OnOk, length};
 ghost use Rattle.pkg_graph.specs.ModuleFiles.ModuleFile.{is_module};
-ghost use Rattle.module_reading.specs.Files.{IsScanned, sources_of};
-ghost use Rattle.module_reading.specs.Modules.{IsReadFrom, Refuses, RefusesModule, module_answer};
-ghost use Rattle.module_reading.specs.Refusals.{HasWords, IsShallow, RefusesWords};
+ghost use Rattle.module_texts.specs.Files.{IsScanned, sources_of};
+ghost use Rattle.module_texts.specs.Modules.{IsReadFrom, Refuses, RefusesModule, module_answer};
+ghost use Rattle.module_texts.specs.Refusals.{HasWords, IsShallow, RefusesWords};
 
 use crate::checks::{first_too_deep, first_unsupported};
-use crate::faults::{ReadFault, TextFault};
-use crate::files::{ScannedFile, is_go_file};
 use crate::scanned::scan_files;
 use crate::trees::parse_files;
 use go_tree::MAX_FILE_BYTES;
+use module_texts::{ReadFault, ReadModule, ScannedFile, TextFault, is_go_file};
 use pkg_graph::{Graph, GraphError, Module, build, read_module};
 use source_files::SourceFile;
 use std::alloc::Global;
-
-/// A module that is read: its path, its packages with their trees, and the files of Go source in the order in which
-/// they were given, with their tokens and comments.
-#[derive(Drop)]
-pub struct ReadModule<'a> {
-    pub home: Module,
-    pub graph: Graph,
-    pub files: Vec<ScannedFile<'a>>,
-}
 
 /// The module that `go.mod` in the root names.
 fn find_module(alloc: Global, files: &[SourceFile]) -> Result<Module, GraphError>

@@ -3,14 +3,13 @@
 ghost use Rattle.std.specs.Prelude.{◌≡◌, ◌≢◌, ◌≤◌, ◌<◌, ◌^◌, All, IfErr, IfOk, length};
 ghost use Rattle.go_tree.specs.GoWords.Tokens.{TokensOf};
 ghost use Rattle.pkg_graph.specs.declared.module_files.faults.GraphError.TheVariants.{NoMemory};
-ghost use Rattle.module_reading.specs.Files.{AreScanned, IsScanned, go_files};
-ghost use Rattle.module_reading.specs.Refusals.{Fails, IsOfScan, RefusesScan};
-ghost use Rattle.module_reading.specs.declared.faults.ReadFault.TheVariants.{Module};
+ghost use Rattle.module_texts.specs.Files.{AreScanned, IsScanned, go_files};
+ghost use Rattle.module_texts.specs.Refusals.{Fails, IsOfScan, RefusesScan};
+ghost use Rattle.module_texts.specs.declared.faults.ReadFault.TheVariants.{Module};
 
-use crate::faults::{ReadFault, TextFault};
-use crate::files::{ScannedFile, is_go_file};
 use go_scan::{ScanError, scan};
 use go_tree::MAX_FILE_BYTES;
+use module_texts::{ReadFault, ScannedFile, TextFault, is_go_file};
 use pkg_graph::GraphError;
 use source_files::SourceFile;
 use std::alloc::Global;

@@ -1,13 +1,12 @@
 //! The trees of all files.
 
 ghost use Rattle.std.specs.Prelude.{◌<◌, ◌^◌, All, IfErr, IfOk, length};
-ghost use Rattle.module_reading.specs.Files.{IsScanned, IsTreeOf, AreTreesOf};
-ghost use Rattle.module_reading.specs.Refusals.{HasWords, IsShallow, IsUnread, RefusesTrees};
+ghost use Rattle.module_texts.specs.Files.{IsScanned, IsTreeOf, AreTreesOf};
+ghost use Rattle.module_texts.specs.Refusals.{HasWords, IsShallow, IsUnread, RefusesTrees};
 
-use crate::faults::{ReadFault, TextFault};
-use crate::files::ScannedFile;
 use go_parse::{ParseError, parse};
 use go_tree::{MAX_FILE_BYTES, Text};
+use module_texts::{ReadFault, ScannedFile, TextFault};
 use pkg_graph::{GraphError, SourceTree};
 use std::alloc::Global;
 

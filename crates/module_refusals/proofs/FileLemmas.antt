@@ -3,7 +3,7 @@ use Rattle.std.proofs.Common.{◌≡◌, ◌∙◌, ◌<◌, ◌≤◌, ◌+◌,
 use Rattle.std.specs.List.{slice_get}
 use Rattle.std.proofs.lemmas.List.{at_drop_all, at_drop_more}
 use Rattle.source_files.specs.declared.files.SourceFile.{SourceFile}
-use Rattle.module_reading.specs.Files.{go_files, is_go_file}
+use Rattle.module_texts.specs.Files.{go_files, is_go_file}
 
 -- the rest of the files from one on
 rest_from : (files : List SourceFile) (i : ℕ) (x : SourceFile) (left : ℕ) → i < length files → x ≡ slice_index_or files i x

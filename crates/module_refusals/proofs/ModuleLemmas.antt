@@ -24,14 +24,15 @@ use Rattle.pkg_graph.specs.Reads.{Source, AreTrees, none, file}
 use Rattle.pkg_graph.specs.GraphLaws.{LinkedHaveNoFault}
 use Rattle.run_rules.specs.Inlining.{IsSourceFile}
 use Rattle.source_files.specs.declared.files.SourceFile.{SourceFile}
-use Rattle.module_reading.specs.declared.faults.TextFault.{TextFault}
-use Rattle.module_reading.specs.declared.faults.TextFault.TheVariants.{NotUtf8, BadToken, Unsupported, TooDeep, NotRead}
-use Rattle.module_reading.specs.declared.faults.ReadFault.{ReadFault}
-use Rattle.module_reading.specs.declared.faults.ReadFault.TheVariants.{Text, Module}
-use Rattle.module_reading.specs.Files.{sources_of}
-use Rattle.module_reading.specs.Refusals.{Fails, HasSupportedWords, IsSupported, NestsWithin, Passes, FailsFirst, WithTokens}
-use Rattle.module_reading.specs.Modules.{Refuses, RefusesPackages, go_sources}
-use Rattle.module_reading.proofs.RefusedLemmas.{all_at}
+use Rattle.module_texts.specs.declared.faults.TextFault.{TextFault}
+use Rattle.module_texts.specs.declared.faults.TextFault.TheVariants.{NotUtf8, BadToken, Unsupported, TooDeep, NotRead}
+use Rattle.module_texts.specs.declared.faults.ReadFault.{ReadFault}
+use Rattle.module_texts.specs.declared.faults.ReadFault.TheVariants.{Text, Module}
+use Rattle.module_texts.specs.Files.{sources_of}
+use Rattle.go_nesting.specs.Sources.{IsSupported}
+use Rattle.module_texts.specs.Refusals.{Fails, HasSupportedWords, NestsWithin, Passes, FailsFirst, WithTokens}
+use Rattle.module_texts.specs.Modules.{Refuses, RefusesPackages, go_sources}
+use Rattle.module_texts.proofs.RefusedLemmas.{all_at}
 use Rattle.refusals.specs.declared.refusal.Refusal.{Refusal}
 use Rattle.module_refusals.specs.Told.{Tells}
 use Rattle.module_refusals.specs.Laws.{ModulesHaveNoRefusal}

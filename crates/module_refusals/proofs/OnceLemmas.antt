@@ -25,14 +25,15 @@ use Rattle.pkg_graph.specs.Reads.{Source}
 use Rattle.pkg_graph.specs.Package.{SourceTree}
 use Rattle.pkg_graph.specs.GraphLaws.{FaultsAreUnique}
 use Rattle.source_files.specs.declared.files.SourceFile.{SourceFile}
-use Rattle.module_reading.specs.declared.faults.TextFault.{TextFault}
-use Rattle.module_reading.specs.declared.faults.TextFault.TheVariants.{NotUtf8, BadToken, Unsupported, TooDeep, NotRead}
-use Rattle.module_reading.specs.declared.faults.ReadFault.{ReadFault}
-use Rattle.module_reading.specs.declared.faults.ReadFault.TheVariants.{Text, Module}
-use Rattle.module_reading.specs.Files.{go_files, sources_of}
-use Rattle.module_reading.specs.Refusals.{Fails, FailsFirst, HasTokens, HasSupportedWords, IsSupported, Passes, PassesEarlier, RefusesTexts}
-use Rattle.module_reading.specs.Modules.{Refuses, RefusesModule, RefusesPackages, go_sources, module_answer}
-use Rattle.module_reading.proofs.RefusedLemmas.{all_at}
+use Rattle.module_texts.specs.declared.faults.TextFault.{TextFault}
+use Rattle.module_texts.specs.declared.faults.TextFault.TheVariants.{NotUtf8, BadToken, Unsupported, TooDeep, NotRead}
+use Rattle.module_texts.specs.declared.faults.ReadFault.{ReadFault}
+use Rattle.module_texts.specs.declared.faults.ReadFault.TheVariants.{Text, Module}
+use Rattle.module_texts.specs.Files.{go_files, sources_of}
+use Rattle.go_nesting.specs.Sources.{IsSupported}
+use Rattle.module_texts.specs.Refusals.{Fails, FailsFirst, HasTokens, HasSupportedWords, Passes, PassesEarlier, RefusesTexts}
+use Rattle.module_texts.specs.Modules.{Refuses, RefusesModule, RefusesPackages, go_sources, module_answer}
+use Rattle.module_texts.proofs.RefusedLemmas.{all_at}
 use Rattle.refusals.specs.Refusals.{number_of}
 use Rattle.refusals.specs.declared.refusal.Refusal.{Refusal}
 use Rattle.refusals.specs.declared.refusal.Detail.{Detail}

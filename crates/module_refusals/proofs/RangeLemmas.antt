@@ -10,11 +10,11 @@ use Rattle.pkg_graph.specs.Graph.{ImportAt, IsFault, is_mixed_package, is_no_pac
 use Rattle.pkg_graph.specs.Reads.{Source, AreTrees, none, file}
 use Rattle.run_rules.specs.Inlining.{IsSourceFile}
 use Rattle.source_files.specs.declared.files.SourceFile.{SourceFile}
-use Rattle.module_reading.specs.declared.faults.TextFault.{TextFault}
-use Rattle.module_reading.specs.declared.faults.ReadFault.TheVariants.{Text}
-use Rattle.module_reading.specs.Files.{go_files, source_of, sources_of}
-use Rattle.module_reading.specs.Modules.{Refuses, RefusesModule, go_sources}
-use Rattle.module_reading.proofs.RefusedLemmas.{go_alike}
+use Rattle.module_texts.specs.declared.faults.TextFault.{TextFault}
+use Rattle.module_texts.specs.declared.faults.ReadFault.TheVariants.{Text}
+use Rattle.module_texts.specs.Files.{go_files, source_of, sources_of}
+use Rattle.module_texts.specs.Modules.{Refuses, RefusesModule, go_sources}
+use Rattle.module_texts.proofs.RefusedLemmas.{go_alike}
 
 count_alike : (files : List SourceFile) → length (go_sources (sources_of files)) ≡ length (go_files files)
 count_alike files = ap length (sym (go_alike files)) ∙ length-map (go_files files) source_of

@@ -12,12 +12,12 @@ use Rattle.pkg_graph.specs.Reads.{Source, AreTrees, none, file}
 use Rattle.run_rules.specs.Inlining.{IsSourceFile}
 use Rattle.refusals.specs.declared.refusal.Refusal.{Refusal}
 use Rattle.source_files.specs.declared.files.SourceFile.{SourceFile}
-use Rattle.module_reading.specs.declared.faults.ReadFault.{ReadFault}
-use Rattle.module_reading.specs.declared.faults.ReadFault.TheVariants.{Text, Module}
-use Rattle.module_reading.specs.declared.reading.ReadModule.{ReadModule}
-use Rattle.module_reading.specs.Files.{go_files, is_go_file, source_of, sources_of}
-use Rattle.module_reading.specs.Modules.{IsReadFrom, RefusesModule, go_sources}
-use Rattle.module_reading.proofs.RefusedLemmas.{go_alike, shallow_are, words_are}
+use Rattle.module_texts.specs.declared.faults.ReadFault.{ReadFault}
+use Rattle.module_texts.specs.declared.faults.ReadFault.TheVariants.{Text, Module}
+use Rattle.module_texts.specs.declared.modules.ReadModule.{ReadModule}
+use Rattle.module_texts.specs.Files.{go_files, is_go_file, source_of, sources_of}
+use Rattle.module_texts.specs.Modules.{IsReadFrom, RefusesModule, go_sources}
+use Rattle.module_texts.proofs.RefusedLemmas.{go_alike, shallow_are, words_are}
 use Rattle.module_refusals.specs.Refused.{AreModule, IsBelow, IsRefusal}
 use Rattle.module_refusals.specs.Told.{Tells, OfFile}
 

@@ -8,10 +8,10 @@ use Rattle.pkg_graph.specs.Reads.{AreTrees}
 use Rattle.run_rules.specs.Inlining.{IsSourceFile}
 use Rattle.refusals.specs.declared.refusal.Refusal.{Refusal}
 use Rattle.source_files.specs.declared.files.SourceFile.{SourceFile}
-use Rattle.module_reading.specs.declared.faults.ReadFault.{ReadFault}
-use Rattle.module_reading.specs.Files.{sources_of}
-use Rattle.module_reading.specs.Refusals.{HasSupportedWords, NestsWithin}
-use Rattle.module_reading.specs.Modules.{Refuses, go_sources, module_answer}
+use Rattle.module_texts.specs.declared.faults.ReadFault.{ReadFault}
+use Rattle.module_texts.specs.Files.{sources_of}
+use Rattle.module_texts.specs.Refusals.{HasSupportedWords, NestsWithin}
+use Rattle.module_texts.specs.Modules.{Refuses, go_sources, module_answer}
 use Rattle.module_refusals.specs.Told.{Tells}
 
 -- Why files aren't a module: the first reason, in the order of the checks, with its place.

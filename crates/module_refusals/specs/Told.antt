@@ -13,11 +13,11 @@ use Rattle.refusals.specs.declared.refusal.Detail.{Detail}
 use Rattle.refusals.specs.declared.refusal.Detail.TheVariants as detail
 use Rattle.refusals.specs.declared.refusal.Refusal.{Refusal}
 use Rattle.source_files.specs.declared.files.SourceFile.{SourceFile}
-use Rattle.module_reading.specs.declared.faults.TextFault.{TextFault}
-use Rattle.module_reading.specs.declared.faults.TextFault.TheVariants.{NotUtf8, BadToken, Unsupported, TooDeep, NotRead}
-use Rattle.module_reading.specs.declared.faults.ReadFault.{ReadFault}
-use Rattle.module_reading.specs.declared.faults.ReadFault.TheVariants.{Text, Module}
-use Rattle.module_reading.specs.Files.{go_files}
+use Rattle.module_texts.specs.declared.faults.TextFault.{TextFault}
+use Rattle.module_texts.specs.declared.faults.TextFault.TheVariants.{NotUtf8, BadToken, Unsupported, TooDeep, NotRead}
+use Rattle.module_texts.specs.declared.faults.ReadFault.{ReadFault}
+use Rattle.module_texts.specs.declared.faults.ReadFault.TheVariants.{Text, Module}
+use Rattle.module_texts.specs.Files.{go_files}
 
 -- this is told of a byte of a file
 abbrev pub told_at : SourceFile → ℕ → Detail → Refusal

@@ -2,9 +2,9 @@
 
 ghost use Rattle.std.specs.Prelude.{◌≡◌, ◌<◌, Some, length};
 ghost use Rattle.std.specs.List.{slice_get};
-ghost use Rattle.module_reading.specs.Files.{go_files};
+ghost use Rattle.module_texts.specs.Files.{go_files};
 
-use module_reading::is_go_file;
+use module_texts::is_go_file;
 use source_files::SourceFile;
 
 /// The file of Go source with this number.

@@ -2,8 +2,8 @@
 
 ghost use Rattle.std.specs.Prelude.{◌≡◌, ◌<◌, ◌≤◌, ◌^◌, ℕ, All, IfOk, IfSome, MatchOption};
 ghost use Rattle.std.specs.Prelude.{length};
-ghost use Rattle.module_reading.specs.Files.{go_files, sources_of};
-ghost use Rattle.module_reading.specs.Modules.{Refuses, RefusesModule};
+ghost use Rattle.module_texts.specs.Files.{go_files, sources_of};
+ghost use Rattle.module_texts.specs.Modules.{Refuses, RefusesModule};
 ghost use Rattle.module_refusals.specs.Refused.{AreModule, IsBelow, IsRefusal};
 ghost use Rattle.module_refusals.specs.Told.{OfFile, Tells, TellsModule, fault_at, fault_detail, told_at, told_whole};
 
@@ -11,7 +11,8 @@ use crate::files::go_file;
 use crate::names::package_name;
 use crate::texts::{bytes_in, place_of};
 use go_tree::{MAX_FILE_BYTES, NoMemory, Text};
-use module_reading::{ReadFault, TextFault, read_module_files};
+use module_reading::read_module_files;
+use module_texts::{ReadFault, TextFault};
 use pkg_graph::GraphError;
 use refusals::{Detail, Refusal};
 use source_files::SourceFile;

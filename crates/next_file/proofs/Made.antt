@@ -1,11 +1,11 @@
 -- What is answered of a new text.
 use Rattle.std.proofs.Common.{◌≡◌, ℕ, List, length, None, sym, subst}
-use Rattle.next_file.specs.declared.limits.Progress.{Progress}
-use Rattle.next_file.specs.declared.file.NewFile.{NewFile}
-use Rattle.next_file.specs.declared.file.FileFault.{FileFault}
-use Rattle.next_file.specs.declared.file.FileFault.TheVariants.{TooLarge, NotRead, NoMemory}
-use Rattle.next_file.specs.Limits.{KeepsLimits, Passes}
-use Rattle.next_file.specs.Files.{IsFault, IsNewFile, IsUnread, text_of}
+use Rattle.step_files.specs.declared.limits.Progress.{Progress}
+use Rattle.step_files.specs.declared.file.NewFile.{NewFile}
+use Rattle.step_files.specs.declared.file.FileFault.{FileFault}
+use Rattle.step_files.specs.declared.file.FileFault.TheVariants.{TooLarge, NotRead, NoMemory}
+use Rattle.step_files.specs.Limits.{KeepsLimits, Passes}
+use Rattle.step_files.specs.Files.{IsFault, IsNewFile, IsUnread, text_of}
 use Rattle.next_file.proofs.Tried.{passes_none, passes_weight}
 
 pub within_limits : (p : Progress) (bytes : ℕ) (text : List ℕ) (f : NewFile) → KeepsLimits p bytes → bytes ≡ length text → IsNewFile text f → Passes p (text_of f) None

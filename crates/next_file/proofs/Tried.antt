@@ -9,9 +9,9 @@ use Rattle.go_nesting.specs.Over.{IsFirstOver}
 use Rattle.pkg_graph.specs.Reads.{Source}
 use Rattle.run_rules.specs.Texts.{FileText}
 use Rattle.run_rules.specs.Run.{Logged, Limit, Steps, StepsOfUse, Bytes, Total, TooLarge, over, over_weight, first_over, steps_like, the_limits, passed}
-use Rattle.next_file.specs.declared.limits.Progress.{Progress}
-use Rattle.next_file.specs.declared.limits.Passed.{Passed}
-use Rattle.next_file.specs.Limits.{KeepsLimits, ComesNext, Passes, told, tried}
+use Rattle.step_files.specs.declared.limits.Progress.{Progress}
+use Rattle.step_files.specs.declared.limits.Passed.{Passed}
+use Rattle.step_files.specs.Limits.{KeepsLimits, ComesNext, Passes, told, tried}
 use Rattle.next_file.proofs.Weights.{none_over}
 
 is_over : (limit : Limit) (bound count : ℕ) (rest : Option TooLarge) → bound < count → over limit bound count rest ≡ Some (record { limit = limit; count = count; bound = bound })

@@ -10,12 +10,14 @@ use Rattle.go_scan.proofs.Cuts.{tokens_once}
 use Rattle.go_read.specs.SpellsWeight.{weights_of}
 use Rattle.go_read.proofs.Whole.{refused_spells_none}
 use Rattle.go_nesting.specs.Over.{IsOverAt}
-use Rattle.go_parse.specs.Sources.{IsSupported, IsUnsupportedAt, HasTokens, RefusesText, RefusesTokens}
+use Rattle.go_nesting.specs.Sources.{IsSupported, IsUnsupportedAt}
+use Rattle.go_parse.specs.Sources.{HasTokens, RefusesText, RefusesTokens}
 use Rattle.go_parse.specs.declared.source.ReadError.{ReadError}
 use Rattle.go_parse.specs.declared.source.ReadError.TheVariants as error
 use Rattle.run_rules.specs.Run.{Weight, first_over, over_weight}
-use Rattle.next_file.specs.declared.file.FileFault.{FileFault}
-use Rattle.next_file.specs.Files.{IsUnread, fault_of}
+use Rattle.step_files.specs.declared.file.FileFault.{FileFault}
+use Rattle.step_files.specs.Files.{IsUnread}
+use Rattle.next_file.specs.Faults.{fault_of}
 use Rattle.next_file.proofs.Weights.{over_is}
 
 contains_none : (x : Span) → Contains [] x → ⊥

@@ -1,3 +1,1 @@
-pub use Rattle.go_parse.specs.Sources
-pub mod Limits
-pub mod Files
+pub mod Faults

@@ -2,36 +2,18 @@
 
 ghost use Rattle.std.specs.Prelude.{◌≡◌, ◌≤◌, IfErr, IfOk, None, length};
 ghost use Rattle.text_edits.specs.Applied.{Within, applied};
-ghost use Rattle.next_file.specs.Files.{IsFault, IsNewFile, IsUnread, fault_of, text_of};
-ghost use Rattle.next_file.specs.Limits.{Passes};
+ghost use Rattle.next_file.specs.Faults.{fault_of};
+ghost use Rattle.step_files.specs.Files.{IsFault, IsNewFile, IsUnread, text_of};
+ghost use Rattle.step_files.specs.Limits.{Passes};
 
-use crate::limits::{Passed, Progress, first_passed};
+use crate::limits::first_passed;
 use go_nesting::MAX_LIMIT;
 use go_parse::{ReadError, Source, read_file};
-use go_scan::Tokens;
-use go_tree::{FileTree, MAX_FILE_BYTES, Text};
+use go_tree::{MAX_FILE_BYTES, Text};
 use refusals::Limit;
 use std::alloc::Global;
+use step_files::{FileFault, NewFile, Passed, Progress};
 use text_edits::{Edits, apply};
-
-/// A file as a step leaves it: its text, the tokens and comments of the text, and its tree.
-#[derive(Drop)]
-pub struct NewFile {
-    pub text: Text,
-    pub tokens: Tokens,
-    pub tree: FileTree,
-}
-
-/// Why a step leaves no file.
-#[derive(Drop)]
-pub enum FileFault {
-    /// The step passes a limit of the run.
-    TooLarge(Passed),
-    /// The new text reads as no file of supported words.
-    NotRead,
-    /// Memory was refused.
-    NoMemory,
-}
 
 /// What is answered where a new text isn't read.
 fn fault_of(error: ReadError) -> FileFault

@@ -4,5 +4,4 @@
 mod file;
 mod limits;
 
-pub use file::{FileFault, NewFile, new_file};
-pub use limits::{Passed, Progress};
+pub use file::new_file;

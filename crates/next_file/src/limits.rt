@@ -1,11 +1,12 @@
-//! How far a run has come, and which limit its next step passes.
+//! Which limit the next step of a run passes.
 
 ghost use Rattle.std.specs.Prelude.{◌≡◌, IfNone, IfSome, Option, Some};
 ghost use Rattle.run_rules.specs.Run.{TooLarge};
-ghost use Rattle.next_file.specs.Limits.{KeepsLimits, tried, told};
+ghost use Rattle.step_files.specs.Limits.{KeepsLimits, tried, told};
 
 use go_tree::MAX_FILE_BYTES;
 use refusals::Limit;
+use step_files::{Passed, Progress};
 
 /// The most steps of a run.
 const MAX_STEPS: u32 = 65_536;
@@ -15,25 +16,6 @@ const MAX_STEPS_OF_USE: u32 = 1_024;
 
 /// The most bytes of all files.
 const MAX_MODULE_BYTES: u32 = 16_777_216;
-
-/// How far a run has come before a step.
-#[derive(Clone, Copy, Debug)]
-pub struct Progress {
-    /// The steps that were made.
-    pub steps: u32,
-    /// Those of them that have the origin of this one.
-    pub steps_of_use: u32,
-    /// The bytes of `go.mod` and of each file but that of this step.
-    pub other_bytes: u32,
-}
-
-/// A limit of a run that is passed: by which count, and how much is allowed.
-#[derive(Clone, Copy, Debug)]
-pub struct Passed {
-    pub limit: Limit,
-    pub count: u64,
-    pub bound: u64,
-}
 
 /// The first limit of steps and of bytes that a step passes after which its file has so many bytes.
 #[tactic(auto, using(crate::proofs::Tried::steps_passed, crate::proofs::Tried::uses_passed, crate::proofs::Tried::bytes_passed, crate::proofs::Tried::total_passed))]

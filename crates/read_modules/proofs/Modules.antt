@@ -10,12 +10,12 @@ use Rattle.pkg_graph.specs.Reads.{Source, is_at, AreTrees}
 use Rattle.pkg_graph.specs.Views.{package_view}
 use Rattle.run_rules.specs.Inlining as inlining
 use Rattle.run_rules.specs.Inlining.{IsSourceFile}
-use Rattle.module_reading.specs.Files.{IsScanned, source_of, sources_of}
-use Rattle.module_reading.specs.Modules.{go_sources, IsReadFrom}
-use Rattle.module_reading.specs.declared.files.ScannedFile.{ScannedFile}
-use Rattle.module_reading.specs.declared.reading.ReadModule.{ReadModule}
-use Rattle.module_reading.proofs.RefusedLemmas.{texts_alike}
-use Rattle.module_reading.proofs.SelectedLemmas.{selected_files_read}
+use Rattle.module_texts.specs.Files.{IsScanned, source_of, sources_of}
+use Rattle.module_texts.specs.Modules.{go_sources, IsReadFrom}
+use Rattle.module_texts.specs.declared.files.ScannedFile.{ScannedFile}
+use Rattle.module_texts.specs.declared.modules.ReadModule.{ReadModule}
+use Rattle.module_texts.proofs.RefusedLemmas.{texts_alike}
+use Rattle.module_texts.proofs.SelectedLemmas.{selected_files_read}
 use Rattle.module_marks.specs.Views.{file_text, texts_of}
 use Rattle.source_files.specs.declared.files.SourceFile.{SourceFile}
 use Rattle.read_modules.specs.Modules.{IsReadIn, packages_in, texts_in}

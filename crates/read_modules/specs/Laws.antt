@@ -4,9 +4,9 @@ use Rattle.std.specs.Prelude.{◌<◌, ◌^◌, List, length, All}
 use Rattle.pkg_graph.specs.Reads.{Source}
 use Rattle.run_rules.specs.Inlining.{ModuleReads}
 use Rattle.source_files.specs.declared.files.SourceFile.{SourceFile}
-use Rattle.module_reading.specs.Files.{IsScanned}
-use Rattle.module_reading.specs.Modules.{IsReadFrom}
-use Rattle.module_reading.specs.declared.reading.ReadModule.{ReadModule}
+use Rattle.module_texts.specs.Files.{IsScanned}
+use Rattle.module_texts.specs.Modules.{IsReadFrom}
+use Rattle.module_texts.specs.declared.modules.ReadModule.{ReadModule}
 use Rattle.read_modules.specs.Modules.{IsReadIn, packages_in, texts_in}
 
 -- What is read from the selected files of a folder is what the folder reads as, with the texts of its files.

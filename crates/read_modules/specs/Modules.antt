@@ -7,9 +7,9 @@ use Rattle.pkg_graph.specs.Views.{package_view}
 use Rattle.run_rules.specs.Texts.{FileText}
 use Rattle.run_rules.specs.Inlining.{are_by_path}
 use Rattle.source_files.specs.declared.files.SourceFile.{SourceFile}
-use Rattle.module_reading.specs.Files.{sources_of}
-use Rattle.module_reading.specs.Modules.{IsReadFrom}
-use Rattle.module_reading.specs.declared.reading.ReadModule.{ReadModule}
+use Rattle.module_texts.specs.Files.{sources_of}
+use Rattle.module_texts.specs.Modules.{IsReadFrom}
+use Rattle.module_texts.specs.declared.modules.ReadModule.{ReadModule}
 use Rattle.module_marks.specs.Views.{texts_of}
 
 -- the packages of a module that is read

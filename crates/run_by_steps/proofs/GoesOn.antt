@@ -5,7 +5,7 @@ use Rattle.go_tree.specs.declared.spans.Span.{Span}
 use Rattle.go_tree.specs.File.{File}
 use Rattle.go_tree.specs.FileView.{file_of}
 use Rattle.go_tree.specs.GoWords.Tokens.{TokensOf}
-use Rattle.next_file.specs.Sources.{IsSupported}
+use Rattle.go_nesting.specs.Sources.{IsSupported}
 use Rattle.splice_laws.specs.ImportSplices.AddedFile.{AreWritable}
 use Rattle.pkg_graph.specs.Reads.{Source}
 use Rattle.run_rules.specs.Sites.{MarkRef}
@@ -16,9 +16,9 @@ use Rattle.run_rules.specs.Steps.{At, Found}
 use Rattle.run_rules.specs.Run.{Standing, Logged, passed, the_limits}
 use Rattle.run_rules.specs.Inlining.{standing_as_read}
 use Rattle.splice_laws.proofs.RunLaws.FilesKept.{runs_are_inlinings}
-use Rattle.next_file.specs.declared.limits.Progress.{Progress}
-use Rattle.next_file.specs.Limits.{ComesNext, told}
-use Rattle.next_file.specs.Files.{text_of}
+use Rattle.step_files.specs.declared.limits.Progress.{Progress}
+use Rattle.step_files.specs.Limits.{ComesNext, told}
+use Rattle.step_files.specs.Files.{text_of}
 use Rattle.run_by_steps.specs.NextPrograms.Made.{MakesFile, NextWith}
 use Rattle.run_by_steps.proofs.NextPrograms.TextsRead.{texts_read}
 use Rattle.run_by_steps.proofs.NextPrograms.NextMade.{made_are_next}

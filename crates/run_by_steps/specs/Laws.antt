@@ -11,12 +11,12 @@ use Rattle.run_rules.specs.Steps.{At, Found}
 use Rattle.run_rules.specs.Run.{Standing, Logged, step_in, the_limits, uses_kept}
 use Rattle.run_rules.specs.Report.{report_of}
 use Rattle.run_rules.specs.Inlining.{IsInlining, IsTooLarge}
-use Rattle.next_file.specs.declared.limits.Progress.{Progress}
-use Rattle.next_file.specs.declared.limits.Passed.{Passed}
-use Rattle.next_file.specs.declared.file.NewFile.{NewFile}
-use Rattle.next_file.specs.declared.file.FileFault.TheVariants.{TooLarge, NotRead}
-use Rattle.next_file.specs.Limits.{told, Passes}
-use Rattle.next_file.specs.Files.{IsNewFile, IsFault, text_of}
+use Rattle.step_files.specs.declared.limits.Progress.{Progress}
+use Rattle.step_files.specs.declared.limits.Passed.{Passed}
+use Rattle.step_files.specs.declared.file.NewFile.{NewFile}
+use Rattle.step_files.specs.declared.file.FileFault.TheVariants.{TooLarge, NotRead}
+use Rattle.step_files.specs.Limits.{told, Passes}
+use Rattle.step_files.specs.Files.{IsNewFile, IsFault, text_of}
 use Rattle.run_by_steps.specs.NextPrograms.Made.{NextWith}
 use Rattle.run_by_steps.specs.RunProgress.Laws.{HasCome}
 use Rattle.run_by_steps.specs.Reached.{HasReached, IsNextUse, text_made, row_of}

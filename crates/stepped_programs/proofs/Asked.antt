@@ -23,7 +23,7 @@ use Rattle.file_tables.proofs.DependencyOrder.Paths.{viewed_paths}
 use Rattle.go_tree.specs.GoTypes.Agreement.{In, head, tail}
 use Rattle.stepped_programs.proofs.LoadedPrograms.AsRead.{order_with}
 use Rattle.stepped_programs.proofs.LoadedPrograms.Images.{image_at, at_image}
-use Rattle.next_file.specs.declared.file.NewFile.{NewFile}
+use Rattle.step_files.specs.declared.file.NewFile.{NewFile}
 use Rattle.programs.specs.Kept.{IsKeptFile}
 use Rattle.programs.specs.Programs.{AreKeptFiles, IsProgramOf}
 use Rattle.programs.specs.declared.state.Program.{Program}

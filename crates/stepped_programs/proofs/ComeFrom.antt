@@ -9,7 +9,7 @@ use Rattle.go_tree.specs.ScopeNames.Scopes.{expr_span}
 use Rattle.pkg_graph.specs.Package.{SourceTree, Package}
 use Rattle.pkg_graph.specs.Reads.{Source}
 use Rattle.member_uses.proofs.Stays.{candidate_with, after_decl-stays}
-use Rattle.next_file.specs.declared.file.NewFile.{NewFile}
+use Rattle.step_files.specs.declared.file.NewFile.{NewFile}
 use Rattle.member_uses.specs.PossibleUses.Candidates.{Candidate}
 use Rattle.member_uses.specs.PossibleUses.Parts.{parts_of}
 use Rattle.programs.specs.PartOrigins.Laws.{decls_origins}

@@ -13,7 +13,7 @@ use Rattle.file_names.specs.Members.{IsBlockOf}
 use Rattle.file_tables.specs.ReplacedFiles.Replaced.{with_tree_of}
 use Rattle.stepped_programs.proofs.LoadedPrograms.Images.{image_at, at_image}
 use Rattle.repeated_parts.specs.UseSearch.MarkValues.Tables.{DeclKey, values_at}
-use Rattle.next_file.specs.declared.file.NewFile.{NewFile}
+use Rattle.step_files.specs.declared.file.NewFile.{NewFile}
 use Rattle.programs.specs.FileValues.Filled.{HasFileValues}
 use Rattle.programs.specs.Programs.{IsProgramOf}
 use Rattle.programs.specs.declared.state.Program.{Program}

@@ -15,8 +15,8 @@ use Rattle.constant_steps.specs.PlaceMeanings.Parts.{AllScoped}
 use Rattle.member_uses.specs.PossibleUses.Among.{Keyed}
 use Rattle.member_uses.specs.PossibleUses.Laws.{PartsAreAmongAll}
 use Rattle.constant_forms.specs.Views.{name_expr}
-use Rattle.next_file.specs.declared.file.NewFile.{NewFile}
-use Rattle.next_file.specs.Files.{text_of}
+use Rattle.step_files.specs.declared.file.NewFile.{NewFile}
+use Rattle.step_files.specs.Files.{text_of}
 use Rattle.stepped_programs.specs.declared.package_search.looks.ProgramSources.{ProgramSources}
 use Rattle.stepped_programs.specs.declared.package_search.search.FoundInPackage.{FoundInPackage}
 use Rattle.programs.specs.Programs.{IsProgramOf}

@@ -8,8 +8,8 @@ use Rattle.go_scan.specs.TokenLists.{TokenLists}
 use Rattle.pkg_graph.specs.Package.{SourceTree, Package}
 use Rattle.pkg_graph.specs.Reads.{Source}
 use Rattle.repeated_parts.specs.UseSearch.MarkValues.Tables.{DeclKey}
-use Rattle.next_file.specs.declared.file.NewFile.{NewFile}
-use Rattle.next_file.specs.Files.{text_of}
+use Rattle.step_files.specs.declared.file.NewFile.{NewFile}
+use Rattle.step_files.specs.Files.{text_of}
 use Rattle.programs.specs.Kept.{IsKeptFile, text_with}
 use Rattle.programs.specs.Programs.{AreKeptFiles, IsProgramOf}
 use Rattle.programs.specs.Users.{Known}

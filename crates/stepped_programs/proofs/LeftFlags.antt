@@ -7,7 +7,7 @@ use Rattle.std.proofs.lemmas.Option.{slice_get_within}
 use Rattle.go_tree.specs.declared.spans.Span.{Span}
 use Rattle.go_scan.specs.TokenLists.{TokenLists}
 use Rattle.repeated_parts.specs.UseSearch.MarkValues.Tables.{DeclKey, same_key}
-use Rattle.next_file.specs.declared.file.NewFile.{NewFile}
+use Rattle.step_files.specs.declared.file.NewFile.{NewFile}
 use Rattle.stepped_programs.specs.PackageSearch.Search.{is_settled}
 use Rattle.programs.specs.Users.{Known, is_user}
 use Rattle.programs.specs.declared.state.PackageFiles.{PackageFiles}

@@ -4,7 +4,7 @@ use Rattle.go_tree.specs.declared.spans.Span.{Span}
 use Rattle.pkg_graph.specs.Reads.{Source}
 use Rattle.repeated_parts.specs.UseSearch.MarkValues.Tables.{DeclKey, same_key}
 use Rattle.constant_modules.specs.KeyedImports.Steps.{IsOverNameKeyed}
-use Rattle.next_file.specs.declared.file.NewFile.{NewFile}
+use Rattle.step_files.specs.declared.file.NewFile.{NewFile}
 use Rattle.stepped_programs.specs.declared.package_search.looks.ProgramSources.{ProgramSources}
 use Rattle.programs.specs.Users.{Known, is_user}
 use Rattle.programs.specs.declared.state.Program.{Program}

@@ -11,7 +11,7 @@ use Rattle.file_names.specs.Imports.{FindsPackages}
 use Rattle.stepped_programs.proofs.LoadedPrograms.AsRead.{order_with}
 use Rattle.module_marks.specs.Tables.{IsTableOf}
 use Rattle.module_marks.specs.declared.table.MarkTable.{MarkTable}
-use Rattle.next_file.specs.declared.file.NewFile.{NewFile}
+use Rattle.step_files.specs.declared.file.NewFile.{NewFile}
 use Rattle.programs.specs.Kept.{IsKeptFile, text_with}
 use Rattle.programs.specs.Programs.{IsProgramOf}
 use Rattle.programs.specs.declared.state.PackageFiles.{PackageFiles}

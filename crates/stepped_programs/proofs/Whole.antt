@@ -13,7 +13,7 @@ use Rattle.file_names.specs.Imports.{FindsPackages}
 use Rattle.file_tables.specs.DependencyOrder.Links.{AreNamed}
 use Rattle.file_tables.specs.ReplacedFiles.Replaced.{with_tree, with_tree_of}
 use Rattle.stepped_programs.proofs.LoadedPrograms.Images.{image_at, at_image}
-use Rattle.next_file.specs.declared.file.NewFile.{NewFile}
+use Rattle.step_files.specs.declared.file.NewFile.{NewFile}
 use Rattle.programs.specs.declared.state.PackageFiles.{PackageFiles}
 use Rattle.programs.specs.declared.state.Program.{Program}
 use Rattle.run_rules.specs.Steps.{change_nth}

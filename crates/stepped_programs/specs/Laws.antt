@@ -17,8 +17,8 @@ use Rattle.constant_forms.specs.Views.{name_expr}
 use Rattle.order_runs.specs.CycleRuns.Linked.{Linked}
 use Rattle.constant_modules.specs.KeyedImports.Steps.{IsOverNameKeyed}
 use Rattle.repeated_parts.specs.UseSearch.MarkValues.Tables.{DeclKey, same_key}
-use Rattle.next_file.specs.declared.file.NewFile.{NewFile}
-use Rattle.next_file.specs.Files.{text_of}
+use Rattle.step_files.specs.declared.file.NewFile.{NewFile}
+use Rattle.step_files.specs.Files.{text_of}
 use Rattle.stepped_programs.specs.declared.package_search.looks.ProgramSources.{ProgramSources}
 use Rattle.stepped_programs.specs.declared.package_search.search.FoundInPackage.{FoundInPackage}
 use Rattle.programs.specs.PartOrigins.Laws.{decls_origins}

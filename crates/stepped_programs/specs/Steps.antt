@@ -17,7 +17,7 @@ use Rattle.file_names.specs.Members.{IsBlockOf}
 use Rattle.file_tables.specs.DependencyOrder.Links.{AreNamed}
 use Rattle.file_tables.specs.ReplacedFiles.Replaced.{with_tree_of}
 use Rattle.repeated_parts.specs.UseSearch.MarkValues.Tables.{DeclKey, Known, decl_at, values_at}
-use Rattle.next_file.specs.declared.file.NewFile.{NewFile}
+use Rattle.step_files.specs.declared.file.NewFile.{NewFile}
 use Rattle.member_uses.specs.PossibleUses.Parts.{parts_of}
 use Rattle.programs.specs.FileValues.Filled.{HasFileValues}
 use Rattle.programs.specs.PartOrigins.Views.{origins_of}

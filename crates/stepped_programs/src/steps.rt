@@ -18,11 +18,11 @@ use crate::texts::put_text;
 use file_names::Places;
 use file_tables::{Block, package_order, replace_file};
 use go_tree::{NoMemory, Span};
-use next_file::NewFile;
 use pkg_graph::Package;
 use programs::{PackageFiles, Program, fill_source};
 use repeated_parts::use_search::mark_values::ConstantValues;
 use std::alloc::Global;
+use step_files::NewFile;
 
 /// The bytes of a module, of which a text of so many bytes gave way to one of so many.
 fn bytes_after(bytes: u32, old: usize, new: usize) -> u32

@@ -49,39 +49,39 @@ around-none k pk = none-of-both k (numbered Package 0 pk) (numbered Universe 0 p
 
 -- ---- names of imports, with further ones behind them
 
-module _ (R R2 : Environment Entity) where
-  past : (k i : ℕ) (ys : List (List ℕ)) (m : List ℕ) → is_among ys m ≡ false → means_import k (means (numbered Import i ys ++ R2) m) ≡ means_import k (means R2 m)
+module _ (R Behind : Environment Entity) where
+  past : (k i : ℕ) (ys : List (List ℕ)) (m : List ℕ) → is_among ys m ≡ false → means_import k (means (numbered Import i ys ++ Behind) m) ≡ means_import k (means Behind m)
   past k i [] m a = refl
   past k i (y ∷ ys) m a =
       let r = or_parts (bytes_eq m y) (is_among ys m) a in
       by (is_blank y) (eq_turn y m ∙ r.0) (past k (suc i) ys m r.1)
     where
-      by : (b : Bool) → bytes_eq y m ≡ false → means_import k (means (numbered Import (suc i) ys ++ R2) m) ≡ means_import k (means R2 m)
-          → means_import k (means (((if b then [] else (y, Import i) ∷ []) ++ numbered Import (suc i) ys) ++ R2) m) ≡ means_import k (means R2 m)
+      by : (b : Bool) → bytes_eq y m ≡ false → means_import k (means (numbered Import (suc i) ys ++ Behind) m) ≡ means_import k (means Behind m)
+          → means_import k (means (((if b then [] else (y, Import i) ∷ []) ++ numbered Import (suc i) ys) ++ Behind) m) ≡ means_import k (means Behind m)
       by true g r = r
-      by false g r = (λ v. means_import k (if g v then Some (Import i) else means (numbered Import (suc i) ys ++ R2) m)) ∙ r
+      by false g r = (λ v. means_import k (if g v then Some (Import i) else means (numbered Import (suc i) ys ++ Behind) m)) ∙ r
 
-  behind-same : (k : ℕ) → NoImport k R → NoImport k R2 → (i : ℕ) (xs ys : List (List ℕ)) (m : List ℕ) → is_among ys m ≡ false
-      → means_import k (means (numbered Import i (xs ++ ys) ++ R2) m) ≡ means_import k (means (numbered Import i xs ++ R) m)
-  behind-same k h g i [] ys m a = past k i ys m a ∙ none-meant k R2 m g ∙ sym (none-meant k R m h)
+  behind-same : (k : ℕ) → NoImport k R → NoImport k Behind → (i : ℕ) (xs ys : List (List ℕ)) (m : List ℕ) → is_among ys m ≡ false
+      → means_import k (means (numbered Import i (xs ++ ys) ++ Behind) m) ≡ means_import k (means (numbered Import i xs ++ R) m)
+  behind-same k h g i [] ys m a = past k i ys m a ∙ none-meant k Behind m g ∙ sym (none-meant k R m h)
   behind-same k h g i (x ∷ xs) ys m a = by (is_blank x) (behind-same k h g (suc i) xs ys m a)
     where
-      first : (b : Bool) → means_import k (means (numbered Import (suc i) (xs ++ ys) ++ R2) m) ≡ means_import k (means (numbered Import (suc i) xs ++ R) m)
-          → means_import k (if b then Some (Import i) else means (numbered Import (suc i) (xs ++ ys) ++ R2) m) ≡ means_import k (if b then Some (Import i) else means (numbered Import (suc i) xs ++ R) m)
+      first : (b : Bool) → means_import k (means (numbered Import (suc i) (xs ++ ys) ++ Behind) m) ≡ means_import k (means (numbered Import (suc i) xs ++ R) m)
+          → means_import k (if b then Some (Import i) else means (numbered Import (suc i) (xs ++ ys) ++ Behind) m) ≡ means_import k (if b then Some (Import i) else means (numbered Import (suc i) xs ++ R) m)
       first true r = refl
       first false r = r
 
-      by : (b : Bool) → means_import k (means (numbered Import (suc i) (xs ++ ys) ++ R2) m) ≡ means_import k (means (numbered Import (suc i) xs ++ R) m)
-          → means_import k (means (((if b then [] else (x, Import i) ∷ []) ++ numbered Import (suc i) (xs ++ ys)) ++ R2) m)
+      by : (b : Bool) → means_import k (means (numbered Import (suc i) (xs ++ ys) ++ Behind) m) ≡ means_import k (means (numbered Import (suc i) xs ++ R) m)
+          → means_import k (means (((if b then [] else (x, Import i) ∷ []) ++ numbered Import (suc i) (xs ++ ys)) ++ Behind) m)
           ≡ means_import k (means (((if b then [] else (x, Import i) ∷ []) ++ numbered Import (suc i) xs) ++ R) m)
       by true r = r
       by false r = first (bytes_eq x m) r
 
   -- a new name means the import that has it
-  at-place : (i : ℕ) (xs ys : List (List ℕ)) (y : List ℕ) → is_among xs y ≡ false → is_blank y ≡ false → (j : ℕ) → j ≡ i + length xs → means (numbered Import i (xs ++ y ∷ ys) ++ R2) y ≡ Some (Import j)
+  at-place : (i : ℕ) (xs ys : List (List ℕ)) (y : List ℕ) → is_among xs y ≡ false → is_blank y ≡ false → (j : ℕ) → j ≡ i + length xs → means (numbered Import i (xs ++ y ∷ ys) ++ Behind) y ≡ Some (Import j)
   at-place i [] ys y a b j e =
-      (λ v. means (((if b v then [] else (y, Import i) ∷ []) ++ numbered Import (suc i) ys) ++ R2) y)
-      ∙ (λ v. if own_eq y v then Some (Import i) else means (numbered Import (suc i) ys ++ R2) y)
+      (λ v. means (((if b v then [] else (y, Import i) ∷ []) ++ numbered Import (suc i) ys) ++ Behind) y)
+      ∙ (λ v. if own_eq y v then Some (Import i) else means (numbered Import (suc i) ys ++ Behind) y)
       ∙ (λ v. Some (Import (first v)))
     where
       first : i ≡ j
@@ -90,10 +90,10 @@ module _ (R R2 : Environment Entity) where
       let r = or_parts (bytes_eq y x) (is_among xs y) a in
       by (is_blank x) (eq_turn x y ∙ r.0) (at-place (suc i) xs ys y r.1 b j (omega (arith, e)))
     where
-      by : (c : Bool) → bytes_eq x y ≡ false → means (numbered Import (suc i) (xs ++ y ∷ ys) ++ R2) y ≡ Some (Import j)
-          → means (((if c then [] else (x, Import i) ∷ []) ++ numbered Import (suc i) (xs ++ y ∷ ys)) ++ R2) y ≡ Some (Import j)
+      by : (c : Bool) → bytes_eq x y ≡ false → means (numbered Import (suc i) (xs ++ y ∷ ys) ++ Behind) y ≡ Some (Import j)
+          → means (((if c then [] else (x, Import i) ∷ []) ++ numbered Import (suc i) (xs ++ y ∷ ys)) ++ Behind) y ≡ Some (Import j)
       by true g r = r
-      by false g r = (λ v. if g v then Some (Import i) else means (numbered Import (suc i) (xs ++ y ∷ ys) ++ R2) y) ∙ r
+      by false g r = (λ v. if g v then Some (Import i) else means (numbered Import (suc i) (xs ++ y ∷ ys) ++ Behind) y) ∙ r
 
 -- ---- names that are declared around
 

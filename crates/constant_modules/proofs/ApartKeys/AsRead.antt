@@ -10,7 +10,7 @@ use Rattle.pkg_graph.specs.Package.{SourceTree, Package, specs_in, import_specs}
 use Rattle.pkg_graph.specs.Members.{package_name, name_or, import_name}
 use Rattle.run_rules.specs.Respanned.{name_with, import_spec_with, import_decl_with, decls_with, file_with, source_with, package_with, packages_with}
 use Rattle.run_rules.specs.Run.{as_read}
-use Rattle.constant_modules.specs.ApartKeys.Files.{is_predeclared, import_apart, file_apart}
+use Rattle.constant_modules.specs.ApartKeys.Files.{is_value_name, import_apart, file_apart}
 use Rattle.constant_modules.specs.ApartKeys.Keys.{decl_keys}
 use Rattle.constant_modules.specs.ApartKeys.Laws.{FilesKeepKeysApart}
 use Rattle.constant_modules.specs.LookUps.Beside.{names_over}
@@ -47,7 +47,7 @@ module _ {S T : Type 0} (to : S → T) where
       where
         each : (ss : List (ImportSpec S)) → list_all (import_apart (packages_with to ps) (file_with to f)) (map (import_spec_with to) ss) ≡ list_all (import_apart ps f) ss
         each [] = refl
-        each (s ∷ ss) = λ z. (is_blank (name_same s z) || not (is_predeclared (name_same s z) && is_among (name_same s z) (keys_same f.decls z))) && each ss z
+        each (s ∷ ss) = λ z. (is_blank (name_same s z) || not (is_value_name (name_same s z) && is_among (name_same s z) (keys_same f.decls z))) && each ss z
 
     files_same : (fs : List (SourceTree S)) → list_all (λ (f : SourceTree T). file_apart (packages_with to ps) f.tree) (map (source_with to) fs) ≡ list_all (λ (f : SourceTree S). file_apart ps f.tree) fs
     files_same [] = refl

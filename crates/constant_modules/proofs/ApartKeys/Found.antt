@@ -14,7 +14,7 @@ use Rattle.printed_constants.proofs.UsedImports.HeaderUses.{among_in, in_among}
 use Rattle.run_rules.specs.Sites.{Where}
 use Rattle.run_rules.specs.Steps.{At}
 use Rattle.typed_in_place.proofs.Rising.{and_first, and_second}
-use Rattle.constant_modules.specs.ApartKeys.Files.{is_predeclared, import_apart, file_apart, keys_are_apart, KeysApart}
+use Rattle.constant_modules.specs.ApartKeys.Files.{is_value_name, import_apart, file_apart, keys_are_apart, KeysApart}
 use Rattle.constant_modules.specs.ApartKeys.Keys.{decl_keys}
 use Rattle.constant_modules.specs.ApartKeys.Laws.{FoundKeysAreApart, ApartKeysAreFound}
 use Rattle.constant_modules.specs.CountedUses.Typed.{IsFileOf}
@@ -71,21 +71,21 @@ module _ (ps : List (Package At)) where
 
   found_one : keys_are_apart ps ≡ true → KeysApart ps
   found_one h w there k s g b p i d e q =
-      clash (is_blank (import_name ps s)) (is_predeclared (import_name ps s)) (is_among (import_name ps s) (names_over decl_keys w.source.tree.decls))
+      clash (is_blank (import_name ps s)) (is_value_name (import_name ps s)) (is_among (import_name ps s) (names_over decl_keys w.source.tree.decls))
       (all_at (import_apart ps w.source.tree) (import_specs w.source.tree) k s
       (all_at (λ (f : SourceTree At). file_apart ps f.tree) w.of.files w.file_number w.source (all_at of_package ps w.number w.of h there.0) there.1) g)
       b p (among_in (import_name ps s) (names_over decl_keys w.source.tree.decls) (over_at decl_keys (import_name ps s) w.source.tree.decls i d e q))
 
   module _ (apart : KeysApart ps) where
     spec_apart : (w : Where At) → IsFileOf ps w → (k : ℕ) (s : ImportSpec At) → slice_get (import_specs w.source.tree) k ≡ Some s → import_apart ps w.source.tree s ≡ true
-    spec_apart w there k s g = by (is_blank (import_name ps s)) refl (is_predeclared (import_name ps s)) refl (is_among (import_name ps s) (names_over decl_keys w.source.tree.decls)) refl
+    spec_apart w there k s g = by (is_blank (import_name ps s)) refl (is_value_name (import_name ps s)) refl (is_among (import_name ps s) (names_over decl_keys w.source.tree.decls)) refl
       where
-        none : is_blank (import_name ps s) ≡ false → is_predeclared (import_name ps s) ≡ true → In (import_name ps s) (names_over decl_keys w.source.tree.decls) → ⊥
+        none : is_blank (import_name ps s) ≡ false → is_value_name (import_name ps s) ≡ true → In (import_name ps s) (names_over decl_keys w.source.tree.decls) → ⊥
         none b c j = let x = at_item decl_keys (import_name ps s) w.source.tree.decls j in apart w there k s g b c x.nth x.item x.there x.has
 
-        by : (b : Bool) → is_blank (import_name ps s) ≡ b → (c : Bool) → is_predeclared (import_name ps s) ≡ c → (a : Bool) → is_among (import_name ps s) (names_over decl_keys w.source.tree.decls) ≡ a
-            → (is_blank (import_name ps s) || not (is_predeclared (import_name ps s) && is_among (import_name ps s) (names_over decl_keys w.source.tree.decls))) ≡ true
-        by true p c r a q = λ z. p z || not (is_predeclared (import_name ps s) && is_among (import_name ps s) (names_over decl_keys w.source.tree.decls))
+        by : (b : Bool) → is_blank (import_name ps s) ≡ b → (c : Bool) → is_value_name (import_name ps s) ≡ c → (a : Bool) → is_among (import_name ps s) (names_over decl_keys w.source.tree.decls) ≡ a
+            → (is_blank (import_name ps s) || not (is_value_name (import_name ps s) && is_among (import_name ps s) (names_over decl_keys w.source.tree.decls))) ≡ true
+        by true p c r a q = λ z. p z || not (is_value_name (import_name ps s) && is_among (import_name ps s) (names_over decl_keys w.source.tree.decls))
         by false p false r a q = λ z. p z || not (r z && is_among (import_name ps s) (names_over decl_keys w.source.tree.decls))
         by false p true r false q = λ z. p z || not (r z && q z)
         by false p true r true q = absurd (none p r (in_among (import_name ps s) (names_over decl_keys w.source.tree.decls) q))

@@ -38,7 +38,7 @@ use Rattle.run_rules.specs.Steps.{At, same_here, change_nth, changes_for, spec_f
 use Rattle.run_rules.specs.Surroundings.{Place, is_local}
 use Rattle.splice_laws.specs.RunLaws.Reading.{ProgramReads}
 use Rattle.splice_laws.proofs.RunLaws.FoundSpans.{Placed}
-use Rattle.constant_modules.specs.ApartKeys.Files.{is_predeclared, KeysApart}
+use Rattle.constant_modules.specs.ApartKeys.Files.{is_value_name, KeysApart}
 use Rattle.constant_modules.specs.ApartKeys.Keys.{named_key, expr_keys, decl_keys}
 use Rattle.constant_modules.specs.ApartKeys.Laws.{FormsAddOneKey}
 use Rattle.constant_modules.specs.CountedUses.Typed.{IsFileOf}
@@ -158,10 +158,10 @@ module _ (marks : List MarkRef) (st : Standing) (l : Logged) (after : Standing) 
     where_ = inr (j, (λ v. slice_get (specs_added n.found.range (imports_added n.found.named) v) j) ∙ nth_mapped (spec_for n.found.range) (imports_added n.found.named) j i there);
   }
 
-  -- no import of this tree with a predeclared name has that of a key in it
+  -- no import of this tree whose name is predeclared as a value has that of a key in it
   abbrev Apart : File At → Type 0
   Apart t =
-      (k : ℕ) (s : ImportSpec At) → slice_get (import_specs t) k ≡ Some s → is_blank (import_name st.packages s) ≡ false → is_predeclared (import_name st.packages s) ≡ true
+      (k : ℕ) (s : ImportSpec At) → slice_get (import_specs t) k ≡ Some s → is_blank (import_name st.packages s) ≡ false → is_value_name (import_name st.packages s) ≡ true
       → (i : ℕ) (d : Decl At) → slice_get t.decls i ≡ Some d → In (import_name st.packages s) (decl_keys d) → ⊥
 
   module _ (apart : KeysApart st.packages) (settled_so : IsSettled n) where
@@ -189,7 +189,7 @@ module _ (marks : List MarkRef) (st : Standing) (l : Logged) (after : Standing) 
         by : ((j : ℕ) × (slice_get (import_specs w.source.tree) j ≡ Some c.spec)) ⊎ ((j : ℕ) × (slice_get came j ≡ Some c.spec)) → ⊥
         by (inl t) =
             let x = old_key t.0 ((λ z. slice_get (both_specs z) t.0) ∙ nth_front (import_specs w.source.tree) came t.0 c.spec t.1) in
-            apart w file_then t.0 c.spec t.1 ((λ z. is_blank (named z)) ∙ b) ((λ z. is_predeclared (named z)) ∙ pre) i x.0 x.1.0 (subst (λ (y : List ℕ). In y (decl_keys x.0)) (sym named) x.1.1)
+            apart w file_then t.0 c.spec t.1 ((λ z. is_blank (named z)) ∙ b) ((λ z. is_value_name (named z)) ∙ pre) i x.0 x.1.0 (subst (λ (y : List ℕ). In y (decl_keys x.0)) (sym named) x.1.1)
         by (inr t) =
             let x = old_key (length (import_specs w.source.tree) + t.0) ((λ z. slice_get (both_specs z) (length (import_specs w.source.tree) + t.0)) ∙ nth_behind (import_specs w.source.tree) came t.0 c.spec t.1) in
             path_some mid came t.0 c.spec t.1 ((λ z. import_path mid came ((name_added marks st l after n reads c.spec ∙ named) z)) ∙ h.names.new_names i x.0 x.1.0 (import_name st.packages s) (key-named (import_name st.packages s) x.0 x.1.1))
@@ -202,7 +202,7 @@ module _ (marks : List MarkRef) (st : Standing) (l : Logged) (after : Standing) 
 
     last_apart : KeysApart last
     last_apart v there k s g b pre i d e q =
-        with_other Apart st.packages w n.tree (λ u t. apart u t) new_apart v there k s g ((λ z. is_blank (sym (name_last s) z)) ∙ b) ((λ z. is_predeclared (sym (name_last s) z)) ∙ pre) i d e (subst (λ (m : List ℕ). In m (decl_keys d)) (name_last s) q)
+        with_other Apart st.packages w n.tree (λ u t. apart u t) new_apart v there k s g ((λ z. is_blank (sym (name_last s) z)) ∙ b) ((λ z. is_value_name (sym (name_last s) z)) ∙ pre) i d e (subst (λ (m : List ℕ). In m (decl_keys d)) (name_last s) q)
 
     pub apart_after : KeysApart after.packages
     apart_after = subst KeysApart (sym n.packages_are) last_apart

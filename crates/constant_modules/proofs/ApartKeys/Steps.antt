@@ -1,12 +1,11 @@
--- In a program whose keys are apart from imports with predeclared names, no import that a step removes has the name of
+-- In a program whose keys are apart from imports whose names are predeclared as values, no import that a step removes has the name of
 -- such a key; and keys are apart after the step.
-use Rattle.std.proofs.Common.{◌≡◌, ◌∙◌, refl, sym, subst, ℕ, true, false, List, Option, Some, None, is_some}
+use Rattle.std.proofs.Common.{◌≡◌, ◌∙◌, refl, sym, subst, ℕ, Bool, true, false, List, Some}
 use Rattle.std.specs.Prelude.{slice_get}
 use Rattle.std.specs.List.{list_any}
 use Rattle.go_tree.specs.File.{ImportSpec, Decl}
 use Rattle.go_tree.specs.GoTypes.Agreement.{In}
 use Rattle.go_tree.specs.GoTypes.Answers.{given}
-use Rattle.go_tree.specs.GoTypes.Entities.{Entity, universe}
 use Rattle.go_tree.specs.ScopeNames.Means.{means, is_blank}
 use Rattle.pkg_graph.specs.Package.{import_specs, specs_in}
 use Rattle.pkg_graph.specs.Members.{import_name}
@@ -21,11 +20,11 @@ use Rattle.run_rules.specs.Respanned.{decl_with, decls_with}
 use Rattle.run_rules.specs.Run.{Standing, Logged, Next, here_of, origin_of}
 use Rattle.run_rules.specs.Sites.{MarkRef, Where, imported_by, outer}
 use Rattle.run_rules.specs.Steps.{At, same_here, means_import, added_decls, new_decls}
-use Rattle.constant_modules.specs.ApartKeys.Files.{KeysApart}
+use Rattle.constant_modules.specs.ApartKeys.Files.{is_value_name, KeysApart}
 use Rattle.constant_modules.specs.ApartKeys.Keys.{decl_keys}
-use Rattle.constant_modules.specs.ApartKeys.Laws.{StepsPutNames, StepsRemoveNoPredeclaredKeys, StepsKeepKeysApart}
+use Rattle.constant_modules.specs.ApartKeys.Laws.{StepsPutNames, StepsRemoveNoValueKeys, StepsKeepKeysApart}
 use Rattle.constant_modules.specs.KeyedImports.Keyed.{decl_marked}
-use Rattle.constant_modules.specs.KeyedImports.Steps.{RemovesNoPredeclaredKey}
+use Rattle.constant_modules.specs.KeyedImports.Steps.{RemovesNoValueKey}
 use Rattle.constant_modules.specs.NamedAnywhere.Puts.{PutsNameThere}
 use Rattle.constant_modules.specs.NamesAndKeys.Marked.{key_name, Within}
 use Rattle.constant_modules.proofs.ApartKeys.Keys.{file_then, both_specs, key_old, apart_after}
@@ -72,22 +71,22 @@ module _ (marks : List MarkRef) (st : Standing) (l : Logged) (after : Standing) 
         ((λ z. slice_get (both_specs marks st l after n h ready.reads z) i) ∙ nth_front (import_specs w.source.tree) came i s there)
         (name_added marks st l after n ready.reads s) spelled keyed
 
-    not_predeclared : means universe m ≡ None
-    not_predeclared = by (means universe m) refl
+    no_value : is_value_name m ≡ false
+    no_value = by (is_value_name m) refl
       where
-        by : (o : Option Entity) → means universe m ≡ o → means universe m ≡ None
-        by None p = p
-        by (Some x) p = absurd (apart w (file_then marks st l after n h ready.reads) i s there spelled (λ z. is_some (p z)) k was.0 was.1.0 was.1.1)
+        by : (b : Bool) → is_value_name m ≡ b → is_value_name m ≡ false
+        by false p = p
+        by true p = absurd (apart w (file_then marks st l after n h ready.reads) i s there spelled p k was.0 was.1.0 was.1.1)
 
-  removes : RemovesNoPredeclaredKey n
-  removes i s there listed k d e q = not_predeclared i s there listed k d e q
+  removes : RemovesNoValueKey n
+  removes i s there listed k d e q = no_value i s there listed k d e q
 
 -- ---- laws
 
 pub steps_put : AddedImportsMayBeDeclared → StepsPutNames
 steps_put sound marks st l after n ready files typed few names stands = puts-there sound marks st l after n ready files typed few names stands
 
-pub remove_none : StepsRemoveNoPredeclaredKeys
+pub remove_none : StepsRemoveNoValueKeys
 remove_none marks st l after n ready h apart = removes marks st l after n ready h apart
 
 pub keep_apart : StepsKeepKeysApart

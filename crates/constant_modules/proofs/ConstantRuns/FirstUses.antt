@@ -11,7 +11,7 @@ use Rattle.printed_constants.proofs.TypedParts.MarkedRuns.PutForms.FirstUses.{pl
 use Rattle.run_rules.specs.Sites.{an_expr}
 use Rattle.run_rules.specs.Steps.{At}
 use Rattle.splice_laws.specs.ImportSplices.FormSplices.Laws.{MakesForm}
-use Rattle.constant_modules.specs.ApartKeys.Laws.{StepsPutNames, StepsRemoveNoPredeclaredKeys}
+use Rattle.constant_modules.specs.ApartKeys.Laws.{StepsPutNames, StepsRemoveNoValueKeys}
 use Rattle.constant_modules.specs.ConstantRuns.FirstUses.{ConstantStepsTakeNamesThere, FirstUsesAreOfConstants, FirstUsesOfConstantsAreTyped}
 use Rattle.constant_modules.specs.FewNames.Laws.{SmallTextsTakeFewNames}
 use Rattle.constant_modules.specs.KeyedImports.StepLaws.{StepsKeepUses}
@@ -22,7 +22,7 @@ use Rattle.constant_modules.proofs.FewNames.Few.{few-of}
 use Rattle.constant_modules.proofs.NamedThere.Steps.{there}
 use Rattle.constant_modules.proofs.TypedUses.NoTypes.{uses_expressions}
 
-pub steps_take_there : StepsUseExpressions → SmallTextsTakeFewNames → ConstantsWrite → ConstantUsesStandThere → StepsPutNames → StepsRemoveNoPredeclaredKeys → StepsKeepUses → ConstantStepsTakeNamesThere
+pub steps_take_there : StepsUseExpressions → SmallTextsTakeFewNames → ConstantsWrite → ConstantUsesStandThere → StepsPutNames → StepsRemoveNoValueKeys → StepsKeepUses → ConstantStepsTakeNamesThere
 steps_take_there use_them take_few write stand put remove keep marks st l after n is = there use_them take_few write stand put remove keep marks st l after n is
 
 pub uses_constants : FirstUsesUseConstants → FirstUsesAreOfConstants

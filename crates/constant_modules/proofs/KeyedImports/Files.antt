@@ -1,6 +1,6 @@
 -- The headers of a file under other imports: each name that they look up means what it meant, and each key the same or no
--- operand, in bodies too.
-use Rattle.std.proofs.Common.{◌≡◌, refl, ◌∙◌, ◌⊎◌, inl, inr, ℕ, suc, Bool, true, false, List, [], ◌∷◌, ◌++◌, map, Option, Some, None, if◌then◌else◌, bytes_eq}
+-- value, in bodies too.
+use Rattle.std.proofs.Common.{◌≡◌, refl, sym, subst, ◌∙◌, ◌⊎◌, inl, inr, ℕ, suc, Bool, true, false, List, [], ◌∷◌, ◌++◌, map, Option, Some, None, if◌then◌else◌, bytes_eq}
 use Rattle.std.specs.Prelude.{slice_get}
 use Rattle.go_tree.specs.Tree.{TypeExpr, Exprs, no_exprs, const_decl, var_decl, empty, eval, step, assign, define, return_, break_, continue_, inner, if_, for_, range_, switch, defer, label, ValueSpecs, no_specs, spec}
 use Rattle.go_tree.specs.File.{TypeSpec, Receiver, Func, Decl, values, types, func}
@@ -10,7 +10,7 @@ use Rattle.go_tree.specs.GoTypes.Agreement.{In, head, tail, On}
 use Rattle.go_tree.specs.GoTypes.Answers.{is_among}
 use Rattle.go_tree.specs.GoTypes.Bodies.{no_values}
 use Rattle.go_tree.specs.GoTypes.Collect.{DeclaredTypes}
-use Rattle.go_tree.specs.GoTypes.Entities.{Entity, World, block_of, universe}
+use Rattle.go_tree.specs.GoTypes.Entities.{Entity, variable, constant, stand_in, type_name, function, package_name, builtin, nil_name, iota_name, refused, World, block_of, universe}
 use Rattle.go_tree.specs.GoTypes.MethodDeclarations.{MethodName}
 use Rattle.go_tree.specs.GoTypes.Programs.{Header, constants, variables, a_type_spec, a_func, Headed, Import, SourceFile, file_env, at_member, constant_headers, variable_headers, headers, all_headers, header_names, header_sound, headed_file, file_block, import_sound, import_entity}
 use Rattle.go_tree.specs.GoTypes.WellTyped.{header_ok}
@@ -22,14 +22,14 @@ use Rattle.order_runs.proofs.ImportCodes.NamesImported.{name-means, blank-means}
 use Rattle.typed_in_place.specs.ImportsMoved.{under_imports, MovedReceiver, nothing_received, received, moved_func}
 use Rattle.typed_in_place.specs.ProgramReplaced.{All, all_of_none, all_and}
 use Rattle.typed_in_place.specs.ProgramsAlike.{OneByOne, no_more, and_more}
-use Rattle.constant_modules.specs.KeyedImports.Keyed.{all_used, specs_marked, decl_marked, IsFree, FileKeyed}
-use Rattle.constant_modules.specs.NamesAndKeys.Marked.{Marked, used_name, key_name, NoOperand, no_meaning, of_package, of_refused, SameOrNone, MeansAlike, Within, at_head, behind, OnMarked, marked_exprs, marked_stmts}
+use Rattle.constant_modules.specs.KeyedImports.Keyed.{means_value, all_used, specs_marked, decl_marked, IsFree, FileKeyed}
+use Rattle.constant_modules.specs.NamesAndKeys.Marked.{Marked, used_name, key_name, NoValue, no_meaning, of_package, of_type, of_builtin, of_refused, SameOrNone, MeansAlike, Within, at_head, behind, OnMarked, marked_exprs, marked_stmts}
 use Rattle.constant_modules.proofs.KeyedImports.Headers.{KeyedIn, keyed_constants, keyed_variables, keyed_type, keyed_func, Keyed, KeyedBody, moved_there}
 use Rattle.constant_modules.proofs.NamesAndKeys.Functions.{body_marked}
 use Rattle.constant_modules.proofs.NamesAndKeys.TypingMarked.{within-left, within-right}
 
 -- the second header is the first under other imports, under which, in these worlds, each name means the same, and each key
--- the same or no operand, also in the body, where the header declares something, or is a method that may stand there
+-- the same or no value, also in the body, where the header declares something, or is a method that may stand there
 pub record WholeKeyed {S : Type 0} (G : World → Type 0) (h k : Headed S) : Type 0 where
   pub imports : Environment Entity
   pub same : k ≡ under_imports imports h
@@ -262,13 +262,26 @@ module _ (home : ℕ) (is js : Environment Entity) (G : World → Type 0) where
 
 -- ---- what a name means at the top of a file
 
-imported_none : (b : Bool) (p : ℕ) → NoOperand (Some (import_entity b p))
+no_value : (o : Option Entity) → means_value o ≡ false → NoValue o
+no_value None e = no_meaning
+no_value (Some (package_name p)) e = of_package
+no_value (Some (type_name t)) e = of_type
+no_value (Some (builtin b)) e = of_builtin
+no_value (Some refused) e = of_refused
+no_value (Some (variable t)) e = absurd cc
+no_value (Some (constant t c)) e = absurd cc
+no_value (Some (stand_in p t c)) e = absurd cc
+no_value (Some (function f)) e = absurd cc
+no_value (Some nil_name) e = absurd cc
+no_value (Some iota_name) e = absurd cc
+
+imported_none : (b : Bool) (p : ℕ) → NoValue (Some (import_entity b p))
 imported_none true p = of_package
 imported_none false p = of_refused
 
-module _ {S : Type 0} (held : List (List ℕ)) (n : List ℕ) (rest last : Environment Entity) (none : NoOperand (means (rest ++ last) n)) where
-  -- where nothing else declares a name, it is no operand, whatever is imported
-  quiet : (before : List (List ℕ)) (is : List (Import S)) → NoOperand (means (file_block held before is ++ rest ++ last) n)
+module _ {S : Type 0} (held : List (List ℕ)) (n : List ℕ) (rest last : Environment Entity) (none : NoValue (means (rest ++ last) n)) where
+  -- where nothing else declares a name, it is no value, whatever is imported
+  quiet : (before : List (List ℕ)) (is : List (Import S)) → NoValue (means (file_block held before is ++ rest ++ last) n)
   quiet before [] = none
   quiet before (i ∷ is) = by (is_blank i.name) (quiet (i.name ∷ before) is)
     where
@@ -278,21 +291,17 @@ module _ {S : Type 0} (held : List (List ℕ)) (n : List ℕ) (rest last : Envir
       more : Environment Entity
       more = file_block held (i.name ∷ before) is
 
-      named : (t : Bool) → NoOperand (means (more ++ rest ++ last) n) → NoOperand (if t then Some entity else means (more ++ rest ++ last) n)
+      named : (t : Bool) → NoValue (means (more ++ rest ++ last) n) → NoValue (if t then Some entity else means (more ++ rest ++ last) n)
       named true r = imported_none (import_sound held before i) i.of
       named false r = r
 
-      by : (b : Bool) → NoOperand (means (more ++ rest ++ last) n) → NoOperand (means (((if b then [] else (i.name, entity) ∷ []) ++ more) ++ rest ++ last) n)
+      by : (b : Bool) → NoValue (means (more ++ rest ++ last) n) → NoValue (means (((if b then [] else (i.name, entity) ∷ []) ++ more) ++ rest ++ last) n)
       by true r = r
       by false r = named (bytes_eq i.name n) r
 
 module _ {S : Type 0} (home : ℕ) (held : List (List ℕ)) (G : World → Type 0) (lacks : (w : World) → G w → (n : List ℕ) → is_among n held ≡ false → means (block_of w.blocks home) n ≡ None) (f g : SourceFile S) (r : FileKeyed held f g) where
-  nothing : (w : World) → G w → (n : List ℕ) → IsFree held n → NoOperand (means (block_of w.blocks home ++ universe) n)
-  nothing w k n free = by (means (block_of w.blocks home ++ universe) n) (means_join (block_of w.blocks home) universe n ∙ (λ z. or_else (lacks w k n free.0 z) (free.1 z)))
-    where
-      by : (o : Option Entity) → o ≡ None → NoOperand o
-      by None e = no_meaning
-      by (Some x) e = absurd cc
+  nothing : (w : World) → G w → (n : List ℕ) → IsFree held n → NoValue (means (block_of w.blocks home ++ universe) n)
+  nothing w k n free = subst NoValue (sym (means_join (block_of w.blocks home) universe n ∙ (λ z. or_else (lacks w k n free.0 z) (means universe n)))) (no_value (means universe n) free.1)
 
   -- each name that a declaration looks up means alike under the imports of both files
   pub names_alike : (k : ℕ) (d : Decl S) → slice_get f.decls k ≡ Some d → AllAlike home (file_block held [] f.imports) (file_block held [] g.imports) G (decl_marked d)

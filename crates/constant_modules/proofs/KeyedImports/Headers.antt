@@ -1,5 +1,5 @@
 -- Headers under other imports declare the same and use the same names where each name that they look up means what it
--- meant, and each key the same or no operand.
+-- meant, and each key the same or no value.
 use Rattle.std.specs.Prelude.{◌≡◌, refl, ℕ, Bool, true, false, not, ◌&&◌, List, [], ◌∷◌, ◌++◌, map, Option, Some, None, if◌then◌else◌}
 use mathlib.Core.Path.{ap, sym, subst}
 use Rattle.std.proofs.Common.{arith}
@@ -37,7 +37,7 @@ append_none [] = refl
 append_none (x ∷ xs) = ap (λ l. x ∷ l) (append_none xs)
 
 module _ {S : Type 0} where
-  -- each name in a header means the same, `at` being the place, and each key the same or no operand
+  -- each name in a header means the same, `at` being the place, and each key the same or no value
   pub data KeyedIn (at : Option ℕ → Env) (m : Environment Entity) : Header S → Type 0 where
     keyed_constants :
         {ns : List (NameAt S)} {t : Option (TypeExpr S)} {es : Exprs S} {i : ℕ} → On (free_type_option [] t) (at (Some i)) m → OnMarked (marked_exprs [] es) (at (Some i)) m →

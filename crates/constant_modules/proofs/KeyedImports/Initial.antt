@@ -1,4 +1,4 @@
--- An initialiser is one in another environment in which its names mean the same, and its keys the same or no operand.
+-- An initialiser is one in another environment in which its names mean the same, and its keys the same or no value.
 use Rattle.std.specs.Prelude.{◌≡◌, refl, ℕ, Bool, true, false, ◌&&◌, ◌||◌, List, [], ◌∷◌, ◌++◌, Option, Some, if◌then◌else◌, is_some}
 use mathlib.Core.Path.{ap, sym, ◌∙◌}
 use Rattle.std.proofs.Common.{inl, inr}
@@ -13,14 +13,17 @@ use Rattle.go_tree.specs.GoTypes.Operands.{typed, constant_of}
 use Rattle.go_tree.specs.GoTypes.Literals.{is_struct, key_type, inner_type, literal_type}
 use Rattle.go_tree.specs.GoTypes.Initial.{means_maker, means_nil, is_address, is_constant, all_constant, sizes_constant, is_maker, is_composite, is_initial, initial_elems, initial_key, initial_value, all_initial}
 use Rattle.go_tree.specs.GoTypes.Agreement.{Agrees, with_names}
-use Rattle.constant_modules.specs.NamesAndKeys.Marked.{key_name, unless_key, NoOperand, no_meaning, of_package, of_refused, SameOrNone, at_head, OnMarked, marked_type, marked_expr, marked_exprs, marked_elems, marked_value, marked_value_option, marked_key}
+use Rattle.constant_modules.specs.NamesAndKeys.Marked.{key_name, unless_key, NoValue, no_meaning, of_package, of_type, of_builtin, of_refused, SameOrNone, at_head, OnMarked, marked_type, marked_expr, marked_exprs, marked_elems, marked_value, marked_value_option, marked_key}
 use Rattle.constant_modules.proofs.NamesAndKeys.SmallMarked.{type_meant-alike}
 use Rattle.constant_modules.proofs.NamesAndKeys.TypingMarked.{first_of, second_of, marked_alike, key-operand, parts-alike}
+use Rattle.constant_modules.proofs.NamesAndKeys.KeysTaken.{key-value}
 
--- what is no operand isn't nil
-not_nil : {x : Option Entity} → NoOperand x → means_nil x ≡ false
+-- what is no value isn't nil
+not_nil : {x : Option Entity} → NoValue x → means_nil x ≡ false
 not_nil no_meaning = refl
 not_nil of_package = refl
+not_nil of_type = refl
+not_nil of_builtin = refl
 not_nil of_refused = refl
 
 module _ (a : Env) (m : Environment Entity) (around : List (List ℕ)) (g : Agrees around a m) where
@@ -88,7 +91,7 @@ module _ {S : Type 0} (a : Env) (m : Environment Entity) (around : List (List �
     initial_key-keyed (some_value k) u h = λ w. if meets u is_struct then true else initial_own-keyed k (given u (key_type (defined_in a))) h w
 
     initial_own-keyed : (v : Value S) (t : Option GoType) → OnMarked (marked_key around v) a m → initial_value a t v ≡ initial_value (with_names a m) t v
-    initial_own-keyed (plain (ident s n)) t h = λ w. meets (given (key-operand a m around n g h w) typed) (λ v. is_some (constant_of v.1)) || nil_key a m around g n h w
+    initial_own-keyed (plain (ident s n)) t h = λ w. meets (key-value (key-operand a m around n g h) w) (λ v. is_some (constant_of v.1)) || nil_key a m around g n h w
     initial_own-keyed (plain (int_lit s x)) t h = is_initial-keyed (int_lit s x) h
     initial_own-keyed (plain (rune_lit s x)) t h = is_initial-keyed (rune_lit s x) h
     initial_own-keyed (plain (str_lit s x)) t h = is_initial-keyed (str_lit s x) h

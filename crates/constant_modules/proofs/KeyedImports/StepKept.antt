@@ -8,7 +8,7 @@ use Rattle.std.proofs.lemmas.Slice.Eq.{bytes_eq-Decides}
 use Rattle.go_tree.specs.declared.spans.Span.{Span}
 use Rattle.go_tree.specs.File.{ImportSpec, ImportDecl, Decl, File}
 use Rattle.go_tree.specs.GoTypes.Answers.{given, is_among}
-use Rattle.go_tree.specs.GoTypes.Entities.{Entity, universe}
+use Rattle.go_tree.specs.GoTypes.Entities.{universe}
 use Rattle.go_tree.specs.GoTypes.Programs.{import_sound, is_init}
 use Rattle.go_tree.specs.ScopeNames.Means.{means, is_blank}
 use Rattle.go_translation.specs.Packages.{are_well_typed}
@@ -45,9 +45,9 @@ use Rattle.splice_laws.specs.ImportSplices.SettledFile.{settled_decls}
 use Rattle.splice_laws.specs.RunLaws.Reading.{ProgramReads}
 use Rattle.typed_in_place.specs.ImportRule.{imports_sound}
 use Rattle.typed_in_place.proofs.Rising.{and_first, and_second}
-use Rattle.constant_modules.specs.KeyedImports.Keyed.{decl_marked, IsFree}
+use Rattle.constant_modules.specs.KeyedImports.Keyed.{decl_marked, means_value, IsFree}
 use Rattle.constant_modules.specs.KeyedImports.StepLaws.{StepsKeepUses}
-use Rattle.constant_modules.specs.KeyedImports.Steps.{members_added, KeepsUses, RemovesNoPredeclaredKey}
+use Rattle.constant_modules.specs.KeyedImports.Steps.{members_added, KeepsUses, RemovesNoValueKey}
 use Rattle.constant_modules.specs.NamedAnywhere.Puts.{PutsNameThere}
 use Rattle.constant_modules.specs.NamesAndKeys.Marked as marked
 use Rattle.constant_modules.specs.NamesAndKeys.Marked.{used_name, Within}
@@ -225,7 +225,7 @@ module _ (marks : List MarkRef) (st : Standing) (l : Logged) (after : Standing) 
               its.0 its.1)
               alone
 
-  module _ (few : AvoidsFew st.packages n.found) (paths : NamesByPath st.packages) (settled_so : IsSettled n) (none : RemovesNoPredeclaredKey n) where
+  module _ (few : AvoidsFew st.packages n.found) (paths : NamesByPath st.packages) (settled_so : IsSettled n) (none : RemovesNoValueKey n) where
     abbrev added_packages : List (Package At)
     added_packages = packages_added st.packages n.found
 
@@ -245,7 +245,7 @@ module _ (marks : List MarkRef) (st : Standing) (l : Logged) (after : Standing) 
     Kept m = import_path added_packages (import_specs n.tree) m ≡ import_path added_packages (import_specs (file_added n.found)) m
 
     key_kept : (k : ℕ) (d : Decl At) → slice_get n.tree.decls k ≡ Some d → (m : List ℕ) → Within (marked.key_name m) (decl_marked d) → Kept m ⊎ IsFree members m
-    key_kept k d e m i = by (is_among m members) refl (means universe m) refl
+    key_kept k d e m i = by (is_among m members) refl (means_value (means universe m)) refl
       where
         spelled : (j : ℕ) (s : ImportSpec At) → slice_get (import_specs w.source.tree) j ≡ Some s → list_any (same_span (here_of s.span)) (removed_specs marks st n.found) ≡ true → import_name added_packages s ≡ m → is_blank m ≡ false
         spelled j s there listed its_name =
@@ -256,18 +256,16 @@ module _ (marks : List MarkRef) (st : Standing) (l : Logged) (after : Standing) 
         declared q j s there listed its_name =
             clash (is_among m members) (subst (λ (y : List ℕ). is_among y members ≡ false) its_name (apart_member j s there ((λ z. is_blank (its_name z)) ∙ spelled j s there listed its_name))) q
 
-        predeclared : (x : Entity) → means universe m ≡ Some x → RemovesNoneNamed n m
-        predeclared x q j s there listed its_name =
+        predeclared : means_value (means universe m) ≡ true → RemovesNoneNamed n m
+        predeclared q j s there listed its_name =
             let same : import_name st.packages s ≡ m = sym (name_added marks st l after n reads s) ∙ its_name in
-            contrary (subst (λ (y : List ℕ). means universe y ≡ None) same (none j s there listed k d e (subst (λ (y : List ℕ). Within (marked.key_name y) (decl_marked d)) (sym same) i)))
-          where
-            contrary : means universe m ≡ None → ⊥
-            contrary f = let no : None ≡ Some x = sym f ∙ q in cc
+            clash (means_value (means universe m))
+            (subst (λ (y : List ℕ). means_value (means universe y) ≡ false) same (none j s there listed k d e (subst (λ (y : List ℕ). Within (marked.key_name y) (decl_marked d)) (sym same) i))) q
 
-        by : (b : Bool) → is_among m members ≡ b → (o : Option Entity) → means universe m ≡ o → Kept m ⊎ IsFree members m
-        by true q o r = inl (name-kept marks st l after n settled_so few paths m (declared q))
-        by false q None r = inr (q, r)
-        by false q (Some x) r = inl (name-kept marks st l after n settled_so few paths m (predeclared x r))
+        by : (b : Bool) → is_among m members ≡ b → (v : Bool) → means_value (means universe m) ≡ v → Kept m ⊎ IsFree members m
+        by true q v r = inl (name-kept marks st l after n settled_so few paths m (declared q))
+        by false q false r = inr (q, r)
+        by false q true r = inl (name-kept marks st l after n settled_so few paths m (predeclared r))
 
     pub keeps_uses : KeepsUses n
     keeps_uses = record {

@@ -12,7 +12,7 @@ use Rattle.printed_constants.proofs.TypedParts.MarkedRuns.NamedMarks.Used.{named
 use Rattle.run_rules.specs.Run.{Standing, Logged, Next}
 use Rattle.run_rules.specs.Sites.{MarkRef, an_expr}
 use Rattle.run_rules.specs.Steps.{At}
-use Rattle.constant_modules.specs.ApartKeys.Laws.{StepsPutNames, StepsRemoveNoPredeclaredKeys}
+use Rattle.constant_modules.specs.ApartKeys.Laws.{StepsPutNames, StepsRemoveNoValueKeys}
 use Rattle.constant_modules.specs.CountedUses.Steps.{StepsTakeNames}
 use Rattle.constant_modules.specs.FewNames.Laws.{SmallTextsTakeFewNames}
 use Rattle.constant_modules.specs.KeyedImports.StepLaws.{StepsKeepUses}
@@ -25,7 +25,7 @@ use Rattle.constant_modules.specs.NamedThere.Steps.{IsOfConstants, ConstantSteps
 use Rattle.constant_modules.specs.TypedUses.Laws.{StepsUseExpressions, StepsAreOverNames}
 use Rattle.constant_modules.proofs.NamedAnywhere.Puts.{takes_of}
 
-module _ (use_them : StepsUseExpressions) (take_few : SmallTextsTakeFewNames) (write : ConstantsWrite) (stand : ConstantUsesStandThere) (put : StepsPutNames) (remove : StepsRemoveNoPredeclaredKeys) (keep : StepsKeepUses) (marks : List MarkRef) (st : Standing) (l : Logged) (after : Standing) (n : Next marks st l after)
+module _ (use_them : StepsUseExpressions) (take_few : SmallTextsTakeFewNames) (write : ConstantsWrite) (stand : ConstantUsesStandThere) (put : StepsPutNames) (remove : StepsRemoveNoValueKeys) (keep : StepsKeepUses) (marks : List MarkRef) (st : Standing) (l : Logged) (after : Standing) (n : Next marks st l after)
     (is : IsOfConstants marks st) where
   used : (e : Expr At) × (n.found.site.part ≡ an_expr e)
   used = use_them marks st l after n is.ready is.typed is.named
@@ -75,5 +75,5 @@ module _ (use_them : StepsUseExpressions) (take_few : SmallTextsTakeFewNames) (w
     pub all : TakesNameAnywhere n × (IsOverNameKeyed n × StandsAnywhere n)
     all = (taken, (over, stands_anywhere))
 
-pub steps_take : StepsUseExpressions → SmallTextsTakeFewNames → ConstantsWrite → ConstantUsesStandThere → StepsPutNames → StepsRemoveNoPredeclaredKeys → StepsKeepUses → StepsAreOverNames → StepsTakeNames → ConstantStepsTakeNames
+pub steps_take : StepsUseExpressions → SmallTextsTakeFewNames → ConstantsWrite → ConstantUsesStandThere → StepsPutNames → StepsRemoveNoValueKeys → StepsKeepUses → StepsAreOverNames → StepsTakeNames → ConstantStepsTakeNames
 steps_take use_them take_few write stand put remove keep over_names take marks st l after n is = all use_them take_few write stand put remove keep marks st l after n is over_names take

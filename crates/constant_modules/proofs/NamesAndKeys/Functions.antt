@@ -1,5 +1,5 @@
 -- A function under other imports of its file is as well typed, uses the same names and has the same code, where the names
--- of its body mean the same, and keys the same or no operand.
+-- of its body mean the same, and keys the same or no value.
 use Rattle.std.specs.Prelude.{◌≡◌, refl, ℕ, true, false, ◌&&◌, List, [], ◌++◌, Option, Some, None, nat_eq, is_none}
 use mathlib.Core.Path.{ap, sym, ◌∙◌, subst}
 use Rattle.std.proofs.Common.{arith, ◌∷◌, ◌⊎◌, inl, inr, Bool, if◌then◌else◌}

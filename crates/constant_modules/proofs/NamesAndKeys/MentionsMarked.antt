@@ -1,4 +1,4 @@
--- What is mentioned is alike where free names mean the same, and keys the same or no operand.
+-- What is mentioned is alike where free names mean the same, and keys the same or no value.
 use Rattle.std.specs.Prelude.{◌≡◌, refl, ℕ, List, [], ◌++◌, length, Option, Some, if◌then◌else◌}
 use Rattle.go_tree.specs.Tree.{Expr, ident, int_lit, rune_lit, str_lit, composite, selector, index, slice, call, func_lit, type_operand, unary, binary, star, Exprs, no_exprs, expr_and, ExprOption, no_expr, some_expr, Elems, no_elems, elem, Value, plain, braced, ValueOption, no_value, some_value, Stmt, const_decl, var_decl, empty, eval, step, assign, define, return_, break_, continue_, inner, if_, for_, range_, switch, defer, label, Stmts, no_stmts, stmt_and, StmtOption, no_stmt, some_stmt, BlockOption, no_block, some_block, RangeLeft, nothing, assigns, defines, Arms, no_arms, arm, Cases, no_cases, case, ValueSpecs, no_specs, spec}
 use Rattle.go_tree.specs.ScopeNames.FreeNames.{names_of, sig_names, declared, declared_option, defined}
@@ -20,7 +20,7 @@ use Rattle.go_tree.proofs.GoTypes.Agreeing.{agrees_in_block, agrees_after, decla
 use Rattle.constant_modules.proofs.NamesAndKeys.TypingMarked.{parts-alike, all_parts-alike, places-alike, declares-alike, declares_first-alike, range_declares-alike}
 use Rattle.constant_modules.proofs.NamesAndKeys.SmallMarked.{or_covers, append_in_turn, type_meant-alike, written_type-alike, func_type-alike}
 use Rattle.go_translation.specs.Mentions.{Way, Read, Stored, Deferred, Mention, variable_mention, callee_way, literal_mentions, operand_way, unary_way, beyond_names, beyond, within_names, group_mentions, own_mentions, stored_again, mentions, mentions_all, mentions_option, mentions_left, mentions_elems, mentions_key, mentions_value, mentions_stmt, mentions_stmts, mentions_first, mentions_block, mentions_range, mentions_arms, mentions_cases, mentions_specs}
-use Rattle.constant_modules.specs.NamesAndKeys.Marked.{Marked, key_name, unless_key, NoOperand, no_meaning, of_package, of_refused, SameOrNone, at_head, OnMarked, marked_type, marked_type_option, marked_params, marked_expr, marked_exprs, marked_expr_option, marked_elems, marked_value, marked_value_option, marked_key, marked_stmt, marked_stmts, marked_stmt_option, marked_block_option, marked_left, marked_arms, marked_cases, marked_specs}
+use Rattle.constant_modules.specs.NamesAndKeys.Marked.{Marked, key_name, unless_key, NoValue, no_meaning, of_package, of_type, of_builtin, of_refused, SameOrNone, at_head, OnMarked, marked_type, marked_type_option, marked_params, marked_expr, marked_exprs, marked_expr_option, marked_elems, marked_value, marked_value_option, marked_key, marked_stmt, marked_stmts, marked_stmt_option, marked_block_option, marked_left, marked_arms, marked_cases, marked_specs}
 use Rattle.constant_modules.proofs.NamesAndKeys.TypingMarked.{first_of, second_of, marked_alike}
 use Rattle.constant_modules.proofs.NamesAndKeys.TypingMarked.{kept}
 use Rattle.std.specs.Prelude.{Bool, true, false, ◌∷◌}
@@ -32,20 +32,16 @@ use Rattle.go_tree.specs.GoTypes.Answers.{is_among}
 mention-key : (a : Env) (m : Environment Entity) (around : List (List ℕ)) (n : List ℕ) → Agrees around a m → OnMarked (unless_key around n) a m → variable_mention Read n (means a.names n) ≡ variable_mention Read n (means m n)
 mention-key a m around n g h = by (is_among n around) refl h
   where
-    none : {x y : Option Entity} → NoOperand x → NoOperand y → variable_mention Read n x ≡ variable_mention Read n y
-    none no_meaning no_meaning = refl
-    none no_meaning of_package = refl
-    none of_package no_meaning = refl
-    none of_package of_package = refl
-    none no_meaning of_refused = refl
-    none of_package of_refused = refl
-    none of_refused no_meaning = refl
-    none of_refused of_package = refl
-    none of_refused of_refused = refl
+    none : {x : Option Entity} → NoValue x → variable_mention Read n x ≡ []
+    none no_meaning = refl
+    none of_package = refl
+    none of_type = refl
+    none of_builtin = refl
+    none of_refused = refl
 
     alike : SameOrNone (means a.names n) (means m n) → variable_mention Read n (means a.names n) ≡ variable_mention Read n (means m n)
     alike (inl e) = ap (variable_mention Read n) e
-    alike (inr q) = none q.0 q.1
+    alike (inr q) = none q.0 ∙ sym (none q.1)
 
     by : (b : Bool) → is_among n around ≡ b → OnMarked (if b then [] else key_name n ∷ []) a m → variable_mention Read n (means a.names n) ≡ variable_mention Read n (means m n)
     by true e f = ap (variable_mention Read n) (g.bound n e)

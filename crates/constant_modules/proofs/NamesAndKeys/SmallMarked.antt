@@ -1,7 +1,7 @@
--- What the translation reads off operands is alike where free names mean the same, and keys the same or no operand.
+-- What the translation reads off operands is alike where free names mean the same, and keys the same or no value.
 use Rattle.std.specs.Prelude.{◌≡◌, refl, ℕ, suc, Bool, true, false, not, ◌&&◌, List, [], ◌∷◌, ◌++◌, length, Option, Some, None, if◌then◌else◌}
-use mathlib.Core.Path.{ap, ◌∙◌}
-use Rattle.std.proofs.Common.{arith}
+use mathlib.Core.Path.{ap, sym, ◌∙◌}
+use Rattle.std.proofs.Common.{arith, inl, inr}
 use Rattle.go_tree.specs.Tree.{NameAt, Param, Sig, TypeExpr, Expr, ident, Exprs, no_exprs, expr_and, ExprOption, no_expr, some_expr, Elems, no_elems, elem, plain, braced, ValueOption, no_value, some_value, Stmt, StmtOption, RangeLeft, nothing, assigns, defines}
 use Rattle.go_tree.specs.ScopeNames.Means.{Environment, means, is_blank, binding}
 use Rattle.go_tree.specs.ScopeNames.FreeNames.{names_of, declared, declared_option}
@@ -10,7 +10,7 @@ use Rattle.go_tree.specs.GoTypes.Types.{GoType, is_untyped, GoFields, fields_of}
 use Rattle.go_tree.specs.GoTypes.Defined.{has_keys}
 use Rattle.go_tree.specs.GoTypes.Entities.{Entity, Env, Binds, defined_in, package_of, meaning, is_declared_here}
 use Rattle.go_tree.specs.GoTypes.TypeNames.{type_meant, params_meant, func_type, written_type}
-use Rattle.go_tree.specs.GoTypes.Operands.{Typed}
+use Rattle.go_tree.specs.GoTypes.Operands.{Operand, Typed}
 use Rattle.go_tree.specs.GoTypes.Statements.{is_blank_name, no_values, names_once, some_declared, defined_by, assigns_to, variable_entity}
 use Rattle.go_tree.specs.GoTypes.Typing.{binds_or, binds_of, new_variables, new_by_define, right_values, package_before}
 use Rattle.go_tree.specs.GoTypes.Agreement.{with_names, Agrees}
@@ -29,9 +29,20 @@ use Rattle.go_translation.specs.Facts.{typed_at, typed_option, first_typed, valu
 use Rattle.go_translation.specs.Agreement.{at_names, AgreesHere}
 use Rattle.constant_modules.specs.NamesAndKeys.Marked.{OnMarked, marked_type, marked_type_option, marked_params, marked_expr, marked_exprs, marked_expr_option, marked_elems, marked_value, marked_value_option, marked_stmt, marked_stmt_option, marked_left}
 use Rattle.constant_modules.proofs.NamesAndKeys.TypingMarked.{first_of, second_of, marked_alike, key-by}
+use Rattle.constant_modules.proofs.NamesAndKeys.KeysTaken.{Valueless, no_answer, type_answer, builtin_answer, SameKey}
 
 impossible : {A B : Type 0} {x : B} → None ≡ Some x → A
 impossible e = grind arith
+
+-- the types of keys that are the same, or no values
+key-typed : {p q : Option Operand} → SameKey p q → typed_of p ≡ typed_of q
+key-typed (inl e) = ap typed_of e
+key-typed (inr r) = none r.0 ∙ sym (none r.1)
+  where
+    none : {p : Option Operand} → Valueless p → typed_of p ≡ None
+    none no_answer = refl
+    none type_answer = refl
+    none builtin_answer = refl
 
 pub or_covers : (names : List (List ℕ)) (r : Option Binds) (k : Env) → ((bs : Binds) → r ≡ Some bs → Covers names bs k) → Covers names (binds_or names r) k
 or_covers names None k f = of_covers names None k (λ d e. impossible e)
@@ -112,7 +123,7 @@ module _ {S : Type 0} where
   key_place-alike a None i no_value m around g h = refl
   key_place-alike a (Some fs) i no_value m around g h = refl
   key_place-alike a (Some fs) i (some_value k) m around g h = refl
-  key_place-alike a None i (some_value (plain e)) m around g h = λ w. constant_place (typed_of (key-by a None (plain e) m around g h (λ j. parts-alike a e m around g j) w)) i
+  key_place-alike a None i (some_value (plain e)) m around g h = ap (λ v. constant_place v i) (key-typed (key-by a None (plain e) m around g h (λ j. parts-alike a e m around g j)))
   key_place-alike a None i (some_value (braced s es)) m around g h = refl
 
   pub element_place-alike : (a : Env) (u : GoType) (i : ℕ) (k : ValueOption S) (m : Environment Entity) (around : List (List ℕ)) → Agrees around a m → OnMarked (marked_value_option around k) a m → element_place a u i k ≡ element_place (with_names a m) u i k

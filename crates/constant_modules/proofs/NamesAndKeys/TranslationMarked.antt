@@ -1,4 +1,4 @@
--- A part has the same terms where free names mean the same, and keys the same or no operand.
+-- A part has the same terms where free names mean the same, and keys the same or no value.
 use Rattle.std.specs.Prelude.{◌≡◌, refl, ℕ, suc, true, false, ◌||◌, List, [], ◌∷◌, ◌++◌, length, Option, Some, None, if◌then◌else◌, pos}
 use Rattle.go_tree.specs.Tree.{Expr, ident, int_lit, rune_lit, str_lit, composite, selector, index, slice, call, func_lit, type_operand, unary, binary, star, Exprs, no_exprs, expr_and, ExprOption, no_expr, some_expr, Elems, no_elems, elem, Value, plain, braced, ValueOption, no_value, some_value, Stmt, const_decl, var_decl, empty, eval, step, assign, define, return_, break_, continue_, inner, if_, for_, range_, switch, defer, label, Stmts, no_stmts, stmt_and, StmtOption, no_stmt, some_stmt, BlockOption, no_block, some_block, RangeLeft, nothing, assigns, defines, Arms, no_arms, arm, Cases, no_cases, case, ValueSpecs, no_specs, spec}
 use Rattle.go_tree.specs.declared.const_eval.kinds.Kind.TheVariants as kind
@@ -44,7 +44,7 @@ use Rattle.go_translation.specs.Statements.{RangeForm, return_term, loop_term, r
 use Rattle.go_translation.specs.Names.{entity_root, entity_term, gives_two, first_value, element_of_map, index_op}
 use Rattle.go_translation.specs.Facts.{label_option, has_bound, typed_option, value_types, count_exprs, range_type, literal_names, binds_after, binds_first, spec_binds}
 use Rattle.go_translation.specs.Translation.{expr_term, args_term, values_term, try_term, option_term, elems_term, key_term, element_term, place_term, place_terms, address, callee, stmts_term, stmt_term, first_term, test_term, tag_term, block_term, arms_term, turn_term, cases_term, fits_term, default_term, deferred_term, specs_term}
-use Rattle.constant_modules.specs.NamesAndKeys.Marked.{HereMarked, Marked, key_name, unless_key, NoOperand, no_meaning, of_package, of_refused, SameOrNone, Within, at_head, OnMarked, marked_type, marked_type_option, marked_params, marked_expr, marked_exprs, marked_expr_option, marked_elems, marked_value, marked_value_option, marked_key, marked_stmt, marked_stmts, marked_stmt_option, marked_block_option, marked_left, marked_arms, marked_cases, marked_specs}
+use Rattle.constant_modules.specs.NamesAndKeys.Marked.{HereMarked, Marked, key_name, unless_key, NoValue, no_meaning, of_package, of_type, of_builtin, of_refused, SameOrNone, Within, at_head, OnMarked, marked_type, marked_type_option, marked_params, marked_expr, marked_exprs, marked_expr_option, marked_elems, marked_value, marked_value_option, marked_key, marked_stmt, marked_stmts, marked_stmt_option, marked_block_option, marked_left, marked_arms, marked_cases, marked_specs}
 use Rattle.constant_modules.proofs.NamesAndKeys.TypingMarked.{marked_alike}
 use Rattle.constant_modules.proofs.NamesAndKeys.HereMarked.{here_left, here_right, marked_variable, kept_declaring, kept_body}
 use Rattle.std.specs.Prelude.{Bool, None}
@@ -58,20 +58,16 @@ key-term : (h : Here) (t : GoType) (n : List ℕ) (m : Environment Entity) (l : 
     → entity_term h (path_of h.paths h.env.home) (means h.locals n) t n (means h.env.names n) ≡ entity_term h (path_of h.paths h.env.home) (means l n) t n (means m n)
 key-term h t n m l around g o = by (is_among n around) refl o.0 (o.1 (key_name n))
   where
-    none : (a b : Option Location) {x y : Option Entity} → NoOperand x → NoOperand y → entity_term h (path_of h.paths h.env.home) a t n x ≡ entity_term h (path_of h.paths h.env.home) b t n y
-    none a b no_meaning no_meaning = refl
-    none a b no_meaning of_package = refl
-    none a b of_package no_meaning = refl
-    none a b of_package of_package = refl
-    none a b no_meaning of_refused = refl
-    none a b of_package of_refused = refl
-    none a b of_refused no_meaning = refl
-    none a b of_refused of_package = refl
-    none a b of_refused of_refused = refl
+    none : (a : Option Location) {x : Option Entity} → NoValue x → entity_term h (path_of h.paths h.env.home) a t n x ≡ v.nothing
+    none a no_meaning = refl
+    none a of_package = refl
+    none a of_type = refl
+    none a of_builtin = refl
+    none a of_refused = refl
 
     alike : SameVariable h l n → SameOrNone (means h.env.names n) (means m n) → entity_term h (path_of h.paths h.env.home) (means h.locals n) t n (means h.env.names n) ≡ entity_term h (path_of h.paths h.env.home) (means l n) t n (means m n)
-    alike v (inl e) = λ w. entity_term h (path_of h.paths h.env.home) (v w) t n (e w)
-    alike v (inr q) = none (means h.locals n) (means l n) q.0 q.1
+    alike s (inl e) = λ w. entity_term h (path_of h.paths h.env.home) (s w) t n (e w)
+    alike s (inr q) = none (means h.locals n) q.0 ∙ sym (none (means l n) q.1)
 
     by : (b : Bool) → is_among n around ≡ b → OnMarked (if b then [] else key_name n ∷ []) h.env m → (Within (key_name n) (if b then [] else key_name n ∷ []) → SameVariable h l n)
         → entity_term h (path_of h.paths h.env.home) (means h.locals n) t n (means h.env.names n) ≡ entity_term h (path_of h.paths h.env.home) (means l n) t n (means m n)

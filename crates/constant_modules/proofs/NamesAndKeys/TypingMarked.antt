@@ -1,5 +1,5 @@
 -- What is typed in one environment is typed alike in another in which its free names mean the same, and its keys the same or
--- no operand.
+-- no value.
 use Rattle.std.specs.Prelude.{◌≡◌, refl, ℕ, ◌+◌, Bool, true, false, not, ◌&&◌, List, [], ◌∷◌, ◌++◌, length, Option, Some, None, if◌then◌else◌, is_some, pos}
 use Rattle.std.specs.List.{list_all}
 use Rattle.go_tree.specs.Tree.{NameAt, Param, Sig, TypeExpr, Expr, ident, int_lit, rune_lit, str_lit, composite, selector, index, slice, call, func_lit, type_operand, unary, binary, star, Exprs, no_exprs, expr_and, ExprOption, no_expr, some_expr, Elems, no_elems, elem, Value, plain, braced, ValueOption, no_value, some_value, Stmt, const_decl, var_decl, empty, eval, step, assign, define, return_, break_, continue_, inner, if_, for_, range_, switch, defer, label, Stmts, no_stmts, stmt_and, StmtOption, no_stmt, some_stmt, BlockOption, no_block, some_block, RangeLeft, nothing, assigns, defines, Arms, no_arms, arm, Cases, no_cases, case, ValueSpecs, no_specs, spec}
@@ -20,6 +20,7 @@ use Rattle.go_tree.specs.GoTypes.Jumps.{breaks, breaks_in}
 use Rattle.go_tree.specs.GoTypes.Statements.{names_once, Declared, no_names, some_declared, blank, target_at, stores_all, updates, is_condition, variable_entity, bind_each, defined_by, range_types, range_assigns, case_value, case_constants, Ctx, in_loop, in_switch, may_break, may_continue, body_binds, body_ctx, is_blank_name, is_panic, no_values, is_absent, is_define, is_empty_stmt, has_last}
 use mathlib.Core.Path.{ap, sym, ◌∙◌, subst}
 use Rattle.std.proofs.Common.{arith}
+use Rattle.std.specs.Prelude.{◌⊎◌}
 use Rattle.go_tree.specs.Tree.{Fields, no_fields, field, named, pointer, slice_type, map_type, struct_type}
 use Rattle.go_tree.specs.ScopeNames.Means.{Environment, means}
 use Rattle.go_tree.specs.ScopeNames.FreeNames.{names_of, declared, declared_option, arms_declared, defined, named_use, sig_names, free_type, free_type_option, free_params}
@@ -34,7 +35,8 @@ use Rattle.go_tree.proofs.GoTypes.Agreeing.{among_right, new_constants_cover, ne
 use Rattle.std.specs.Prelude.{bytes_eq}
 use Rattle.std.proofs.Common.{inl, inr}
 use Rattle.go_tree.specs.GoTypes.Answers.{is_among}
-use Rattle.constant_modules.specs.NamesAndKeys.Marked.{Marked, used_name, key_name, unless_marked, unless_key, NoOperand, no_meaning, of_package, of_refused, SameOrNone, Within, at_head, behind, OnMarked, marked_type, marked_fields, marked_type_option, marked_params, marked_expr, marked_exprs, marked_expr_option, marked_elems, marked_value, marked_value_option, marked_key, marked_stmt, marked_stmts, marked_stmt_option, marked_block_option, marked_left, marked_arms, marked_cases, marked_specs}
+use Rattle.constant_modules.specs.NamesAndKeys.Marked.{Marked, used_name, key_name, unless_marked, unless_key, SameOrNone, Within, at_head, behind, OnMarked, marked_type, marked_fields, marked_type_option, marked_params, marked_expr, marked_exprs, marked_expr_option, marked_elems, marked_value, marked_value_option, marked_key, marked_stmt, marked_stmts, marked_stmt_option, marked_block_option, marked_left, marked_arms, marked_cases, marked_specs}
+use Rattle.constant_modules.proofs.NamesAndKeys.KeysTaken.{valueless, SameKey, SameElement, SameElements, key_either, element_head, elements_join, built-same, inside-same}
 
 pub within-left : {x : Marked} {xs : List Marked} (ys : List Marked) → Within x xs → Within x (xs ++ ys)
 within-left ys at_head = at_head
@@ -57,7 +59,7 @@ marked_alike n around a m g h = go (is_among n around) refl h
     go true e h = g.bound n e
     go false e h = h (used_name n) at_head
 
--- behind what is bound a name means the same, or no operand, if it did
+-- behind what is bound a name means the same, or no value, if it did
 pub under_none : (n : List ℕ) (bs l m : Environment Entity) → SameOrNone (means l n) (means m n) → SameOrNone (means (bs ++ l) n) (means (bs ++ m) n)
 under_none n [] l m e = e
 under_none n (b ∷ bs) l m e = by (bytes_eq b.0 n) (under_none n bs l m e)
@@ -66,26 +68,15 @@ under_none n (b ∷ bs) l m e = by (bytes_eq b.0 n) (under_none n bs l m e)
     by true r = inl refl
     by false r = r
 
-pub key-operand : (a : Env) (m : Environment Entity) (around : List (List ℕ)) (n : List ℕ) → Agrees around a m → OnMarked (unless_key around n) a m → named_operand a (means a.names n) ≡ named_operand (with_names a m) (means m n)
+pub key-operand : (a : Env) (m : Environment Entity) (around : List (List ℕ)) (n : List ℕ) → Agrees around a m → OnMarked (unless_key around n) a m → SameKey (named_operand a (means a.names n)) (named_operand (with_names a m) (means m n))
 key-operand a m around n g h = by (is_among n around) refl h
   where
-    none : {x y : Option Entity} → NoOperand x → NoOperand y → named_operand a x ≡ named_operand (with_names a m) y
-    none no_meaning no_meaning = refl
-    none no_meaning of_package = refl
-    none of_package no_meaning = refl
-    none of_package of_package = refl
-    none no_meaning of_refused = refl
-    none of_package of_refused = refl
-    none of_refused no_meaning = refl
-    none of_refused of_package = refl
-    none of_refused of_refused = refl
+    alike : SameOrNone (means a.names n) (means m n) → SameKey (named_operand a (means a.names n)) (named_operand (with_names a m) (means m n))
+    alike (inl e) = inl (λ w. named_operand a (e w))
+    alike (inr q) = inr (valueless a q.0, valueless (with_names a m) q.1)
 
-    alike : SameOrNone (means a.names n) (means m n) → named_operand a (means a.names n) ≡ named_operand (with_names a m) (means m n)
-    alike (inl e) = λ w. named_operand a (e w)
-    alike (inr q) = none q.0 q.1
-
-    by : (b : Bool) → is_among n around ≡ b → OnMarked (if b then [] else key_name n ∷ []) a m → named_operand a (means a.names n) ≡ named_operand (with_names a m) (means m n)
-    by true e f = λ w. named_operand a (g.bound n e w)
+    by : (b : Bool) → is_among n around ≡ b → OnMarked (if b then [] else key_name n ∷ []) a m → SameKey (named_operand a (means a.names n)) (named_operand (with_names a m) (means m n))
+    by true e f = inl (λ w. named_operand a (g.bound n e w))
     by false e f = alike (f (key_name n) at_head)
 
 -- what follows an answer
@@ -201,22 +192,22 @@ module _ {S : Type 0} where
   is_panic-alike a _ m around g h = refl
 
   -- a key of a literal
-  pub key-by : (a : Env) (t : Option GoType) (k : Value S) (m : Environment Entity) (around : List (List ℕ)) → Agrees around a m → OnMarked (marked_key around k) a m → (OnMarked (marked_value around k) a m → element a t k ≡ element (with_names a m) t k) → element a t k ≡ element (with_names a m) t k
+  pub key-by : (a : Env) (t : Option GoType) (k : Value S) (m : Environment Entity) (around : List (List ℕ)) → Agrees around a m → OnMarked (marked_key around k) a m → (OnMarked (marked_value around k) a m → element a t k ≡ element (with_names a m) t k) → SameKey (element a t k) (element (with_names a m) t k)
   key-by a t (plain (ident _ n)) m around g h f = key-operand a m around n g h
-  key-by a t (plain (int_lit _ _)) m around g h f = f h
-  key-by a t (plain (rune_lit _ _)) m around g h f = f h
-  key-by a t (plain (str_lit _ _)) m around g h f = f h
-  key-by a t (plain (composite _ _ _)) m around g h f = f h
-  key-by a t (plain (selector _ _ _)) m around g h f = f h
-  key-by a t (plain (index _ _ _)) m around g h f = f h
-  key-by a t (plain (slice _ _ _ _)) m around g h f = f h
-  key-by a t (plain (call _ _ _ _)) m around g h f = f h
-  key-by a t (plain (func_lit _ _ _ _)) m around g h f = f h
-  key-by a t (plain (type_operand _ _)) m around g h f = f h
-  key-by a t (plain (unary _ _ _)) m around g h f = f h
-  key-by a t (plain (binary _ _ _ _)) m around g h f = f h
-  key-by a t (plain (star _ _)) m around g h f = f h
-  key-by a t (braced _ _) m around g h f = f h
+  key-by a t (plain (int_lit _ _)) m around g h f = inl (f h)
+  key-by a t (plain (rune_lit _ _)) m around g h f = inl (f h)
+  key-by a t (plain (str_lit _ _)) m around g h f = inl (f h)
+  key-by a t (plain (composite _ _ _)) m around g h f = inl (f h)
+  key-by a t (plain (selector _ _ _)) m around g h f = inl (f h)
+  key-by a t (plain (index _ _ _)) m around g h f = inl (f h)
+  key-by a t (plain (slice _ _ _ _)) m around g h f = inl (f h)
+  key-by a t (plain (call _ _ _ _)) m around g h f = inl (f h)
+  key-by a t (plain (func_lit _ _ _ _)) m around g h f = inl (f h)
+  key-by a t (plain (type_operand _ _)) m around g h f = inl (f h)
+  key-by a t (plain (unary _ _ _)) m around g h f = inl (f h)
+  key-by a t (plain (binary _ _ _ _)) m around g h f = inl (f h)
+  key-by a t (plain (star _ _)) m around g h f = inl (f h)
+  key-by a t (braced _ _) m around g h f = inl (f h)
 
   used-by : (a : Env) (t : Option GoType) (k : Value S) (m : Environment Entity) (around : List (List ℕ)) → Agrees around a m → OnMarked (marked_key around k) a m → (OnMarked (marked_value around k) a m → used_value a t k ≡ used_value (with_names a m) t k) → used_value a t k ≡ used_value (with_names a m) t k
   used-by a t (plain (ident _ n)) m around g h f = refl
@@ -252,7 +243,9 @@ module _ {S : Type 0} where
     parts-alike a (int_lit _ s) m around g h = λ w. literal_operand kind.UntypedInt (number (pos (integer_value s)))
     parts-alike a (rune_lit _ s) m around g h = λ w. literal_operand kind.UntypedRune (literal_value s)
     parts-alike a (str_lit _ s) m around g h = λ w. literal_operand kind.UntypedStr (text (text_value s))
-    parts-alike a (composite _ t es) m around g h = λ w. given ((type_meant-alike a t m around g (first_of (marked_type around t) (marked_elems around es) a m h) w)) (λ u. given ((elements-alike a (under (defined_in a) u) es m around g (second_of (marked_type around t) (marked_elems around es) a m h) w)) (built (defined_in a) a.home u))
+    parts-alike a (composite _ t es) m around g h =
+        then_each _ _ (type_meant-alike a t m around g (first_of (marked_type around t) (marked_elems around es) a m h))
+        (λ u e. built-same (defined_in a) a.home u (elements-alike a (under (defined_in a) u) es m around g (second_of (marked_type around t) (marked_elems around es) a m h)))
     parts-alike a (selector _ b n) m around g h = λ w. elim ((package_before-alike a b m around g h w)) [ Some p ↦ named_operand a (exported a.world p n.name) | None ↦ given ((parts-alike a b m around g h w)) (λ o. with_value o (selected (defined_in a) a.home n.name ((place-alike a b m around g h w)))) ]
     parts-alike a (index _ b i) m around g h = λ w. both ((parts-alike a b m around g (first_of (marked_expr around b) (marked_expr around i) a m h) w)) ((parts-alike a i m around g (second_of (marked_expr around b) (marked_expr around i) a m h) w)) (λ o j. both (typed o) (typed j) (index_of (defined_in a)))
     parts-alike a (slice _ b i j) m around g h = λ w. given ((parts-alike a b m around g (first_of (marked_expr around b) (marked_expr_option around i) a m (first_of (marked_expr around b ++ marked_expr_option around i) (marked_expr_option around j) a m h)) w)) (λ o. both ((bound-alike a i m around g (second_of (marked_expr around b) (marked_expr_option around i) a m (first_of (marked_expr around b ++ marked_expr_option around i) (marked_expr_option around j) a m h)) w)) ((bound-alike a j m around g (second_of (marked_expr around b ++ marked_expr_option around i) (marked_expr_option around j) a m h) w)) (λ i j. with_value o (λ v. sliced (defined_in a) v i j)))
@@ -273,17 +266,22 @@ module _ {S : Type 0} where
     bound-alike a no_expr m around g h = λ w. Some None
     bound-alike a (some_expr e) m around g h = λ w. given ((parts-alike a e m around g h w)) (λ o. with_value o (λ v. Some (Some v)))
 
-    pub elements-alike : (a : Env) (u : GoType) (v : Elems S) (m : Environment Entity) (around : List (List ℕ)) → Agrees around a m → OnMarked (marked_elems around v) a m → elements a u v ≡ elements (with_names a m) u v
-    elements-alike a u no_elems m around g h = λ w. Some []
-    elements-alike a u (elem _ k v es) m around g h = λ w. both (given ((element-alike a (inner_type (defined_in a) u) v m around g (second_of (marked_value_option around k) (marked_value around v) a m (first_of (marked_value_option around k ++ marked_value around v) (marked_elems around es) a m h)) w)) (λ o. (with_key-alike a u k o m around g (first_of (marked_value_option around k) (marked_value around v) a m (first_of (marked_value_option around k ++ marked_value around v) (marked_elems around es) a m h)) w))) ((elements-alike a u es m around g (second_of (marked_value_option around k ++ marked_value around v) (marked_elems around es) a m h) w)) (λ x xs. Some (x ∷ xs))
+    pub elements-alike : (a : Env) (u : GoType) (v : Elems S) (m : Environment Entity) (around : List (List ℕ)) → Agrees around a m → OnMarked (marked_elems around v) a m → SameElements u (elements a u v) (elements (with_names a m) u v)
+    elements-alike a u no_elems m around g h = inl refl
+    elements-alike a u (elem _ k v es) m around g h =
+        let j : OnMarked (marked_value_option around k ++ marked_value around v) a m = first_of (marked_value_option around k ++ marked_value around v) (marked_elems around es) a m h in
+        elements_join u
+        (element_head u (with_key a u k) (with_key (with_names a m) u k) (element-alike a (inner_type (defined_in a) u) v m around g (second_of (marked_value_option around k) (marked_value around v) a m j))
+        (λ o. with_key-alike a u k o m around g (first_of (marked_value_option around k) (marked_value around v) a m j)))
+        (elements-alike a u es m around g (second_of (marked_value_option around k ++ marked_value around v) (marked_elems around es) a m h))
 
     pub element-alike : (a : Env) (u : Option GoType) (v : Value S) (m : Environment Entity) (around : List (List ℕ)) → Agrees around a m → OnMarked (marked_value around v) a m → element a u v ≡ element (with_names a m) u v
     element-alike a t (plain e) m around g h = λ w. (parts-alike a e m around g h w)
-    element-alike a t (braced _ es) m around g h = λ w. given t (λ t. given ((elements-alike a (under (defined_in a) (literal_type (defined_in a) t)) es m around g h w)) (built_inside (defined_in a) a.home t))
+    element-alike a t (braced _ es) m around g h = then_each _ _ refl (λ u e. inside-same (defined_in a) a.home u (elements-alike a (under (defined_in a) (literal_type (defined_in a) u)) es m around g h))
 
-    pub with_key-alike : (a : Env) (u : GoType) (v : ValueOption S) (x : Operand) (m : Environment Entity) (around : List (List ℕ)) → Agrees around a m → OnMarked (marked_value_option around v) a m → with_key a u v x ≡ with_key (with_names a m) u v x
-    with_key-alike a u no_value o m around g h = λ w. Some (unkeyed o)
-    with_key-alike a u (some_value k) o m around g h = λ w. if is_struct u then given (field_key k) (λ n. Some (of_field n o)) else given (key-by a (key_type (defined_in a) u) k m around g h (λ j. element-alike a (key_type (defined_in a) u) k m around g j) w) (λ q. Some (keyed q o))
+    pub with_key-alike : (a : Env) (u : GoType) (v : ValueOption S) (x : Operand) (m : Environment Entity) (around : List (List ℕ)) → Agrees around a m → OnMarked (marked_value_option around v) a m → SameElement u (with_key a u v x) (with_key (with_names a m) u v x)
+    with_key-alike a u no_value o m around g h = inl refl
+    with_key-alike a u (some_value k) o m around g h = key_either (is_struct u) (given (field_key k) (λ n. Some (of_field n o))) o (key-by a (key_type (defined_in a) u) k m around g h (λ j. element-alike a (key_type (defined_in a) u) k m around g j))
 
     pub place-alike : (a : Env) (u : Expr S) (m : Environment Entity) (around : List (List ℕ)) → Agrees around a m → OnMarked (marked_expr around u) a m → place a u ≡ place (with_names a m) u
     place-alike a (ident _ n) m around g h = λ w. named_place ((marked_alike n around a m g h w))

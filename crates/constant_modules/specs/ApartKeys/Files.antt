@@ -1,6 +1,6 @@
--- Whether keys of composite literals that are predeclared identifiers are apart from the imports of their file, file by
+-- Whether keys of composite literals that are predeclared as values are apart from the imports of their file, file by
 -- file (Go specification, Composite literals; Import declarations; Predeclared identifiers).
-use Rattle.std.specs.Prelude.{◌≡◌, ℕ, Bool, true, false, not, ◌&&◌, ◌||◌, List, Some, is_some, slice_get}
+use Rattle.std.specs.Prelude.{◌≡◌, ℕ, Bool, true, false, not, ◌&&◌, ◌||◌, List, Some, slice_get}
 use Rattle.std.specs.List.{list_all}
 use Rattle.go_tree.specs.File.{ImportSpec, Decl, File}
 use Rattle.go_tree.specs.GoTypes.Agreement.{In}
@@ -13,18 +13,19 @@ use Rattle.run_rules.specs.Sites.{Where}
 use Rattle.run_rules.specs.Steps.{At}
 use Rattle.constant_modules.specs.ApartKeys.Keys.{decl_keys}
 use Rattle.constant_modules.specs.CountedUses.Typed.{IsFileOf}
+use Rattle.constant_modules.specs.KeyedImports.Keyed.{means_value}
 use Rattle.constant_modules.specs.LookUps.Beside.{names_over}
 
--- a predeclared identifier
-abbrev pub is_predeclared : List ℕ → Bool
-is_predeclared n = is_some (means universe n)
+-- an identifier that is predeclared as a value: `true`, `false`, `nil` or `iota`
+abbrev pub is_value_name : List ℕ → Bool
+is_value_name n = means_value (means universe n)
 
 module _ {S : Type 0} (ps : List (Package S)) where
-  -- the import is `_`, or its name isn't both a predeclared identifier and that of a key in a declaration of the file
+  -- the import is `_`, or its name isn't both predeclared as a value and that of a key in a declaration of the file
   abbrev pub import_apart : File S → ImportSpec S → Bool
   import_apart f s =
       is_blank (import_name ps s)
-      || not (is_predeclared (import_name ps s) && is_among (import_name ps s) (names_over decl_keys f.decls))
+      || not (is_value_name (import_name ps s) && is_among (import_name ps s) (names_over decl_keys f.decls))
 
   -- each import of the file is so
   abbrev pub file_apart : File S → Bool
@@ -34,10 +35,9 @@ module _ {S : Type 0} (ps : List (Package S)) where
   abbrev pub keys_are_apart : Bool
   keys_are_apart = list_all (λ p. list_all (λ f. file_apart f.tree) p.files) ps
 
--- No import but `_` of a file that has a predeclared identifier for its name has that of a key in a declaration of the
--- file.
+-- No import but `_` of a file whose name is predeclared as a value has that of a key in a declaration of the file.
 abbrev pub KeysApart : List (Package At) → Type 0
 KeysApart ps =
     (w : Where At) → IsFileOf ps w → (k : ℕ) (s : ImportSpec At) → slice_get (import_specs w.source.tree) k ≡ Some s
-    → is_blank (import_name ps s) ≡ false → is_predeclared (import_name ps s) ≡ true → (i : ℕ) (d : Decl At)
+    → is_blank (import_name ps s) ≡ false → is_value_name (import_name ps s) ≡ true → (i : ℕ) (d : Decl At)
     → slice_get w.source.tree.decls i ≡ Some d → In (import_name ps s) (decl_keys d) → ⊥

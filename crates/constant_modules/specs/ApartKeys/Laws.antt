@@ -21,11 +21,11 @@ use Rattle.run_rules.specs.Texts.{FileText}
 use Rattle.run_rules.specs.Steps.{At, same_here, changes_for, new_decl}
 use Rattle.constant_modules.specs.ApartKeys.Files.{keys_are_apart, KeysApart}
 use Rattle.constant_modules.specs.ApartKeys.Keys.{named_key, expr_keys, decl_keys}
-use Rattle.constant_modules.specs.KeyedImports.Steps.{RemovesNoPredeclaredKey}
+use Rattle.constant_modules.specs.KeyedImports.Steps.{RemovesNoValueKey}
 use Rattle.constant_modules.specs.NamedAnywhere.Marked.{StandsNamedThere}
 use Rattle.constant_modules.specs.NamedAnywhere.Puts.{AddsImports, PutsNameThere}
 
--- Keys that are predeclared identifiers are apart from imports where each file is found to be so,
+-- Keys that are predeclared as values are apart from imports where each file is found to be so,
 abbrev pub FoundKeysAreApart : Type 0
 FoundKeysAreApart = (ps : List (Package At)) → keys_are_apart ps ≡ true → KeysApart ps
 
@@ -58,12 +58,12 @@ StepsPutNames =
     → HaveFiles st.packages → WellTyped (packages_of st.packages []) → AvoidsFew st.packages n.found → AddsImports n
     → StandsNamedThere n → PutsNameThere n
 
--- No import that goes after such a step has the name of a key that is predeclared, where keys are apart from imports
--- before it.
-abbrev pub StepsRemoveNoPredeclaredKeys : Type 0
-StepsRemoveNoPredeclaredKeys =
+-- No import that goes after such a step has the name of a key that is predeclared as a value, where keys are apart from
+-- imports before it.
+abbrev pub StepsRemoveNoValueKeys : Type 0
+StepsRemoveNoValueKeys =
     (marks : List MarkRef) (st : Standing) (l : Logged) (after : Standing) (n : Next marks st l after) → IsReady st
-    → PutsNameThere n → KeysApart st.packages → RemovesNoPredeclaredKey n
+    → PutsNameThere n → KeysApart st.packages → RemovesNoValueKey n
 
 -- And keys are apart from imports after it, if it writes its file.
 abbrev pub StepsKeepKeysApart : Type 0

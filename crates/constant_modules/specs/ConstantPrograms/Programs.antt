@@ -11,8 +11,8 @@ use Rattle.constant_steps.specs.WrittenLiteral.UnspreadForms.UnspreadForms.{Unsp
 use Rattle.constant_modules.specs.ApartKeys.Files.{keys_are_apart}
 use Rattle.constant_modules.specs.NamedThere.Steps.{IsOfConstants}
 
--- A module as read whose constants are inlined: no call hands on a slice, and no import has a predeclared identifier for
--- its name that is a key of a composite literal in its file.
+-- A module as read whose constants are inlined: no call hands on a slice, and no import has a name that is predeclared
+-- as a value and a key of a composite literal in its file.
 pub record HasForm (ps : List (Package Span)) : Type 0 where
   pub unspread : UnspreadPackages ps
   pub keys : keys_are_apart ps ≡ true

@@ -37,7 +37,7 @@ ReadConstantsHaveNoTypes =
 -- ---- programs of constants
 
 -- A module that reads is such a program, where the paths of its files are octets, it is well typed, no call hands on a
--- slice, no import has a predeclared identifier for its name that is a key in its file, all its marks are of constants,
+-- slice, no import has a name that is predeclared as a value and a key in its file, all its marks are of constants,
 -- and its texts are within the limit of a run.
 abbrev pub ReadModulesAreOfConstants : Type 0
 ReadModulesAreOfConstants =

@@ -31,8 +31,8 @@ ConstantRunsAreOver =
     (marks : List MarkRef) (st last : Standing) (log : List Logged) → IsOfConstants marks st
     → (run : Run marks st log last) → StaysWithin run → AllOverAnywhere run
 
--- So the inlining of a module of constants, none of whose imports has a predeclared identifier for its name that is a
--- key in its file, keeps typing, which marked functions lie on a cycle, and the meaning: of its steps nothing is asked.
+-- So the inlining of a module of constants, none of whose imports has a name that is predeclared as a value and a key
+-- in its file, keeps typing, which marked functions lie on a cycle, and the meaning: of its steps nothing is asked.
 abbrev pub ConstantInliningsKeep : Type 0
 ConstantInliningsKeep =
     (files : List Source) (ps : List (Package Span)) (texts : List (List ℕ × FileText)) (only : List ℕ)

@@ -1,13 +1,13 @@
 -- Packages of the same declarations under other imports of their files, where a key of a composite literal may be the
 -- name of an import in one and of none in the other (Go specification, Import declarations; Composite literals;
 -- Declarations and scope).
-use Rattle.std.specs.Prelude.{◌≡◌, ◌⊎◌, ℕ, false, List, [], ◌++◌, map, Some, None, slice_get}
+use Rattle.std.specs.Prelude.{◌≡◌, ◌⊎◌, ℕ, Bool, true, false, List, [], ◌++◌, map, Option, Some, None, slice_get}
 use Rattle.go_tree.specs.Tree.{const_decl, var_decl, ValueSpecs, no_specs, spec}
 use Rattle.go_tree.specs.File.{Decl, values, types, func}
 use Rattle.go_tree.specs.ScopeNames.FreeNames.{free_type_option, free_params}
 use Rattle.go_tree.specs.ScopeNames.Means.{means}
 use Rattle.go_tree.specs.GoTypes.Answers.{is_among}
-use Rattle.go_tree.specs.GoTypes.Entities.{universe}
+use Rattle.go_tree.specs.GoTypes.Entities.{Entity, type_name, package_name, builtin, refused, universe}
 use Rattle.go_tree.specs.GoTypes.Programs.{SourceFile, block_names}
 use Rattle.go_translation.specs.Packages.{Package}
 use Rattle.order_runs.specs.CycleRuns.ImportCycles.LookedUp.{types_looked_up, receiver_looked_up, names_around}
@@ -19,10 +19,19 @@ use Rattle.constant_modules.specs.NamesAndKeys.Marked.{Marked, used_name, key_na
 abbrev pub all_used : List (List ℕ) → List Marked
 all_used ns = map (λ n. used_name n) ns
 
--- A name that no declaration of the package block has, nor the universe block: without an import it means nothing at
--- the top of a file.
+-- a variable, a constant, `nil`, `iota` or a function that is declared
+abbrev pub means_value : Option Entity → Bool
+means_value None = false
+means_value (Some (package_name p)) = false
+means_value (Some (type_name t)) = false
+means_value (Some (builtin b)) = false
+means_value (Some refused) = false
+means_value (Some e) = true
+
+-- A name that no declaration of the package block has, and that isn't predeclared as `true`, `false`, `nil` or `iota`:
+-- without an import it means no value at the top of a file.
 abbrev pub IsFree : List (List ℕ) → List ℕ → Type 0
-IsFree members n = (is_among n members ≡ false) × (means universe n ≡ None)
+IsFree members n = (is_among n members ≡ false) × (means_value (means universe n) ≡ false)
 
 module _ {S : Type 0} where
   -- the names that constants or variables look up at the top of their file, with keys told apart
@@ -41,7 +50,7 @@ module _ {S : Type 0} where
       ++ marked_stmts (names_around f) f.body
 
   -- Two files of a package that declares these names hold the same declarations. Each name that these use is that of
-  -- the same package, or of none; so is each key that is declared elsewhere.
+  -- the same package, or of none; so is each key that is declared elsewhere, or may mean a value without an import.
   pub record FileKeyed (members : List (List ℕ)) (f g : SourceFile S) : Type 0 where
     pub decls : g.decls ≡ f.decls
     pub used :

@@ -9,17 +9,18 @@ use Rattle.order_runs.specs.CycleRuns.OrderCycles.NewNames.{AvoidsFew}
 use Rattle.order_runs.specs.RunSteps.RunPackages.{packages_of}
 use Rattle.printed_constants.specs.TypedParts.MarkedRuns.NamedMarks.Named.{AllNamed}
 use Rattle.printed_constants.specs.TypedParts.MarkedRuns.SettledConstants.Programs.{IsReady}
-use Rattle.constant_modules.specs.KeyedImports.Steps.{KeepsUses, KeepsImportUses, RemovesNoPredeclaredKey}
+use Rattle.constant_modules.specs.KeyedImports.Steps.{KeepsUses, KeepsImportUses, RemovesNoValueKey}
 use Rattle.constant_modules.specs.KeyedImports.Steps.{IsOverNameKeyed}
 use Rattle.constant_modules.specs.NamedAnywhere.Puts.{PutsNameThere}
 
 -- A step that puts a constant's name, in a program that is ready and well typed, keeps what names and keys mean where
--- it writes its file, few names are avoided, and no import that goes has the name of a predeclared key.
+-- it writes its file, few names are avoided, and no import that goes has the name of a key that is predeclared as a
+-- value.
 abbrev pub StepsKeepUses : Type 0
 StepsKeepUses =
     (marks : List MarkRef) (st : Standing) (l : Logged) (after : Standing) (n : Next marks st l after) → IsReady st
     → WellTyped (packages_of st.packages []) → PutsNameThere n → AvoidsFew st.packages n.found → WritesFile n
-    → RemovesNoPredeclaredKey n → KeepsUses n
+    → RemovesNoValueKey n → KeepsUses n
 
 -- A step over a marked constant that does writes its file, and no imports lead to a cycle, before it and after,
 abbrev pub KeyedStepsWrite : Type 0

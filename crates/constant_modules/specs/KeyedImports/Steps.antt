@@ -23,7 +23,7 @@ use Rattle.run_rules.specs.Run.{Standing, Logged, Next, here_of}
 use Rattle.run_rules.specs.Sites.{MarkRef, an_expr}
 use Rattle.run_rules.specs.Steps.{At, Found}
 use Rattle.typed_in_place.specs.ProgramsAlike.{OneByOne}
-use Rattle.constant_modules.specs.KeyedImports.Keyed.{decl_marked, IsFree}
+use Rattle.constant_modules.specs.KeyedImports.Keyed.{decl_marked, means_value, IsFree}
 use Rattle.constant_modules.specs.NamesAndKeys.Marked.{used_name, key_name, Within}
 
 module _ {S : Type 0} where
@@ -83,15 +83,16 @@ pub record KeepsImportUses {marks : List MarkRef} {st : Standing} {l : Logged} {
   pub ordered_added : AllOrdered (packages_added st.packages n.found)
   pub ordered_after : AllOrdered after.packages
 
--- No import that the step removes has the name of a key in the file as it is read again that is predeclared.
-abbrev pub RemovesNoPredeclaredKey : {marks : List MarkRef} {st : Standing} {l : Logged} {after : Standing}
+-- No import that the step removes has the name of a key in the file as it is read again that is predeclared as a value:
+-- as `true`, `false`, `nil` or `iota`.
+abbrev pub RemovesNoValueKey : {marks : List MarkRef} {st : Standing} {l : Logged} {after : Standing}
     → Next marks st l after → Type 0
-RemovesNoPredeclaredKey {marks = marks} {st = st} n =
+RemovesNoValueKey {marks = marks} {st = st} n =
     (i : ℕ) (s : ImportSpec At) → slice_get (import_specs n.found.site.at.source.tree) i ≡ Some s
     → list_any (same_span (here_of s.span)) (removed_specs marks st n.found) ≡ true
     → (k : ℕ) (d : Decl At) → slice_get n.tree.decls k ≡ Some d
     → Within (key_name (import_name st.packages s)) (decl_marked d)
-    → means universe (import_name st.packages s) ≡ None
+    → means_value (means universe (import_name st.packages s)) ≡ false
 
 -- The use is an expression. The names to avoid are fewer than 2^64, what names and keys mean is kept, and no package is
 -- named `_` in the form: kept_marks' `IsOverName`, with keys told apart.

@@ -18,7 +18,7 @@ use Rattle.constant_modules.specs.NamedThere.There.{AllUntyped}
 
 -- A program that is ready and well typed, whose packages have files and names of their own, whose texts are within the
 -- limit of a run, whose marks are all of constants that are declared without a type as names of constants, and no import
--- of which has a predeclared identifier for its name that is a key in its file: whatever else it declares.
+-- of which has a name that is predeclared as a value and a key in its file: whatever else it declares.
 pub record IsOfConstants (marks : List MarkRef) (st : Standing) : Type 0 where
   pub ready : IsReady st
   pub files : HaveFiles st.packages

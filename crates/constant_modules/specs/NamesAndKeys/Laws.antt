@@ -40,7 +40,7 @@ use Rattle.splice_laws.specs.RunLaws.Reading.{ProgramReads}
 use Rattle.constant_modules.specs.CountedUses.Typed.{IsFileOf}
 use Rattle.constant_modules.specs.NamesAndKeys.Marked.{OnMarked, HereMarked, marked_expr, marked_exprs, marked_stmts}
 
--- Where the names that an expression uses mean the same in another environment, and its keys the same or no operand, it
+-- Where the names that an expression uses mean the same in another environment, and its keys the same or no value, it
 -- is typed alike there.
 abbrev pub OperandsAreAlike : Type 0
 OperandsAreAlike =
@@ -75,7 +75,7 @@ TermsAreAlike =
 -- ---- functions under other imports of their file
 
 -- The names that the body of the function uses mean under these imports what they meant, and its keys the same or no
--- operand.
+-- value.
 abbrev pub BodyMarked : World → Environment Entity → Headed Span → Func Span → Type 0
 BodyMarked w is h f = OnMarked (marked_stmts [] f.body) (body_env w h f) (body_env w (under_imports is h) f).names
 
@@ -101,7 +101,7 @@ FunctionsKeepTheirCode =
     → func_code paths w h f ≡ func_code paths w (under_imports is h) f
 
 -- So they do where those of the names that its body uses which the function doesn't declare around it mean at the top
--- of the file what they meant, and its keys the same or no operand: in a header that declares something, or is a method
+-- of the file what they meant, and its keys the same or no value: in a header that declares something, or is a method
 -- that may stand there.
 abbrev pub NamesAtTheTop : Type 0
 NamesAtTheTop =

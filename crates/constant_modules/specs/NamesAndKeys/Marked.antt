@@ -14,7 +14,8 @@ use Rattle.go_tree.specs.ScopeNames.FreeNames.{names_of, declared, declared_opti
 use Rattle.go_tree.specs.ScopeNames.FreeNames.{named_use, sig_names}
 use Rattle.go_tree.specs.ScopeNames.Means.{Environment, means}
 use Rattle.go_tree.specs.GoTypes.Answers.{is_among}
-use Rattle.go_tree.specs.GoTypes.Entities.{Entity, package_name, refused, Env}
+use Rattle.go_tree.specs.GoTypes.Types.{GoType}
+use Rattle.go_tree.specs.GoTypes.Entities.{Builtin, Entity, type_name, package_name, builtin, refused, Env}
 use Rattle.go_tree.specs.GoTypes.Agreement.{Same}
 use Rattle.go_translation.specs.Agreement.{SameVariable}
 use Rattle.go_translation.specs.Here.{Location, Here}
@@ -32,17 +33,20 @@ unless_marked around n = if is_among n around then [] else used_name n ∷ []
 abbrev pub unless_key : List (List ℕ) → List ℕ → List Marked
 unless_key around n = if is_among n around then [] else key_name n ∷ []
 
--- a name of a package alone, one that is refused, and one that means nothing, is no operand
-pub data NoOperand : Option Entity → Type 0 where
-  no_meaning : NoOperand None
-  of_package : {p : ℕ} → NoOperand (Some (package_name p))
-  of_refused : NoOperand (Some refused)
+-- a name of a package alone, of a type or of a predeclared function, one that is refused, and one that means nothing,
+-- means no value
+pub data NoValue : Option Entity → Type 0 where
+  no_meaning : NoValue None
+  of_package : {p : ℕ} → NoValue (Some (package_name p))
+  of_type : {t : GoType} → NoValue (Some (type_name t))
+  of_builtin : {b : Builtin} → NoValue (Some (builtin b))
+  of_refused : NoValue (Some refused)
 
--- both mean the same, or no operand
+-- both mean the same, or no value
 abbrev pub SameOrNone : Option Entity → Option Entity → Type 0
-SameOrNone x y = (x ≡ y) ⊎ (NoOperand x × NoOperand y)
+SameOrNone x y = (x ≡ y) ⊎ (NoValue x × NoValue y)
 
--- a used name means the same with other names around, and a key the same, or no operand
+-- a used name means the same with other names around, and a key the same, or no value
 abbrev pub MeansAlike : Env → Environment Entity → Marked → Type 0
 MeansAlike a m (used_name n) = Same a m n
 MeansAlike a m (key_name n) = SameOrNone (means a.names n) (means m n)

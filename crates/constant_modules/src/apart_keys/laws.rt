@@ -4,10 +4,10 @@ ghost use Rattle.constant_modules.specs.ApartKeys.Laws as law;
 
 use printed_constants::typed_parts::marked_runs::added_imports_may_be_declared;
 
-/// No import of a file has a predeclared identifier for its name that is a key in its declarations where each file is
-/// found to be so (`found`), and there alone (`only`): nothing of types is read, and nothing of spans, so it is of a
-/// module as read what it is of its files (`read`) (Go specification, Composite literals; Import declarations;
-/// Predeclared identifiers).
+/// No import of a file has `true`, `false`, `nil` or `iota` for its name where that is a key in its declarations, where
+/// each file is found to be so (`found`), and there alone (`only`): nothing of types is read, and nothing of spans, so
+/// it is of a module as read what it is of its files (`read`) (Go specification, Composite literals; Import
+/// declarations; Predeclared identifiers).
 pub fn keys_apart_are_found()
     ensures found { law.FoundKeysAreApart }
     ensures only { law.ApartKeysAreFound }
@@ -15,11 +15,11 @@ pub fn keys_apart_are_found()
 {}
 
 /// In a ready, well-typed program a step over a marked constant puts its name, whatever imports go (`puts`). So no
-/// import that goes has the name of a predeclared key, where keys are apart from imports before it (`removes`) (Go
-/// specification, Constant declarations; Import declarations; Composite literals).
+/// import that goes has the name of a key that is predeclared as a value, where keys are apart from imports before it
+/// (`removes`) (Go specification, Constant declarations; Import declarations; Composite literals).
 pub fn steps_put_names()
     ensures puts { law.StepsPutNames }
-    ensures removes { law.StepsRemoveNoPredeclaredKeys }
+    ensures removes { law.StepsRemoveNoValueKeys }
 {
     added_imports_may_be_declared();
 }

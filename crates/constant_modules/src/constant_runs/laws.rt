@@ -29,8 +29,8 @@ pub fn constants_are_untyped()
 {}
 
 /// So a module that reads, is well typed and within the limits, and all of whose marks are of constants, is a program of
-/// constants as named_there has it (`IsOfConstants`), where no call hands on a slice, and no import has a predeclared
-/// identifier for its name that is a key in its file: whatever else it declares (Go specification, Constant
+/// constants as named_there has it (`IsOfConstants`), where no call hands on a slice, and no import has `true`, `false`,
+/// `nil` or `iota` for its name where that is a key in its file: whatever else it declares (Go specification, Constant
 /// declarations; Packages; Composite literals; Predeclared identifiers).
 pub fn constant_programs_are_read()
     ensures { law.ReadModulesAreOfConstants }
@@ -80,8 +80,8 @@ pub fn constant_steps_stay()
 /// So each step of a run from such a program is over a marked constant and stands as named_anywhere asks (`over`), and
 /// the inlining of such a module keeps typing, which marked functions lie on a cycle, and the meaning (`keep`), and
 /// leaves files that read as a module, which is well typed and means what the old one means (`inlined`): of its steps
-/// nothing is asked, and keys of composite literals may have the names of imports, but for predeclared identifiers (Go
-/// specification, Packages; Import declarations; Composite literals).
+/// nothing is asked, and keys of composite literals may have the names of imports, but for `true`, `false`, `nil` and
+/// `iota` (Go specification, Packages; Import declarations; Composite literals).
 pub fn constant_runs_inline()
     ensures over { of_runs.ConstantRunsAreOver }
     ensures keep { of_runs.ConstantInliningsKeep }

@@ -2,7 +2,7 @@
 
 ghost use Rattle.constant_modules.specs.NamesAndKeys.Laws as law;
 
-/// Where the names that a part uses mean the same in another environment, and its keys the same or no operand, an
+/// Where the names that a part uses mean the same in another environment, and its keys the same or no value, an
 /// expression is the same operand there (`operand`, `operands`), and statements are as well typed (`bodies`) and use the
 /// same names (`uses`) (Go specification, Composite literals; Declarations and scope).
 pub fn names_are_typed_alike()
@@ -18,7 +18,7 @@ pub fn names_are_translated_alike()
 {}
 
 /// So a function whose file has other imports, under which the names of its receiver, its parameters and its results mean
-/// the same, those that its body uses too, and keys the same or no operand, is as well typed (`typed`), uses the same
+/// the same, those that its body uses too, and keys the same or no value, is as well typed (`typed`), uses the same
 /// names (`uses`) and has the same code (`code`). For the names of its body those count that it doesn't declare around it,
 /// at the top of the file (`top`) (Go specification, Composite literals; Import declarations).
 pub fn functions_keep_keys()

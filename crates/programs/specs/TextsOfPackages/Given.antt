@@ -3,7 +3,7 @@ use Rattle.std.specs.Prelude.{◌≡◌, ℕ, false, nat_eq, List, [], ◌∷◌
 use Rattle.std.specs.Prelude.{if◌then◌else◌, slice_get}
 use Rattle.name_walks.specs.Around.{place_in}
 use Rattle.pkg_graph.specs.ModuleFiles.Pieces.{folder_of}
-use Rattle.module_reading.specs.declared.files.ScannedFile.{ScannedFile}
+use Rattle.module_texts.specs.declared.files.ScannedFile.{ScannedFile}
 use Rattle.pkg_graph.specs.Package.{import_path}
 use Rattle.programs.specs.declared.state.PackageFiles.{PackageFiles}
 

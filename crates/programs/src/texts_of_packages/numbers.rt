@@ -8,7 +8,7 @@ ghost use Rattle.programs.specs.TextsOfPackages.Given.{home_path};
 
 use file_names::Places;
 use go_tree::NoMemory;
-use module_reading::ScannedFile;
+use module_texts::ScannedFile;
 use pkg_graph::module_files::folders::folder_and_name;
 use std::alloc::{AllocError, Global};
 

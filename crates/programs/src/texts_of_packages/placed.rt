@@ -9,7 +9,7 @@ use crate::PackageFiles;
 use crate::texts_of_packages::numbers::file_numbers;
 use file_names::Places;
 use go_tree::{NoMemory, Text};
-use module_reading::ScannedFile;
+use module_texts::ScannedFile;
 use std::alloc::{AllocError, Global};
 
 /// So many packages without files.

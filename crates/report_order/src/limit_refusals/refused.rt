@@ -3,8 +3,8 @@
 ghost use Rattle.std.specs.Prelude.{◌≡◌};
 ghost use Rattle.report_order.specs.LimitRefusals.Refused.{limit_told};
 
-use next_file::Passed;
 use refusals::{Detail, Refusal};
+use step_files::Passed;
 
 /// What is told where a step in the file with this index passes a limit: which one, by which count, and how much is
 /// allowed. It names the file and no place in it.

@@ -10,8 +10,8 @@ use Rattle.run_rules.specs.Sites.{MarkRef}
 use Rattle.run_rules.specs.Texts.{FileText}
 use Rattle.run_rules.specs.Run.{Standing, Logged, Next, Run, same_origin, steps_like, module_file_size, texts_size}
 use Rattle.run_rules.specs.Inlining.{ModuleReads}
-use Rattle.next_file.specs.declared.limits.Progress.{Progress}
-use Rattle.next_file.specs.Limits.{ComesNext}
+use Rattle.step_files.specs.declared.limits.Progress.{Progress}
+use Rattle.step_files.specs.Limits.{ComesNext}
 
 -- none of the texts has this path
 abbrev pub is_no_path : List ℕ → List (List ℕ × FileText) → Bool

@@ -10,7 +10,7 @@ use Rattle.run_rules.specs.Run.{Standing, Logged, Next, path_of_file, module_fil
 use Rattle.run_rules.specs.Sites.{MarkRef}
 use Rattle.run_rules.specs.Steps.{At}
 use Rattle.run_rules.specs.Texts.{FileText}
-use Rattle.next_file.specs.declared.limits.Progress.{Progress}
+use Rattle.step_files.specs.declared.limits.Progress.{Progress}
 use Rattle.run_by_steps.specs.RunProgress.Laws.{HasCome}
 use Rattle.run_by_steps.specs.declared.step_counts.counts.StepCounts.{StepCounts}
 use Rattle.run_by_steps.specs.StepCounts.Origins.{OriginKey, same_key, steps_from}

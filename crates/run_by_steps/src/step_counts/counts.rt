@@ -5,8 +5,8 @@ ghost use Rattle.run_by_steps.specs.StepCounts.Origins.{OriginKey, same_key, ste
 
 use crate::step_counts::origins::OriginCounts;
 use go_tree::NoMemory;
-use next_file::Progress;
 use std::alloc::Global;
+use step_files::Progress;
 
 /// The steps that a run has made, and how many of them have each origin.
 #[derive(Drop)]

@@ -5,8 +5,8 @@ use Rattle.std.proofs.lemmas.Option.{same_Some}
 use Rattle.go_tree.specs.declared.spans.Span.{Span}
 use Rattle.go_tree.specs.File.{Decl, File}
 use Rattle.go_tree.specs.GoTypes.Answers.{given}
-use Rattle.next_file.specs.Limits.{ComesNext}
-use Rattle.next_file.specs.declared.limits.Progress.{Progress}
+use Rattle.step_files.specs.Limits.{ComesNext}
+use Rattle.step_files.specs.declared.limits.Progress.{Progress}
 use Rattle.stepped_programs.specs.declared.package_search.looks.ProgramSources.{ProgramSources}
 use Rattle.pkg_graph.specs.Package.{SourceTree, Package}
 use Rattle.constant_modules.specs.ConstantPrograms.Laws as constants

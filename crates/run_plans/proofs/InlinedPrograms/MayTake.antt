@@ -1,7 +1,7 @@
 -- The step over the first free use of a program on its run may be made.
 use Rattle.std.proofs.Common.{◌≡◌, sym, subst, ℕ, ◌+◌, ◌≤◌, ◌<◌, ◌^◌, List, length, Some, None, arith}
-use Rattle.next_file.specs.Limits.{ComesNext, Passes}
-use Rattle.next_file.specs.declared.limits.Progress.{Progress}
+use Rattle.step_files.specs.Limits.{ComesNext, Passes}
+use Rattle.step_files.specs.declared.limits.Progress.{Progress}
 use Rattle.stepped_programs.specs.declared.package_search.file_steps.step.FileStep.{FileStep}
 use Rattle.stepped_programs.specs.declared.package_search.looks.ProgramSources.{ProgramSources}
 use Rattle.printed_constants.specs.CountedNames.Laws.{StepsStayWithinTotal}

@@ -1,6 +1,6 @@
 -- The step over the first free use of a program is the next of its run.
 use Rattle.std.proofs.Common.{◌≡◌, ◌∙◌, sym, ap, subst, List, Some, None}
-use Rattle.next_file.specs.Limits.{ComesNext, told}
+use Rattle.step_files.specs.Limits.{ComesNext, told}
 use Rattle.stepped_programs.specs.PackageSearch.FileSteps.Steps.{IsStepOf}
 use Rattle.stepped_programs.specs.declared.package_search.looks.ProgramSources.{ProgramSources}
 use Rattle.constant_modules.specs.ConstantPrograms.Laws as constants

@@ -1,8 +1,8 @@
 -- What is put into a program, as the code has it; and what is not.
 use Rattle.std.proofs.Common.{◌≡◌, refl, subst, ℕ, Bool, List, is_some}
 use Rattle.go_tree.specs.declared.spans.Span.{Span}
-use Rattle.next_file.specs.declared.file.NewFile.{NewFile}
-use Rattle.next_file.specs.declared.limits.Progress.{Progress}
+use Rattle.step_files.specs.declared.file.NewFile.{NewFile}
+use Rattle.step_files.specs.declared.limits.Progress.{Progress}
 use Rattle.pkg_graph.specs.declared.packages.Package.{Package}
 use Rattle.programs.specs.declared.state.Program.{Program}
 use Rattle.report_order.specs.declared.rows.ReportRow.{ReportRow}

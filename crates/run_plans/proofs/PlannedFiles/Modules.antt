@@ -9,7 +9,7 @@ use Rattle.pkg_graph.specs.Package.{SourceTree, first_seen, home_of, package_of,
 use Rattle.pkg_graph.proofs.PackageLaws.{has_seen}
 use Rattle.run_rules.specs.Marks.{text_at}
 use Rattle.run_rules.specs.Texts.{FileText}
-use Rattle.module_reading.specs.declared.files.ScannedFile.{ScannedFile}
+use Rattle.module_texts.specs.declared.files.ScannedFile.{ScannedFile}
 use Rattle.module_marks.specs.Views.{texts_of}
 use Rattle.source_files.specs.declared.files.SourceFile.{SourceFile}
 use Rattle.run_plans.specs.PlannedFiles.Limits.{file_with_path}

@@ -9,7 +9,7 @@ use Rattle.pkg_graph.specs.declared.packages.Package.{Package}
 use Rattle.pkg_graph.specs.declared.packages.SourceTree.{SourceTree}
 use Rattle.run_rules.specs.Respanned.{source_with}
 use Rattle.run_rules.specs.Run.{as_read}
-use Rattle.next_file.specs.declared.limits.Passed.{Passed}
+use Rattle.step_files.specs.declared.limits.Passed.{Passed}
 use Rattle.refusals.specs.declared.refusal.Refusal.{Refusal}
 use Rattle.report_order.specs.LimitRefusals.Refused.{limit_told}
 use Rattle.source_files.specs.declared.files.SourceFile.{SourceFile}

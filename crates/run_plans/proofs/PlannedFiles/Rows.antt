@@ -7,7 +7,7 @@ use Rattle.pkg_graph.proofs.ImportOrder.OpenLaws.{never_before_itself}
 use Rattle.pkg_graph.specs.ModuleFiles.Pieces.{comes_before}
 use Rattle.pkg_graph.specs.ModuleFiles.Selected.{module_file}
 use Rattle.pkg_graph.proofs.ModuleFiles.PathLaws.{are_same, same_path}
-use Rattle.module_reading.specs.Files.{go_files}
+use Rattle.module_texts.specs.Files.{go_files}
 use Rattle.source_files.specs.declared.files.SourceFile.{SourceFile}
 use Rattle.run_plans.specs.PlannedFiles.ChangedFiles.Changed.{change_in, change_of, changes}
 use Rattle.run_plans.proofs.PlannedFiles.ChangedFiles.Both.{changes_both}

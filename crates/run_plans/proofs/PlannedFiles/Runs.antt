@@ -6,8 +6,8 @@ use Rattle.run_plans.specs.PlannedFiles.ChangedFiles.Changed.{changes}
 use Rattle.go_tree.specs.declared.spans.Span.{Span}
 use Rattle.pkg_graph.specs.ModuleFiles.PathLists.{has_path}
 use Rattle.pkg_graph.specs.ModuleFiles.Selected.{module_file}
-use Rattle.module_reading.specs.Files.{go_files, is_go_file}
-use Rattle.module_reading.specs.declared.reading.ReadModule.{ReadModule}
+use Rattle.module_texts.specs.Files.{go_files, is_go_file}
+use Rattle.module_texts.specs.declared.modules.ReadModule.{ReadModule}
 use Rattle.pkg_graph.specs.Package.{Package}
 use Rattle.pkg_graph.specs.Reads.{Source}
 use Rattle.pkg_graph.specs.Views.{package_view}

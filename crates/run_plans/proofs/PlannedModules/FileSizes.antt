@@ -9,11 +9,11 @@ use Rattle.pkg_graph.specs.ModuleFiles.Pieces.{comes_before}
 use Rattle.pkg_graph.specs.ModuleFiles.Selected.{is_selected, module_file}
 use Rattle.go_tree.specs.declared.limits.TheConstants.{MAX_FILE_BYTES}
 use Rattle.module_marks.specs.Views.{texts_of}
-use Rattle.module_reading.specs.Files.{source_of, sources_of}
-use Rattle.module_reading.specs.Modules.{IsReadFrom}
-use Rattle.module_reading.specs.declared.files.ScannedFile.{ScannedFile}
-use Rattle.module_reading.specs.declared.reading.ReadModule.{ReadModule}
-use Rattle.module_reading.proofs.RefusedLemmas.{texts_alike}
+use Rattle.module_texts.specs.Files.{source_of, sources_of}
+use Rattle.module_texts.specs.Modules.{IsReadFrom}
+use Rattle.module_texts.specs.declared.files.ScannedFile.{ScannedFile}
+use Rattle.module_texts.specs.declared.modules.ReadModule.{ReadModule}
+use Rattle.module_texts.proofs.RefusedLemmas.{texts_alike}
 use Rattle.pkg_graph.specs.Reads.{Source, is_at, selected_files}
 use Rattle.read_modules.specs.Modules.{texts_in}
 use Rattle.run_rules.specs.Inlining.{are_by_path}

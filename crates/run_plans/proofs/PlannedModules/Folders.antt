@@ -3,7 +3,7 @@ use Rattle.std.proofs.Common.{◌≡◌, ◌∙◌, refl, sym, ap, ℕ, Bool, tr
 use Rattle.std.specs.List.{list_all, list_any}
 use Rattle.std.proofs.lemmas.Bool.{true≢false}
 use Rattle.go_tree.specs.GoWords.Tokens.Characters.{each}
-use Rattle.module_reading.specs.Files.{sources_of}
+use Rattle.module_texts.specs.Files.{sources_of}
 use Rattle.pkg_graph.specs.ModuleFiles.Pieces.{comes_before, file_name, folders}
 use Rattle.pkg_graph.specs.ModuleFiles.Selected.{is_in_other_module, is_selected, is_skipped_folder, is_source_name, module_file, module_files_in}
 use Rattle.pkg_graph.specs.Reads.{Source}

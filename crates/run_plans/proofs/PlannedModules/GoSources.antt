@@ -3,8 +3,8 @@ use Rattle.std.proofs.Common.{◌≡◌, ◌≤◌, sym, ap, subst, ℕ, Bool, t
 use Rattle.std.proofs.lemmas.List.Elements.{All-cons, All-head, All-nil, All-tail}
 use Rattle.go_tree.specs.declared.limits.TheConstants.{MAX_FILE_BYTES}
 use Rattle.module_marks.specs.Views.{texts_of}
-use Rattle.module_reading.specs.Files.{go_files, is_go_file}
-use Rattle.module_reading.specs.declared.files.ScannedFile.{ScannedFile}
+use Rattle.module_texts.specs.Files.{go_files, is_go_file}
+use Rattle.module_texts.specs.declared.files.ScannedFile.{ScannedFile}
 use Rattle.report_order.specs.Laws.{AreSources}
 use Rattle.report_order.specs.declared.text.ReportSource.{ReportSource}
 use Rattle.source_files.specs.declared.files.SourceFile.{SourceFile}

@@ -4,11 +4,11 @@ use Rattle.std.proofs.lemmas.List.Elements.{All-head, All-tail}
 use Rattle.go_tree.specs.declared.spans.Span.{Span}
 use Rattle.go_tree.specs.GoTypes.WellTyped.{well_typed}
 use Rattle.module_marks.specs.Views.{texts_of}
-use Rattle.module_reading.specs.Files.{sources_of}
-use Rattle.module_reading.specs.Modules.{IsReadFrom}
-use Rattle.module_reading.specs.Refusals.{HasWords}
-use Rattle.module_reading.specs.declared.files.ScannedFile.{ScannedFile}
-use Rattle.module_reading.specs.declared.reading.ReadModule.{ReadModule}
+use Rattle.module_texts.specs.Files.{sources_of}
+use Rattle.module_texts.specs.Modules.{IsReadFrom}
+use Rattle.module_texts.specs.Refusals.{HasWords}
+use Rattle.module_texts.specs.declared.files.ScannedFile.{ScannedFile}
+use Rattle.module_texts.specs.declared.modules.ReadModule.{ReadModule}
 use Rattle.module_refusals.specs.Told.{told_whole}
 use Rattle.module_refusals.proofs.ReasonLemmas.{read_is_module}
 use Rattle.pkg_graph.specs.Reads.{Source}

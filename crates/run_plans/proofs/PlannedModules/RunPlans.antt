@@ -7,8 +7,8 @@ use Rattle.run_plans.specs.declared.inlined_programs.faults.PassedIn.{PassedIn}
 use Rattle.run_plans.specs.declared.inlined_programs.faults.StepFault.{StepFault}
 use Rattle.run_plans.specs.declared.inlined_programs.faults.StepFault.TheVariants as fault
 use Rattle.module_marks.specs.Views.{bad_at_of}
-use Rattle.module_reading.specs.declared.reading.ReadModule.{ReadModule}
-use Rattle.next_file.specs.Limits.{told}
+use Rattle.module_texts.specs.declared.modules.ReadModule.{ReadModule}
+use Rattle.step_files.specs.Limits.{told}
 use Rattle.pkg_graph.specs.Package.{Package}
 use Rattle.pkg_graph.specs.Reads.{Source}
 use Rattle.run_plans.specs.PlannedFiles.Laws.{ChangesAreThoseOfRuns, HasComeFrom, LimitsAreToldOfReadFiles}

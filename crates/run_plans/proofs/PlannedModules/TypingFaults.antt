@@ -8,9 +8,9 @@ use Rattle.go_tree.specs.GoTypes.Answers.{given}
 use Rattle.go_tree.specs.GoTypes.WellTyped.{NotTyped, refused_place, well_typed}
 use Rattle.checked_modules.specs.Declarations.{refusal_of}
 use Rattle.checked_modules.specs.RefusedPlace.{RefusedPlace}
-use Rattle.module_reading.specs.Files.{sources_of}
-use Rattle.module_reading.specs.Modules.{IsReadFrom, go_sources}
-use Rattle.module_reading.specs.declared.reading.ReadModule.{ReadModule}
+use Rattle.module_texts.specs.Files.{sources_of}
+use Rattle.module_texts.specs.Modules.{IsReadFrom, go_sources}
+use Rattle.module_texts.specs.declared.modules.ReadModule.{ReadModule}
 use Rattle.module_refusals.specs.Told.{told_at}
 use Rattle.package_blocks.specs.Collected.{AreOrdered}
 use Rattle.package_blocks.specs.FuncHeaders.Functions.{program_of}

@@ -6,8 +6,8 @@ use Rattle.std.specs.List.{list_all}
 use Rattle.go_translation.specs.SameMeaning.{WellTyped}
 use Rattle.go_tree.specs.GoWords.Tokens.Characters.{each}
 use Rattle.member_uses.specs.Laws.{AllConstants}
-use Rattle.module_reading.specs.declared.reading.ReadModule.{ReadModule}
-use Rattle.next_file.specs.Limits.{told}
+use Rattle.module_texts.specs.declared.modules.ReadModule.{ReadModule}
+use Rattle.step_files.specs.Limits.{told}
 use Rattle.order_runs.specs.RunSteps.RunPackages.{packages_of}
 use Rattle.stepped_programs.specs.declared.package_search.looks.ProgramSources.{ProgramSources}
 use Rattle.pkg_graph.specs.Reads.{Source}

@@ -2,7 +2,7 @@
 -- analyzer inline and internal/refactor/inline, for what a run is and what is reported; the limits are this project's
 -- own).
 use Rattle.std.specs.Prelude.{◌≡◌, ⊤, ℕ, List, [], ◌∷◌, ◌++◌, map, Option, Some, None}
-use Rattle.next_file.specs.Limits.{told}
+use Rattle.step_files.specs.Limits.{told}
 use Rattle.programs.specs.declared.state.Program.{Program}
 use Rattle.report_order.specs.Laws.{Tells, RowsTell}
 use Rattle.report_order.specs.declared.rows.ReportRow.{ReportRow}

@@ -6,9 +6,9 @@ use Rattle.std.specs.Prelude.{Option, Some}
 use Rattle.go_tree.specs.declared.spans.Span.{Span}
 use Rattle.go_tree.specs.FileView.{decl_of}
 use Rattle.file_tables.specs.Blocks.{block_in}
-use Rattle.next_file.specs.declared.file.FileFault.TheVariants as file_fault
-use Rattle.next_file.specs.declared.file.NewFile.{NewFile}
-use Rattle.next_file.specs.declared.limits.Progress.{Progress}
+use Rattle.step_files.specs.declared.file.FileFault.TheVariants as file_fault
+use Rattle.step_files.specs.declared.file.NewFile.{NewFile}
+use Rattle.step_files.specs.declared.limits.Progress.{Progress}
 use Rattle.stepped_programs.specs.declared.package_search.file_steps.step.FileStep.{FileStep}
 use Rattle.pkg_graph.specs.declared.packages.SourceTree.{SourceTree}
 use Rattle.programs.specs.OriginsOfUses.Origins.{decls_origin}

@@ -2,7 +2,7 @@
 -- Packages; Source file organization; golang.org/x/tools, internal/refactor/inline, for what a run is).
 use Rattle.std.specs.Prelude.{◌≡◌, ℕ, List, [], Some}
 use Rattle.run_plans.specs.PlannedFiles.ChangedFiles.Changed.{changes}
-use Rattle.module_reading.specs.declared.reading.ReadModule.{ReadModule}
+use Rattle.module_texts.specs.declared.modules.ReadModule.{ReadModule}
 use Rattle.pkg_graph.specs.Reads.{Source}
 use Rattle.programs.specs.Programs.{IsProgramOf}
 use Rattle.programs.specs.declared.state.Program.{Program}

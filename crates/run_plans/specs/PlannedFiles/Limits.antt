@@ -1,7 +1,7 @@
 -- The file in which a run passes a limit (golang.org/x/tools, internal/refactor/inline, for what a run is; the limits
 -- are this project's own).
 use Rattle.std.specs.Prelude.{◌≡◌, ℕ, bytes_eq, List, find, map, Option, Some}
-use Rattle.next_file.specs.declared.limits.Passed.{Passed}
+use Rattle.step_files.specs.declared.limits.Passed.{Passed}
 use Rattle.pkg_graph.specs.Views.{package_view}
 use Rattle.pkg_graph.specs.declared.packages.Package.{Package}
 use Rattle.refusals.specs.declared.refusal.Refusal.{Refusal}

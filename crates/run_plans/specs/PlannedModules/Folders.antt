@@ -3,7 +3,7 @@
 use Rattle.std.specs.Prelude.{◌≡◌, ℕ, ◌+◌, Bool, true, ◌&&◌, List, [], ◌∷◌, length, filter}
 use Rattle.std.specs.List.{list_all}
 use Rattle.go_tree.specs.GoWords.Tokens.Characters.{each}
-use Rattle.module_reading.specs.Files.{sources_of}
+use Rattle.module_texts.specs.Files.{sources_of}
 use Rattle.pkg_graph.specs.ModuleFiles.Pieces.{comes_before}
 use Rattle.pkg_graph.specs.ModuleFiles.Selected.{is_selected}
 use Rattle.pkg_graph.specs.Reads.{Source, selected_files}

@@ -1,8 +1,8 @@
 -- The program of a module of the form that is built, and what is told of the module before its run (Go specification,
 -- Packages; Constant declarations; golang.org/x/tools, analyzer inline, for marks).
 use Rattle.std.specs.Prelude.{◌≡◌, ◌≤◌, ℕ, true, List, Option}
-use Rattle.module_reading.specs.Modules.{IsReadFrom}
-use Rattle.module_reading.specs.declared.reading.ReadModule.{ReadModule}
+use Rattle.module_texts.specs.Modules.{IsReadFrom}
+use Rattle.module_texts.specs.declared.modules.ReadModule.{ReadModule}
 use Rattle.pkg_graph.specs.Reads.{Source}
 use Rattle.programs.specs.declared.state.Program.{Program}
 use Rattle.read_modules.specs.Modules.{packages_in, texts_in}

@@ -6,7 +6,7 @@ use Rattle.go_tree.specs.declared.spans.Span.{Span}
 use Rattle.go_tree.specs.File.{ImportSpec, File}
 use Rattle.go_tree.specs.GoTypes.Answers.{unless_missing}
 use Rattle.go_tree.specs.GoTypes.WellTyped.{well_typed}
-use Rattle.constant_modules.specs.ApartKeys.Files.{is_predeclared}
+use Rattle.constant_modules.specs.ApartKeys.Files.{is_value_name}
 use Rattle.module_refusals.specs.Refused.{AreModule}
 use Rattle.pkg_graph.specs.Package.{Package}
 use Rattle.pkg_graph.specs.Reads.{Source}
@@ -30,19 +30,19 @@ pub record IsRead (folder : List Source) (files : List SourceFile) (ps : List (P
 abbrev pub without_dots : List (List ℕ × FileText) → Bool
 without_dots texts = list_all (λ t. not (list_any is_dots t.1.tokens)) texts
 
--- the import's spec writes no predeclared identifier for its name
+-- the import's spec writes no name that is predeclared as a value: `true`, `false`, `nil` or `iota`
 abbrev pub named_apart : ImportSpec Span → Bool
-named_apart s = unless_missing s.name (λ n. not (is_predeclared n.name))
+named_apart s = unless_missing s.name (λ n. not (is_value_name n.name))
 
 -- nor does any other of the file
 abbrev pub imports_apart : File Span → Bool
 imports_apart f = list_all (λ d. list_all named_apart d.specs) f.imports
 
--- neither the package nor an import of its files is named as a predeclared identifier
+-- neither the package nor an import of its files is named so
 abbrev pub package_apart : Package Span → Bool
-package_apart p = not (is_predeclared p.name) && list_all (λ f. imports_apart f.tree) p.files
+package_apart p = not (is_value_name p.name) && list_all (λ f. imports_apart f.tree) p.files
 
--- no file has variadic syntax, and no package or import is named as a predeclared identifier
+-- no file has variadic syntax, and no package or import is named `true`, `false`, `nil` or `iota`
 abbrev pub is_formed : List (Package Span) → List (List ℕ × FileText) → Bool
 is_formed ps texts = without_dots texts && list_all package_apart ps
 

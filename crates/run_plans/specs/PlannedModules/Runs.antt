@@ -6,10 +6,10 @@ use Rattle.go_tree.specs.declared.spans.Span.{Span}
 use Rattle.run_plans.specs.InlinedPrograms.Beginnings.{Beginning, BeginsRun}
 use Rattle.run_plans.specs.declared.inlined_programs.faults.PassedIn.{PassedIn}
 use Rattle.module_marks.specs.Views.{bad_at_of}
-use Rattle.module_reading.specs.Files.{go_files, is_go_file}
-use Rattle.module_reading.specs.declared.reading.ReadModule.{ReadModule}
-use Rattle.next_file.specs.declared.limits.Passed.{Passed}
-use Rattle.next_file.specs.Limits.{told}
+use Rattle.module_texts.specs.Files.{go_files, is_go_file}
+use Rattle.module_texts.specs.declared.modules.ReadModule.{ReadModule}
+use Rattle.step_files.specs.declared.limits.Passed.{Passed}
+use Rattle.step_files.specs.Limits.{told}
 use Rattle.pkg_graph.specs.Package.{Package}
 use Rattle.pkg_graph.specs.Reads.{Source}
 use Rattle.pkg_graph.specs.declared.packages.Package as code

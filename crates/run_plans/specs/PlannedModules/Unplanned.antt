@@ -5,8 +5,8 @@ use Rattle.go_tree.specs.declared.spans.Span.{Span}
 use Rattle.go_tree.specs.GoTypes.WellTyped.{NotTyped, refused_place, well_typed}
 use Rattle.module_refusals.specs.Refused.{IsRefusal}
 use Rattle.module_refusals.specs.Told.{told_whole}
-use Rattle.next_file.specs.declared.limits.Passed.{Passed}
-use Rattle.next_file.specs.Limits.{told}
+use Rattle.step_files.specs.declared.limits.Passed.{Passed}
+use Rattle.step_files.specs.Limits.{told}
 use Rattle.pkg_graph.specs.Package.{Package}
 use Rattle.pkg_graph.specs.Reads.{Source}
 use Rattle.run_plans.specs.PlannedFiles.Limits.{TellsLimit}

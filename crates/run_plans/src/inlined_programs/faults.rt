@@ -1,7 +1,7 @@
 //! Why a run stops.
 
-use next_file::Passed;
 use std::alloc::AllocError;
+use step_files::Passed;
 
 /// A limit that a step passes, and the file of the step, by the numbers of its package and its own.
 #[derive(Clone, Copy, Debug)]

@@ -3,11 +3,11 @@
 ghost use Rattle.std.specs.Prelude.{◌≡◌, ℕ, List, Some, option_copied};
 ghost use Rattle.run_plans.specs.PlannedFiles.Limits.{IsReadFile, TellsLimit, file_with_path, path_in};
 
-use next_file::Passed;
 use pkg_graph::Package;
 use refusals::Refusal;
 use report_order::limit_refusal;
 use source_files::SourceFile;
+use step_files::Passed;
 
 /// The file with this path among those that were read. Linear in the files.
 pub(crate) fn read_file<'a>(files: &'a [SourceFile], path: &[u8]) -> Option<&'a SourceFile>

@@ -4,7 +4,7 @@ ghost use Rattle.std.specs.Prelude.{◌≡◌};
 ghost use Rattle.module_marks.specs.Views.{texts_of};
 ghost use Rattle.run_plans.specs.PlannedModules.Modules.{without_dots as spec_without_dots};
 
-use module_reading::ScannedFile;
+use module_texts::ScannedFile;
 use variadic_words::has_dots;
 
 /// Whether no file has variadic syntax (Go specification, Function types; Passing arguments to ... parameters).

@@ -1,8 +1,8 @@
 //! What is planned for the files of a module.
 
 ghost use Rattle.std.specs.Prelude.{◌≡◌, ◌<◌, ◌≤◌, ◌^◌, All, IfErr, IfOk, List, OnOk, length, true, ℕ};
-ghost use Rattle.module_reading.specs.Modules.{IsReadFrom};
-ghost use Rattle.module_reading.specs.declared.reading.ReadModule as declared;
+ghost use Rattle.module_texts.specs.Modules.{IsReadFrom};
+ghost use Rattle.module_texts.specs.declared.modules.ReadModule as declared;
 ghost use Rattle.pkg_graph.specs.Reads.{Source};
 ghost use Rattle.read_modules.specs.Modules.{packages_in, texts_in};
 ghost use Rattle.run_plans.specs.PlannedModules.Folders.{AreFolder, AreOfFolder};
@@ -24,8 +24,9 @@ use crate::planned_modules::types::declared_types;
 use checked_modules::read_values_are_spelled;
 use folder_reading::MAX_MODULE_BYTES;
 use go_tree::MAX_FILE_BYTES;
-use module_reading::{ReadModule, read_module_files};
+use module_reading::read_module_files;
 use module_refusals::first_refusal;
+use module_texts::ReadModule;
 use programs::Program;
 use read_modules::{modules_are_read, modules_may_be_loaded};
 use refusals::Refusal;
@@ -47,8 +48,8 @@ fn no_module(alloc: Global, files: &[SourceFile]) -> ModuleFault
 }
 
 /// The place of the first fault of the module that was read from these files, as it is told; None where it is well
-/// typed. An error where a file has variadic syntax, or a package or an import is named as a predeclared identifier; also
-/// where memory is refused, as `typing_fault` says.
+/// typed. An error where a file has variadic syntax, or a package or an import is named `true`, `false`, `nil` or
+/// `iota`; also where memory is refused, as `typing_fault` says.
 fn form_fault(
     alloc: Global,
     files: &[SourceFile],
@@ -140,10 +141,10 @@ fn plan_read(
 /// names begin with `only`.
 ///
 /// The checks come in this order: `first_refusal`'s, so any module is read; 100 where the module isn't of the form that
-/// is built, since a file has variadic syntax, a mark is of a function, a method or an alias, or a package or an import is
-/// named as a predeclared identifier; 401 at the place of the first fault where it isn't well typed; 501 where it has more
-/// bytes than a module may have; and 501 where its run passes a limit. Want of memory is told as such (Go specification,
-/// Packages; Constant declarations; golang.org/x/tools, analyzer inline).
+/// is built, since a file has variadic syntax, a mark is of a function, a method or an alias, or a package or an import
+/// is named `true`, `false`, `nil` or `iota`; 401 at the place of the first fault where it isn't well typed; 501 where
+/// it has more bytes than a module may have; and 501 where its run passes a limit. Want of memory is told as such (Go
+/// specification, Packages; Constant declarations; golang.org/x/tools, analyzer inline).
 pub fn plan_module(alloc: Global, files: &[SourceFile], only: &str) -> Result<Plan, ModuleFault>
     requires count { length files.now < 2 ^ 32 }
     requires small { All (λ f. length f.bytes ≤ MAX_FILE_BYTES) files.now }

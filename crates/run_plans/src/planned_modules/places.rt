@@ -7,7 +7,7 @@ ghost use Rattle.go_tree.specs.declared.spans.Span.{Span};
 ghost use Rattle.go_tree.specs.GoTypes.Answers.{given};
 ghost use Rattle.go_tree.specs.GoTypes.WellTyped.{NotTyped};
 ghost use Rattle.checked_modules.specs.Declarations.{refusal_of};
-ghost use Rattle.module_reading.specs.Modules.{IsReadFrom};
+ghost use Rattle.module_texts.specs.Modules.{IsReadFrom};
 ghost use Rattle.pkg_graph.specs.Views.{package_view};
 ghost use Rattle.read_modules.specs.Modules.{packages_in};
 ghost use Rattle.run_plans.specs.PlannedModules.Places.{IsTypingOf, TellsPlace};
@@ -17,8 +17,8 @@ use checked_modules::{
     RefusedPlace, read_bodies_are_walked, read_values_are_spelled, refused_place,
 };
 use go_tree::{MAX_FILE_BYTES, NoMemory};
-use module_reading::ReadModule;
 use module_refusals::at_byte;
+use module_texts::ReadModule;
 use pkg_graph::Package;
 use read_modules::modules_may_be_loaded;
 use refusals::{Detail, Refusal};

@@ -2,7 +2,7 @@
 
 ghost use Rattle.std.specs.Prelude.{◌<◌, ◌≤◌, ◌^◌, All, IfErr, IfOk, List, length, ℕ};
 ghost use Rattle.pkg_graph.specs.Reads.{Source};
-ghost use Rattle.module_reading.specs.declared.reading.ReadModule as declared;
+ghost use Rattle.module_texts.specs.declared.modules.ReadModule as declared;
 ghost use Rattle.read_modules.specs.Modules.{packages_in, texts_in};
 ghost use Rattle.stepped_programs.specs.RunReports.Kept.{MayBeTold};
 ghost use Rattle.run_plans.specs.PlannedFiles.Limits.{IsReadFile};

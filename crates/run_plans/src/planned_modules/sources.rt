@@ -4,7 +4,7 @@ ghost use Rattle.std.specs.Prelude.{◌≡◌, ◌++◌, IfOk, OnOk, map};
 ghost use Rattle.run_plans.specs.PlannedModules.Runs.{AreGoSources, go_row, told_source};
 
 use go_tree::NoMemory;
-use module_reading::is_go_file;
+use module_texts::is_go_file;
 use report_order::ReportSource;
 use source_files::SourceFile;
 use std::alloc::Global;

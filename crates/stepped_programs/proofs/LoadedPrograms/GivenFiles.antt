@@ -10,7 +10,7 @@ use Rattle.pkg_graph.specs.ModuleFiles.Pieces.{folder_of}
 use Rattle.pkg_graph.specs.ModuleFiles.PathLists.{number_of, path_at, AreDistinct}
 use Rattle.pkg_graph.proofs.ModuleFiles.PathLaws.{same_path, are_same}
 use Rattle.pkg_graph.specs.Package.{SourceTree, import_path, home_of, files_of}
-use Rattle.module_reading.specs.declared.files.ScannedFile.{ScannedFile}
+use Rattle.module_texts.specs.declared.files.ScannedFile.{ScannedFile}
 use Rattle.programs.specs.TextsOfPackages.Given.{home_path, given_to}
 
 -- ---- each is one of all files

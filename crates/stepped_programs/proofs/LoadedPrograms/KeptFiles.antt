@@ -22,10 +22,10 @@ use Rattle.splice_laws.specs.RunLaws.Reading.{FileReads}
 use Rattle.splice_laws.specs.RunLaws.Laws.{OneTextEach}
 use Rattle.splice_laws.proofs.RunLaws.PathsOwn.{paths_own}
 use Rattle.splice_laws.proofs.RunLaws.RunsRead as runs
-use Rattle.module_reading.specs.Files.{IsScanned}
-use Rattle.module_reading.specs.Modules.{IsReadFrom}
-use Rattle.module_reading.specs.declared.files.ScannedFile.{ScannedFile}
-use Rattle.module_reading.specs.declared.reading.ReadModule.{ReadModule}
+use Rattle.module_texts.specs.Files.{IsScanned}
+use Rattle.module_texts.specs.Modules.{IsReadFrom}
+use Rattle.module_texts.specs.declared.files.ScannedFile.{ScannedFile}
+use Rattle.module_texts.specs.declared.modules.ReadModule.{ReadModule}
 use Rattle.module_marks.specs.Views.{file_text}
 use Rattle.file_names.specs.Imports.{FindsPackages}
 use Rattle.source_files.specs.declared.files.SourceFile.{SourceFile}

@@ -20,7 +20,7 @@ use Rattle.run_rules.proofs.InOrder.{order_is}
 use Rattle.splice_laws.proofs.RunLaws.PathsOwn.{paths_own}
 use Rattle.splice_laws.proofs.RunLaws.RunsRead as runs
 use Rattle.member_uses.specs.Laws.{AllConstants}
-use Rattle.module_reading.specs.declared.reading.ReadModule.{ReadModule}
+use Rattle.module_texts.specs.declared.modules.ReadModule.{ReadModule}
 use Rattle.file_names.specs.Imports.{FindsPackages}
 use Rattle.module_marks.specs.Views.{bad_at_of}
 use Rattle.module_marks.specs.Tables.{IsTableOf}

@@ -7,9 +7,9 @@ use Rattle.run_rules.specs.ImportRules.Laid.{CommentsAscend}
 use Rattle.splice_laws.proofs.ImportSplices.ImportPlaces.CommentsStand.{comments_ascend}
 use Rattle.pkg_graph.specs.Views.{package_view, source_of}
 use Rattle.pkg_graph.specs.declared.packages.Package.{Package}
-use Rattle.module_reading.specs.Files.{IsScanned}
-use Rattle.module_reading.specs.Modules.{IsReadFrom}
-use Rattle.module_reading.specs.declared.reading.ReadModule.{ReadModule}
+use Rattle.module_texts.specs.Files.{IsScanned}
+use Rattle.module_texts.specs.Modules.{IsReadFrom}
+use Rattle.module_texts.specs.declared.modules.ReadModule.{ReadModule}
 use Rattle.file_names.specs.Imports.{FindsPackages}
 use Rattle.source_files.specs.declared.files.SourceFile.{SourceFile}
 use Rattle.programs.specs.declared.state.PackageFiles.{PackageFiles}

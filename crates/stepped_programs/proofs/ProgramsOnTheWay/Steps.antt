@@ -5,10 +5,10 @@ use Rattle.go_tree.specs.FileView.{file_of}
 use Rattle.go_tree.specs.declared.spans.Span.{Span}
 use Rattle.pkg_graph.specs.Package as pure
 use Rattle.pkg_graph.specs.Reads.{Source}
-use Rattle.next_file.specs.declared.file.NewFile.{NewFile}
-use Rattle.next_file.specs.declared.limits.Progress.{Progress}
-use Rattle.next_file.specs.Files.{text_of}
-use Rattle.next_file.specs.Limits.{Passes}
+use Rattle.step_files.specs.declared.file.NewFile.{NewFile}
+use Rattle.step_files.specs.declared.limits.Progress.{Progress}
+use Rattle.step_files.specs.Files.{text_of}
+use Rattle.step_files.specs.Limits.{Passes}
 use Rattle.stepped_programs.specs.declared.package_search.looks.ProgramSources.{ProgramSources}
 use Rattle.stepped_programs.specs.declared.package_search.search.FoundInPackage.{FoundInPackage}
 use Rattle.printed_constants.specs.CountedNames.Laws.{StepsStayWithinTotal}

@@ -7,10 +7,10 @@ use Rattle.go_scan.specs.TokenLists.{TokenLists}
 use Rattle.pkg_graph.specs.declared.packages.Package.{Package}
 use Rattle.pkg_graph.specs.declared.packages.SourceTree.{SourceTree}
 use Rattle.text_edits.specs.Applied.{applied}
-use Rattle.next_file.specs.declared.file.FileFault.{FileFault}
-use Rattle.next_file.specs.declared.limits.Progress.{Progress}
-use Rattle.next_file.specs.Files.{IsNewFile, text_of}
-use Rattle.next_file.specs.Limits.{Passes}
+use Rattle.step_files.specs.declared.file.FileFault.{FileFault}
+use Rattle.step_files.specs.declared.limits.Progress.{Progress}
+use Rattle.step_files.specs.Files.{IsNewFile, text_of}
+use Rattle.step_files.specs.Limits.{Passes}
 use Rattle.stepped_programs.specs.declared.package_search.file_steps.step.FileStep.{FileStep}
 use Rattle.stepped_programs.specs.PackageSearch.FileSteps.Steps.{MakesEdits, IsStepFault}
 use Rattle.programs.specs.declared.state.PackageFiles.{PackageFiles}

@@ -15,7 +15,7 @@ use Rattle.run_rules.specs.Texts.{FileText}
 use Rattle.run_rules.specs.Marks.{packages_marks, marks_of, bad_of}
 use Rattle.run_rules.specs.Inlining.{standing_as_read}
 use Rattle.member_uses.specs.Laws.{is_constant}
-use Rattle.module_reading.specs.declared.reading.ReadModule.{ReadModule}
+use Rattle.module_texts.specs.declared.modules.ReadModule.{ReadModule}
 use Rattle.file_names.specs.Imports.{FindsPackages}
 use Rattle.module_marks.specs.Views.{bad_at_of}
 use Rattle.module_marks.specs.Tables.{IsTableOf}

@@ -16,9 +16,9 @@ use Rattle.pkg_graph.specs.Reads.{Source}
 use Rattle.go_translation.specs.SameMeaning.{WellTyped}
 use Rattle.stepped_programs.specs.LoadedPrograms.Loaded.{IsLoaded}
 use Rattle.member_uses.specs.Laws.{AllConstants}
-use Rattle.module_reading.specs.declared.reading.ReadModule.{ReadModule}
-use Rattle.next_file.specs.declared.limits.Progress.{Progress}
-use Rattle.next_file.specs.Files.{text_of}
+use Rattle.module_texts.specs.declared.modules.ReadModule.{ReadModule}
+use Rattle.step_files.specs.declared.limits.Progress.{Progress}
+use Rattle.step_files.specs.Files.{text_of}
 use Rattle.order_runs.specs.RunSteps.RunPackages.{packages_of}
 use Rattle.stepped_programs.specs.declared.package_search.file_steps.step.FileStep.{FileStep}
 use Rattle.stepped_programs.specs.declared.package_search.looks.ProgramSources.{ProgramSources}

@@ -5,10 +5,10 @@ ghost use Rattle.stepped_programs.specs.FirstUses.Step.{IsUseFault, IsUseStep, M
 
 use crate::first_uses::first::FirstUse;
 use crate::package_search::{FileStep, step_file};
-use next_file::{FileFault, Progress};
 use programs::Program;
 use repeated_parts::use_search::FileView;
 use std::alloc::Global;
+use step_files::{FileFault, Progress};
 
 /// The step over the use that is found in the program, in a run that has come so far: its edits of the text of its
 /// file, and the file that they make, read again; see package_search's `step_file` (Go specification, Constant

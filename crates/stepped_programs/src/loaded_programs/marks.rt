@@ -3,13 +3,13 @@
 ghost use Rattle.std.specs.Prelude.{◌≡◌, All, IfOk, IfSome, is_some, map};
 ghost use Rattle.pkg_graph.specs.Views.{package_view};
 ghost use Rattle.run_rules.specs.Marks.{bad_of, marks_of};
-ghost use Rattle.module_reading.specs.Files.{IsScanned};
+ghost use Rattle.module_texts.specs.Files.{IsScanned};
 ghost use Rattle.module_marks.specs.Views.{bad_at_of, mark_ref_of, texts_of};
 ghost use Rattle.stepped_programs.specs.LoadedPrograms.Loaded.{marks_constants};
 
 use go_tree::NoMemory;
 use module_marks::{ModuleMarks, find_marks};
-use module_reading::ScannedFile;
+use module_texts::ScannedFile;
 use narrowed_marks::{are_of_constants, narrowed};
 use pkg_graph::Package;
 use std::alloc::Global;

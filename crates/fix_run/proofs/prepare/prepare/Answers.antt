@@ -1,6 +1,6 @@
 use Rattle.std.proofs.Common.{◌≤◌, ap, arith, length, subst, sym, All}
 use Rattle.go_tree.specs.declared.limits.TheConstants.{MAX_FILE_BYTES}
-use Rattle.module_reading.specs.Files.{sources_of}
+use Rattle.module_texts.specs.Files.{sources_of}
 use Rattle.run_plans.specs.PlannedModules.Folders.{AreFolder}
 use Rattle.fix_run.proofs.FolderLemmas.{folder_stops}
 use Rattle.fix_run.proofs.OrderLemmas.{read_folder}

@@ -1,7 +1,7 @@
 use Rattle.std.proofs.Common.{All, subst}
 use Rattle.std.proofs.lemmas.List.{take_all}
-use Rattle.module_reading.specs.Refusals.{IsDeepAt, IsShallow}
-use Rattle.module_reading.proofs.Lemmas.{fails_at}
+use Rattle.module_texts.specs.Refusals.{IsDeepAt, IsShallow}
+use Rattle.module_texts.proofs.Lemmas.{fails_at}
 use Rattle.module_reading.proofs.checks.first_too_deep.Goals as goal
 
 pub returns-in-Some : goal.returns-in-Some

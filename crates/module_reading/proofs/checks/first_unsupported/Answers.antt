@@ -1,8 +1,8 @@
 use Rattle.std.proofs.Common.{All, subst}
 use Rattle.std.proofs.lemmas.List.{take_all}
 use Rattle.std.proofs.lemmas.List.Elements.{All-more}
-use Rattle.module_reading.specs.Refusals.{HasFirstWord, HasWords}
-use Rattle.module_reading.proofs.Lemmas.{fails_at}
+use Rattle.module_texts.specs.Refusals.{HasFirstWord, HasWords}
+use Rattle.module_texts.proofs.Lemmas.{fails_at}
 use Rattle.module_reading.proofs.checks.first_unsupported.Goals as goal
 
 pub returns-in-Some : goal.returns-in-Some

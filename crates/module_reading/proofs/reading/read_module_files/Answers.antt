@@ -2,8 +2,8 @@ use Rattle.std.proofs.Common.{ap, arith, length, subst}
 use Rattle.pkg_graph.specs.Reads.{AreTrees}
 use Rattle.pkg_graph.specs.Views.{sources_of}
 use Rattle.run_rules.specs.Inlining.{IsSourceFile}
-use Rattle.module_reading.specs.Files as files
-use Rattle.module_reading.proofs.RefusedLemmas.{packages_refuse, scan_refuses, shallow_are, texts_alike, trees_refuse, words_are, words_refuse}
+use Rattle.module_texts.specs.Files as files
+use Rattle.module_texts.proofs.RefusedLemmas.{packages_refuse, scan_refuses, shallow_are, texts_alike, trees_refuse, words_are, words_refuse}
 use Rattle.module_reading.proofs.ScanningLemmas.{scanned_count}
 use Rattle.module_reading.proofs.TreeLemmas.{trees_length, trees_of}
 use Rattle.module_reading.proofs.reading.read_module_files.Goals as goal

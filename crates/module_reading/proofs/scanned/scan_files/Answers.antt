@@ -1,5 +1,5 @@
 use Rattle.std.proofs.Common.{◌≡◌, ◌∙◌, arith, sym, subst, ◌+◌, length, take}
-use Rattle.module_reading.specs.Files.{AreScanned, go_files}
+use Rattle.module_texts.specs.Files.{AreScanned, go_files}
 use Rattle.module_reading.proofs.ScanningLemmas.{all_scanned, before_count, scan_refused, scanned_more}
 use Rattle.module_reading.proofs.scanned.scan_files.Goals as goal
 

@@ -1,5 +1,5 @@
 use Rattle.std.proofs.Common.{refl, sym, subst, take, ◌+◌}
-use Rattle.module_reading.specs.Files.{AreTreesOf}
+use Rattle.module_texts.specs.Files.{AreTreesOf}
 use Rattle.module_reading.proofs.TreeLemmas.{trees_more, trees_refused}
 use Rattle.module_reading.proofs.trees.parse_files.Goals as goal
 

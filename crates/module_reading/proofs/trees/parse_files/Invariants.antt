@@ -1,5 +1,5 @@
 use Rattle.std.proofs.Common.{take}
-use Rattle.module_reading.specs.Files.{AreTreesOf}
+use Rattle.module_texts.specs.Files.{AreTreesOf}
 use Rattle.module_reading.proofs.trees.parse_files.Given as goal
 
 abbrev pub invariant-loop-number : goal.invariant-loop-number

@@ -1,6 +1,6 @@
 use Rattle.std.proofs.Common.{◌≡◌, drop}
 use Rattle.std.specs.List.{slice_get}
-use Rattle.module_reading.specs.Files.{go_files}
+use Rattle.module_texts.specs.Files.{go_files}
 use Rattle.module_refusals.proofs.files.go_file.Given as goal
 
 abbrev pub invariant-loop-file : goal.invariant-loop-file

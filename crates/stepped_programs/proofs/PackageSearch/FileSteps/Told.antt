@@ -19,10 +19,10 @@ use Rattle.constant_forms.specs.declared.reduced.ConstantForm.{ConstantForm}
 use Rattle.printed_constants.specs.Edits.{IsStep}
 use Rattle.repeated_parts.specs.ImportsUnused.Uses.{all_parts}
 use Rattle.repeated_parts.specs.ImportsUnused.Told.{IsTold}
-use Rattle.next_file.specs.declared.file.FileFault.{FileFault}
-use Rattle.next_file.specs.declared.file.FileFault.TheVariants.{TooLarge, NotRead, NoMemory}
-use Rattle.next_file.specs.declared.limits.Progress.{Progress}
-use Rattle.next_file.specs.Files.{IsFault}
+use Rattle.step_files.specs.declared.file.FileFault.{FileFault}
+use Rattle.step_files.specs.declared.file.FileFault.TheVariants.{TooLarge, NotRead, NoMemory}
+use Rattle.step_files.specs.declared.limits.Progress.{Progress}
+use Rattle.step_files.specs.Files.{IsFault}
 use Rattle.repeated_parts.specs.declared.use_search.views.FileView.{FileView}
 use Rattle.stepped_programs.specs.PackageSearch.FileSteps.Used.{first_at}
 use Rattle.stepped_programs.specs.PackageSearch.FileSteps.Steps.{MakesUnused, IsStepOf, MakesEdits, IsStepFault}

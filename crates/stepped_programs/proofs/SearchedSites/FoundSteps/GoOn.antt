@@ -8,8 +8,8 @@ use Rattle.run_rules.specs.Run.{Standing}
 use Rattle.run_rules.specs.Sites.{MarkRef}
 use Rattle.run_rules.specs.Texts.{FileText}
 use Rattle.stepped_programs.specs.PackageSearch.FileSteps.Steps.{MakesEdits}
-use Rattle.next_file.specs.declared.file.FileFault.TheVariants.{TooLarge, NotRead}
-use Rattle.next_file.specs.Files.{IsNewFile, IsFault}
+use Rattle.step_files.specs.declared.file.FileFault.TheVariants.{TooLarge, NotRead}
+use Rattle.step_files.specs.Files.{IsNewFile, IsFault}
 use Rattle.stepped_programs.specs.declared.package_search.looks.ProgramSources.{ProgramSources}
 use Rattle.stepped_programs.specs.declared.package_search.search.FoundInPackage.{FoundInPackage}
 use Rattle.run_by_steps.specs.Reached.{text_made}

@@ -17,12 +17,12 @@ use Rattle.run_rules.specs.Sites.{MarkRef}
 use Rattle.run_rules.specs.Steps.{At, Found}
 use Rattle.run_rules.specs.Texts.{FileText}
 use Rattle.stepped_programs.specs.PackageSearch.FileSteps.Steps.{IsStepOf, MakesEdits, IsStepFault}
-use Rattle.next_file.specs.declared.limits.Progress.{Progress}
-use Rattle.next_file.specs.declared.limits.Passed.{Passed}
-use Rattle.next_file.specs.declared.file.NewFile.{NewFile}
-use Rattle.next_file.specs.declared.file.FileFault.TheVariants.{TooLarge, NotRead}
-use Rattle.next_file.specs.Limits.{told, Passes}
-use Rattle.next_file.specs.Files.{IsNewFile, text_of}
+use Rattle.step_files.specs.declared.limits.Progress.{Progress}
+use Rattle.step_files.specs.declared.limits.Passed.{Passed}
+use Rattle.step_files.specs.declared.file.NewFile.{NewFile}
+use Rattle.step_files.specs.declared.file.FileFault.TheVariants.{TooLarge, NotRead}
+use Rattle.step_files.specs.Limits.{told, Passes}
+use Rattle.step_files.specs.Files.{IsNewFile, text_of}
 use Rattle.run_by_steps.specs.NextPrograms.Made.{NextWith}
 use Rattle.stepped_programs.specs.declared.package_search.looks.ProgramSources.{ProgramSources}
 use Rattle.stepped_programs.specs.declared.package_search.search.FoundInPackage.{FoundInPackage}

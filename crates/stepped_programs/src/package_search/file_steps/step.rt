@@ -6,8 +6,8 @@ ghost use Rattle.run_rules.specs.ImportRules.Laid.{CommentsAscend, Laid};
 ghost use Rattle.text_edits.specs.Applied.{Within, applied};
 ghost use Rattle.member_uses.specs.PossibleUses.Views.{part_of};
 ghost use Rattle.run_rules.specs.Laws.{LiesBehindImports};
-ghost use Rattle.next_file.specs.Files.{IsNewFile, text_of};
-ghost use Rattle.next_file.specs.Limits.{Passes};
+ghost use Rattle.step_files.specs.Files.{IsNewFile, text_of};
+ghost use Rattle.step_files.specs.Limits.{Passes};
 ghost use Rattle.stepped_programs.specs.PackageSearch.FileSteps.Steps.{IsStepFault, MakesEdits, MakesUnused};
 
 use crate::package_search::file_steps::used::used_expr;
@@ -15,11 +15,12 @@ use constant_forms::ConstantForm;
 use go_scan::Tokens;
 use go_tree::{MAX_FILE_BYTES, NoMemory, Span};
 use member_uses::possible_uses::PartRef;
-use next_file::{FileFault, NewFile, Progress, new_file};
+use next_file::new_file;
 use printed_constants::step_edits;
 use repeated_parts::use_search::FileView;
 use repeated_parts::{file_parts, unused_imports};
 use std::alloc::Global;
+use step_files::{FileFault, NewFile, Progress};
 use text_edits::Edits;
 
 /// A step: its edits of the file's text, and the file that they make.

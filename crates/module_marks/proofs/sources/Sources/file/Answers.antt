@@ -1,6 +1,6 @@
 use Rattle.std.proofs.Common.{◌<◌, ◌∙◌, sym, arith, length}
 use Rattle.std.proofs.lemmas.List.Elements.{All-get_or}
-use Rattle.module_reading.specs.Files.{IsScanned}
+use Rattle.module_texts.specs.Files.{IsScanned}
 use Rattle.module_marks.proofs.FileLaws.{file_within, text_found, text_absent}
 use Rattle.module_marks.proofs.sources.Sources.file.Goals as goal
 

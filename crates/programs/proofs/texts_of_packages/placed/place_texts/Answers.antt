@@ -1,6 +1,6 @@
 use Rattle.std.proofs.Common.{◌<◌, refl, subst, arith, List, length, get_or}
 use Rattle.std.specs.Vec.Iter.{into_iter_items}
-use Rattle.module_reading.specs.declared.files.ScannedFile.{ScannedFile}
+use Rattle.module_texts.specs.declared.files.ScannedFile.{ScannedFile}
 use Rattle.programs.proofs.TextsOfPackages.Placing.{Places, one_placed, placed_numbers}
 use Rattle.programs.proofs.texts_of_packages.placed.place_texts.Goals as goal
 

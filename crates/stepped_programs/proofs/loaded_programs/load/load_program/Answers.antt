@@ -4,8 +4,8 @@ use Rattle.file_names.specs.declared.members.MarkRef.{MarkRef}
 use Rattle.pkg_graph.specs.Views.{package_view}
 use Rattle.pkg_graph.specs.declared.packages.Package.{Package}
 use Rattle.run_rules.specs.Marks.{marks_of, bad_of}
-use Rattle.module_reading.specs.Files.{IsScanned}
-use Rattle.module_reading.specs.declared.files.ScannedFile.{ScannedFile}
+use Rattle.module_texts.specs.Files.{IsScanned}
+use Rattle.module_texts.specs.declared.files.ScannedFile.{ScannedFile}
 use Rattle.module_marks.specs.Views.{bad_at_of, mark_ref_of, texts_of}
 use Rattle.programs.specs.TextsOfPackages.Given.{AreTexts}
 use Rattle.programs.specs.declared.state.Program.{Program}
