@@ -1,5 +1,0 @@
-use Rattle.module_reading.proofs.SelectedLemmas.{selected_files_read}
-use Rattle.module_reading.proofs.laws.selected_files_read_alike.Goals as goal
-
-pub returns : goal.returns
-returns c = selected_files_read
