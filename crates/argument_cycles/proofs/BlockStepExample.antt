@@ -29,7 +29,9 @@ use Rattle.literal_cycles.specs.BodyForms.Uses.{LinkedUse}
 use Rattle.literal_cycles.specs.FormCycles.Bodies.{changes_of}
 use Rattle.literal_cycles.specs.BodyForms.Steps.{AllStayThere}
 use Rattle.argument_cycles.specs.Braces.{PutsPlacedBlock}
-use Rattle.argument_cycles.specs.FreeSteps.{PutsFreeBlock}
+use Rattle.argument_cycles.specs.FreeSteps.{StaysAround, PutsFreeBlock}
+use Rattle.argument_cycles.specs.LeftUses.Left.{AllLeft}
+use Rattle.argument_cycles.proofs.LeftUses.Stay.{stays-around}
 use Rattle.argument_cycles.specs.TypedBodies.Served.{CalleesServed}
 use Rattle.argument_cycles.specs.TypedBodies.Steps.{PutsTypedBlock}
 use Rattle.argument_cycles.specs.ImportingSteps.Puts.{FreeBlock, site_there, PutsAddedBlock}
@@ -38,6 +40,8 @@ use Rattle.argument_cycles.proofs.FreeSteps.{block_placed}
 use Rattle.argument_cycles.specs.TypedMethods.Methods.{TypedMethodsBlock, PutsTypedMethodsBlock}
 use Rattle.argument_cycles.proofs.Stays.{stay_of}
 use Rattle.argument_cycles.proofs.BlockUseExample.{the_call, main, tree, pk, rs, here, marks, in_comments, there, found, log_form, log_linked, log_served, log_free, log_called, log_methods}
+use Rattle.argument_cycles.specs.FoundThere.There.{UseThere}
+use Rattle.argument_cycles.specs.FoundThere.Steps.{CallFound, PutsFoundBlock}
 use Rattle.argument_cycles.specs.ArgumentRuns.Runs.{KeepsCallCycles, puts_arguments, a_free_block}
 
 -- ---- the step
@@ -50,13 +54,27 @@ finds = refl
 found_is : the_next.found ≡ found
 found_is = some_same the_next.found found (sym the_next.is_first ∙ finds)
 
+abbrev func_or : Func At → Decl At → Func At
+func_or f (func g) = g
+func_or f d = f
+
+main_is : (g : Func At) → slice_get tree.decls 4 ≡ Some (func g) → main ≡ g
+main_is g e = ap (func_or main) (some_same (func main) (func g) e)
+
 -- in `main` what is around the use stays
 around : (g : Func At) → slice_get tree.decls 4 ≡ Some (func g) → AllStayThere (changes_of found) rs marks here 4 (mark 0 0 0 0) (stmts_seen (body_place rs 0 pk tree g) g.body)
-around g e = subst (λ (g : Func At). AllStayThere (changes_of found) rs marks here 4 (mark 0 0 0 0) (stmts_seen (body_place rs 0 pk tree g) g.body)) (ap (func_or main) (some_same (func main) (func g) e)) (tt, (tt, (refl, (tt, (refl, (refl, (tt, tt)))))))
-  where
-    func_or : Func At → Decl At → Func At
-    func_or f (func g) = g
-    func_or f d = f
+around g e = subst (λ (g : Func At). AllStayThere (changes_of found) rs marks here 4 (mark 0 0 0 0) (stmts_seen (body_place rs 0 pk tree g) g.body)) (main_is g e) (tt, (tt, (refl, (tt, (refl, (refl, (tt, tt)))))))
+
+-- the use stands neither in what is called there nor among the values of what is declared
+abbrev Leaves : Found At → Type 0
+Leaves f = (g : Func At) → slice_get f.site.at.source.tree.decls f.site.decl ≡ Some (func g) → AllLeft (changes_of f) (stmts_seen (body_place start.packages f.site.at.number f.site.at.of f.site.at.source.tree g) g.body)
+
+leaves : Leaves found
+leaves g e = subst (λ (g : Func At). AllLeft (changes_of found) (stmts_seen (body_place rs 0 pk tree g) g.body)) (main_is g e) (tt, (tt, ((refl, tt), (tt, ((refl, tt), ((refl, tt), (tt, tt)))))))
+
+-- so what is around it stays, by the law alone
+left_so : StaysAround the_next
+left_so = stays-around module_.marks start entry after the_next (subst Leaves (sym found_is) leaves)
 
 -- what is known of a use that is found
 record Facts (f : Found At) : Type 0 where
@@ -121,6 +139,10 @@ methods_step = record { use_ = (known.free).use_; kind = (known.free).kind; bloc
 record AddedFacts (f : Found At) : Type 0 where
   function_used : meets (inlinable start.packages f.site.mark) is_function ≡ true
   part : f.site.part ≡ an_expr the_call
+  alike : there ≡ record f.site.place { env = there.env; statement = there.statement }
+  was_seen :
+      (d : Decl At) → slice_get f.site.at.source.tree.decls f.site.decl ≡ Some d
+      → slice_get (decl_seen start.packages f.site.at.number f.site.at.of f.site.at.source.tree d) 5 ≡ Some (seen f.site.place f.site.use_ the_call)
   is_seen :
       (d : Decl At) → slice_get f.site.at.source.tree.decls f.site.decl ≡ Some d
       → slice_get (decl_seen (packages_added start.packages f) f.site.at.number (where_added f).of (file_added f) d) 5 ≡ Some (seen there f.site.use_ the_call)
@@ -135,7 +157,7 @@ the_part d e = subst (λ (d : Decl At). slice_get (decl_seen rs 0 pk tree d) 5 �
 
 added_facts : AddedFacts found
 unfolding log_free
-added_facts = record { function_used = refl; part = refl; is_seen = the_part; around_it = around; block = log_free; same_form = log_form }
+added_facts = record { function_used = refl; part = refl; alike = refl; was_seen = the_part; is_seen = the_part; around_it = around; block = log_free; same_form = log_form }
 
 added_known : AddedFacts the_next.found
 added_known = subst AddedFacts (sym found_is) added_facts
@@ -146,6 +168,21 @@ added_step = record {
   block = added_known.block;
   same_form = added_known.same_form;
 }
+
+-- ---- so it is with the form that the use had before
+
+use_stands : UseThere the_next
+use_stands = record { tree = the_call; part = added_known.part; place = there; alike = added_known.alike; nth = 5; was_seen = added_known.was_seen; is_seen = added_known.is_seen }
+
+call_found : CallFound the_next
+call_found = record { use_ = (known.free).use_; there = use_stands; around = added_known.around_it }
+
+found_there : FreeBlock in_comments (packages_added start.packages the_next.found) module_.marks (site_there the_next.found (call_found.there).place)
+unfolding call_found use_stands
+found_there = added_known.block
+
+found_step : PutsFoundBlock the_next
+found_step = record { call = call_found; block = found_there }
 
 -- so it is a step of the runs that the law of runs speaks of
 keeps : KeepsCallCycles the_next

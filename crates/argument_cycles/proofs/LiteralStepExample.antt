@@ -36,6 +36,8 @@ use Rattle.argument_cycles.proofs.FreeSteps.{literal_placed}
 use Rattle.argument_cycles.specs.TypedMethods.Methods.{TypedMethodsLiteral, PutsTypedMethodsLiteral}
 use Rattle.argument_cycles.proofs.Stays.{stay_of}
 use Rattle.argument_cycles.proofs.LiteralUseExample.{the_call, main, tree, pk, rs, here, marks, in_comments, there, found, first_form, first_linked, first_served, first_free, first_called, first_methods}
+use Rattle.argument_cycles.specs.FoundThere.There.{UseThere}
+use Rattle.argument_cycles.specs.FoundThere.Steps.{CallFound, PutsFoundLiteral}
 use Rattle.argument_cycles.specs.ArgumentRuns.Runs.{KeepsCallCycles, puts_arguments, a_free_literal}
 
 -- ---- the step
@@ -119,6 +121,10 @@ methods_step = record { use_ = (known.free).use_; literal_ = known.methods; stay
 record AddedFacts (f : Found At) : Type 0 where
   function_used : meets (inlinable start.packages f.site.mark) is_function ≡ true
   part : f.site.part ≡ an_expr the_call
+  alike : there ≡ record f.site.place { env = there.env; statement = there.statement }
+  was_seen :
+      (d : Decl At) → slice_get f.site.at.source.tree.decls f.site.decl ≡ Some d
+      → slice_get (decl_seen start.packages f.site.at.number f.site.at.of f.site.at.source.tree d) 14 ≡ Some (seen f.site.place f.site.use_ the_call)
   is_seen :
       (d : Decl At) → slice_get f.site.at.source.tree.decls f.site.decl ≡ Some d
       → slice_get (decl_seen (packages_added start.packages f) f.site.at.number (where_added f).of (file_added f) d) 14 ≡ Some (seen there f.site.use_ the_call)
@@ -133,7 +139,7 @@ the_part d e = subst (λ (d : Decl At). slice_get (decl_seen rs 0 pk tree d) 14 
 
 added_facts : AddedFacts found
 unfolding first_free
-added_facts = record { function_used = refl; part = refl; is_seen = the_part; around_it = around; there_free = first_free; same_form = first_form }
+added_facts = record { function_used = refl; part = refl; alike = refl; was_seen = the_part; is_seen = the_part; around_it = around; there_free = first_free; same_form = first_form }
 
 added_known : AddedFacts the_next.found
 added_known = subst AddedFacts (sym found_is) added_facts
@@ -144,6 +150,21 @@ added_step = record {
   literal = added_known.there_free;
   same_form = added_known.same_form;
 }
+
+-- ---- so it is with the form that the use had before
+
+use_stands : UseThere the_next
+use_stands = record { tree = the_call; part = added_known.part; place = there; alike = added_known.alike; nth = 14; was_seen = added_known.was_seen; is_seen = added_known.is_seen }
+
+call_found : CallFound the_next
+call_found = record { use_ = (known.free).use_; there = use_stands; around = added_known.around_it }
+
+found_there : FreeLiteral in_comments (packages_added start.packages the_next.found) module_.marks (site_there the_next.found (call_found.there).place)
+unfolding call_found use_stands
+found_there = added_known.there_free
+
+found_step : PutsFoundLiteral the_next
+found_step = record { call = call_found; literal = found_there }
 
 -- so it is a step of the runs that the law of runs speaks of
 keeps : KeepsCallCycles the_next

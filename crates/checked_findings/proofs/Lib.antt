@@ -7,6 +7,8 @@ pub mod Spanless
 pub mod TypingMoved
 pub mod FoundMoved
 pub mod DeclarationsMoved
+pub mod FoundSpans
+pub mod PlacesAscend
 mod Told
 mod ExamplesOfOperators
 mod ExamplesOfCalls

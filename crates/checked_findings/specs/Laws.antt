@@ -1,20 +1,29 @@
 -- The laws of what is found. Each is the contract of a function of this crate.
-use Rattle.std.specs.Prelude.{◌≡◌, ℕ, ◌+◌, true, List, [], ◌∷◌, Some, None}
+use Rattle.std.specs.Prelude.{◌≡◌, ℕ, ◌+◌, Bool, true, List, [], ◌∷◌, Some, None}
+use Rattle.std.specs.List.{list_all}
 use Rattle.go_tree.specs.declared.spans.Span.{Span}
+use Rattle.go_tree.specs.declared.tokens.Token.{Token}
+use Rattle.go_tree.specs.declared.tokens.Comment.{Comment}
 use Rattle.go_tree.specs.Tree.{Expr, Stmts}
-use Rattle.go_tree.specs.File.{Decl}
+use Rattle.go_tree.specs.File.{Decl, File}
 use Rattle.go_tree.specs.Bare.{bare_expr, bare_stmts}
 use Rattle.go_tree.specs.ScopeNames.Means.{Environment}
 use Rattle.go_tree.specs.ScopeNames.FreeNames.{free_expr, free_stmts}
+use Rattle.go_tree.specs.GoTypes.Answers.{meets}
 use Rattle.go_tree.specs.GoTypes.Types.{GoType}
 use Rattle.go_tree.specs.GoTypes.Entities.{Entity, World, Env}
-use Rattle.go_tree.specs.GoTypes.Programs.{file_env}
+use Rattle.go_tree.specs.GoTypes.Programs.{Import, file_env}
 use Rattle.go_tree.specs.GoTypes.Agreement.{with_names, On, Agrees}
+use Rattle.go_tree.specs.GoWords.Tokens.{TokensOf}
+use Rattle.go_read.specs.SpellsFiles.{SpellsFile}
+use Rattle.expression_spans.specs.Spans.{decl_span}
+use Rattle.expression_spans.specs.Order.{ascends}
 use Rattle.run_rules.specs.Respanned.{expr_with, stmts_with, decl_with}
 use Rattle.checked_findings.specs.Facts.{Asked, Fact, Facts}
 use Rattle.checked_findings.specs.Found.{found, found_stmts}
-use Rattle.checked_findings.specs.Packages.{names_around, declaration_found}
-use Rattle.checked_findings.specs.LookUp.{fact_at, places_distinct, from_start, moved_by, moved}
+use Rattle.checked_findings.specs.Packages.{names_around, declaration_found, file_found}
+use Rattle.checked_findings.specs.LookUp.{fact_at, places_of, places_distinct, all_facts, from_start, as_written}
+use Rattle.checked_findings.specs.LookUp.{moved_by, moved}
 
 -- a place of which nothing is told
 abbrev pub nowhere : {S : Type 0} → S → Unit {0}
@@ -97,3 +106,45 @@ DeclarationsFoundAlike =
 -- where no two findings have one place, each is found at its place
 abbrev pub EachIsFound : Type 0
 EachIsFound = (fs : Facts Span) (f : Fact Span) → places_distinct fs ≡ true → Among f fs → fact_at f.at fs ≡ Some f
+
+-- ---- files that are read from their tokens, in a package with these names, beside any imports: each expression is
+-- found once, and those that end first come first
+
+-- what is found in declarations
+abbrev pub found_in : World → ℕ → List (List ℕ) → List (Import Span) → List (Decl Span) → Facts Span
+found_in w home members imports ds =
+    all_facts (file_found as_written w home members (record { imports = imports; decls = ds }))
+
+-- what is found in a declaration, counted from where it starts, ascends
+abbrev pub ascend_counted : World → ℕ → Environment Entity → Decl Span → Bool
+ascend_counted w home imports d =
+    meets (decl_span d) (λ s. ascends (places_of (declaration_found (from_start s.start) w home imports d)))
+
+-- the places where something is found ascend
+abbrev pub FindingsAscend : Type 0
+FindingsAscend =
+    (text : List ℕ) (tokens : List Token) (comments : List Comment) (f : File Span) → TokensOf text tokens comments →
+    SpellsFile tokens f → (w : World) (home : ℕ) (members : List (List ℕ)) (imports : List (Import Span)) →
+    ascends (places_of (found_in w home members imports f.decls)) ≡ true
+
+-- so no two are the same
+abbrev pub FindingsDistinct : Type 0
+FindingsDistinct =
+    (text : List ℕ) (tokens : List Token) (comments : List Comment) (f : File Span) → TokensOf text tokens comments →
+    SpellsFile tokens f → (w : World) (home : ℕ) (members : List (List ℕ)) (imports : List (Import Span)) →
+    places_distinct (found_in w home members imports f.decls) ≡ true
+
+-- and each finding is found at its place
+abbrev pub FindingsFound : Type 0
+FindingsFound =
+    (text : List ℕ) (tokens : List Token) (comments : List Comment) (f : File Span) → TokensOf text tokens comments →
+    SpellsFile tokens f → (w : World) (home : ℕ) (members : List (List ℕ)) (imports : List (Import Span))
+    (g : Fact Span) → Among g (found_in w home members imports f.decls) →
+    fact_at g.at (found_in w home members imports f.decls) ≡ Some g
+
+-- those of a declaration ascend too where they are counted from its start
+abbrev pub CountedAscend : Type 0
+CountedAscend =
+    (text : List ℕ) (tokens : List Token) (comments : List Comment) (f : File Span) → TokensOf text tokens comments →
+    SpellsFile tokens f → (w : World) (home : ℕ) (imports : Environment Entity) →
+    list_all (ascend_counted w home imports) f.decls ≡ true

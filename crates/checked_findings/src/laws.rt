@@ -33,3 +33,13 @@ pub fn found_alike_where_free_names_mean_the_same()
 pub fn each_is_found_at_its_place()
     ensures { law.EachIsFound }
 {}
+
+/// Where the tokens of a text spell a file, its findings stand in the order in which their expressions end, parts
+/// before their whole; so no two have one place, and a look-up by place gives each. Those of a declaration ascend too
+/// where they are counted from its start.
+pub fn findings_of_read_files_ascend()
+    ensures ascend { law.FindingsAscend }
+    ensures distinct { law.FindingsDistinct }
+    ensures found { law.FindingsFound }
+    ensures counted { law.CountedAscend }
+{}

@@ -7,5 +7,5 @@ mod laws;
 
 pub use laws::{
     each_is_found_at_its_place, findings_move_with_their_trees, findings_need_no_spans,
-    found_alike_where_free_names_mean_the_same,
+    findings_of_read_files_ascend, found_alike_where_free_names_mean_the_same,
 };

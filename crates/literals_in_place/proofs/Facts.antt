@@ -4,7 +4,6 @@ use mathlib.Core.Path.{ap, ap₂, sym, ◌∙◌, subst}
 use Rattle.std.proofs.Common.{arith}
 use Rattle.go_tree.specs.declared.exprs.Rest.{Rest}
 use Rattle.go_tree.specs.declared.exprs.Rest.TheVariants.{Plain}
-use Rattle.go_tree.specs.declared.spans.Span.{Span}
 use Rattle.go_tree.specs.Tree.{Param, Sig, Expr, ident, call, func_lit, Exprs, Stmts}
 use Rattle.go_tree.specs.ScopeNames.FreeNames.{names_of, sig_names, free_params, free_type}
 use Rattle.go_tree.specs.ScopeNames.Means.{Environment}
@@ -124,7 +123,7 @@ module _ {S : Type 0} where
   used_anywhere a s z g b =
       λ i. free_params [] g.params ++ free_params [] g.results ++ without (sig_names g) (used_stmts (extend (binds_or (sig_names g) (given (both (params_anywhere a [] g.params i) (params_anywhere a [] g.results i) (λ ts us. Some (record { params = ts; results = us }))) (body_binds [] g))) (in_block a)) b)
 
-module _ (same : Span → Span → Bool) (commented : ℕ → ℕ → Span → Bool) (rs : List (Package Span)) (marks : List MarkRef) (x : Site Span) (u : LiteralUse same commented rs marks x) (v : PlainCall same commented rs marks x u) (ms : List (translated.Package Span)) (l : Linked rs ms x same commented marks u) (more : Environment Entity) (d : Here) (h : CalledBeside rs ms x more d) (y : PackagesServe rs ms x same commented marks u d) (around : List (List ℕ)) (a : (n : List ℕ) → is_among n around ≡ true → is_local x.place n ≡ true) where
+module _ {S : Type 0} (same : S → S → Bool) (commented : ℕ → ℕ → S → Bool) (rs : List (Package S)) (marks : List MarkRef) (x : Site S) (u : LiteralUse same commented rs marks x) (v : PlainCall same commented rs marks x u) (ms : List (translated.Package S)) (l : Linked rs ms x same commented marks u) (more : Environment Entity) (d : Here) (h : CalledBeside rs ms x more d) (y : PackagesServe rs ms x same commented marks u d) (around : List (List ℕ)) (a : (n : List ℕ) → is_among n around ≡ true → is_local x.place n ≡ true) where
   not_around : (n : List ℕ) → is_local x.place n ≡ false → is_among n around ≡ false
   not_around n e = go (is_among n around) refl
     where
@@ -135,7 +134,7 @@ module _ (same : Span → Span → Bool) (commented : ℕ → ℕ → Span → B
   callee_apart : Apart around (used d.env v.called)
   callee_apart = go v.called refl v.named
     where
-      go : (e : Expr Span) → v.called ≡ e → NamesCallee same commented rs marks x u v.name e → Apart around (used d.env e)
+      go : (e : Expr S) → v.called ≡ e → NamesCallee same commented rs marks x u v.name e → Apart around (used d.env e)
       go _ q (plainly {s = s} same_package) = single_apart around v.name (not_around v.name (plain_free same commented rs marks x u v s q))
       go _ q (by_import {s = s} {z = z} {t = t} {q = p} {k = k} f is_public) = single_apart around p (not_around p (import_free rs x p f))
 
@@ -144,7 +143,7 @@ module _ (same : Span → Span → Bool) (commented : ℕ → ℕ → Span → B
       filled_apart around d.env v.span v.span (literal_sig same commented rs marks x u v more d) (literal_body same commented rs marks x u v more d)
       (record { none = λ n i. ap (is_among n) (sym (used_anywhere d.env v.span v.span (literal_sig same commented rs marks x u v more d) (literal_body same commented rs marks x u v more d))) ∙ (outside (record { home = d.env.home; around = names_of x.place.bound; puts = false }) refl [] (declared_at (in_block d.env) (top same commented rs marks x u v more d) u.home.number) d.env.names (literal_beside same commented rs marks x u v ms l more d h y v.span v.span)).none n (a n i) refl })
 
-  pub same_facts : (e : Expr Span) → u.form ≡ as_expr e → SameOperand around d.env u.tree e
+  pub same_facts : (e : Expr S) → u.form ≡ as_expr e → SameOperand around d.env u.tree e
   same_facts e q =
       subst (λ z. SameOperand around d.env z e) (sym v.tree_is)
       (operand_then (called_facts around d.env v.span v.called (literal same commented rs marks x u v more d) v.args Plain (meant same commented rs marks x u v ms l).type (callee_operand same commented rs marks x u v ms l more d h y) (filled_operand same commented rs marks x u v ms l more d h y) callee_apart literal_apart)

@@ -40,7 +40,7 @@ mentions_anywhere w a s z g b =
 
 -- ---- the names before the arguments are none that is declared around
 
-module _ (rs : List (Package Span)) (x : Site Span) where
+module _ {S : Type 0} (rs : List (Package S)) (x : Site S) where
   pub import_free : (q : List ℕ) {k : ℕ} → qualifier rs x.at x.place q ≡ Some k → is_local x.place q ≡ false
   import_free q e = go (is_local x.place q) refl
     where
@@ -48,16 +48,16 @@ module _ (rs : List (Package Span)) (x : Site Span) where
       go true f = absurd (grind (arith, ap is_some (sym (ap (λ b. given (if b then None else means (outer rs x.at) q) (λ t. given (imported_by t) (import_number rs x.at))) f) ∙ e)))
       go false f = refl
 
-module _ (same : Span → Span → Bool) (commented : ℕ → ℕ → Span → Bool) (rs : List (Package Span)) (marks : List MarkRef) (x : Site Span) (u : LiteralUse same commented rs marks x) (v : PlainCall same commented rs marks x u) where
-  called : (e : Expr Span) → v.called ≡ e → expr_mark rs marks x.at x.place (call v.span e v.args Plain) ≡ Some x.mark
+module _ {S : Type 0} (same : S → S → Bool) (commented : ℕ → ℕ → S → Bool) (rs : List (Package S)) (marks : List MarkRef) (x : Site S) (u : LiteralUse same commented rs marks x) (v : PlainCall same commented rs marks x u) where
+  called : (e : Expr S) → v.called ≡ e → expr_mark rs marks x.at x.place (call v.span e v.args Plain) ≡ Some x.mark
   called e q = sym (ap (expr_mark rs marks x.at x.place) (v.tree_is ∙ ap (λ f. call v.span f v.args Plain) q)) ∙ v.use_
 
-  pub plain_free : (s : Span) → v.called ≡ ident s v.name → is_local x.place v.name ≡ false
+  pub plain_free : (s : S) → v.called ≡ ident s v.name → is_local x.place v.name ≡ false
   plain_free s q =
       (not_local rs u.home x.at x.place v.name (member_of_mark x.mark)
       (named_member (outer_meaning rs x.at x.place v.name) x.mark (marked_so rs marks is_free_function (name_mark rs x.at x.place v.name) x.mark (called (ident s v.name) q)))).0
 
-module _ (same : Span → Span → Bool) (commented : ℕ → ℕ → Span → Bool) (rs : List (Package Span)) (marks : List MarkRef) (x : Site Span) (u : LiteralUse same commented rs marks x) (v : PlainCall same commented rs marks x u) (more : Environment Entity) (d : Here) where
+module _ {S : Type 0} (same : S → S → Bool) (commented : ℕ → ℕ → S → Bool) (rs : List (Package S)) (marks : List MarkRef) (x : Site S) (u : LiteralUse same commented rs marks x) (v : PlainCall same commented rs marks x u) (more : Environment Entity) (d : Here) where
   -- ---- the literal
 
   abbrev pub top : Environment Entity
@@ -66,13 +66,13 @@ module _ (same : Span → Span → Bool) (commented : ℕ → ℕ → Span → B
   abbrev pub beyond : Environment Entity
   beyond = (top_env rs x.at.number x.at.of x.at.source.tree).names ++ more
 
-  abbrev pub literal_sig : Sig Span
+  abbrev pub literal_sig : Sig S
   literal_sig = kept_sig same commented rs marks x u v (record x.place { env = d.env }) (world rs) top beyond
 
-  abbrev pub literal_body : Stmts Span
+  abbrev pub literal_body : Stmts S
   literal_body = kept_body same commented rs marks x u v (record x.place { env = d.env }) (world rs) top beyond
 
-  abbrev pub literal : Expr Span
+  abbrev pub literal : Expr S
   literal =
       func_lit v.span (filled_sig (kept_sig same commented rs marks x u v (record x.place { env = d.env }) (world rs) top beyond)) v.span
       (kept_body same commented rs marks x u v (record x.place { env = d.env }) (world rs) top beyond)

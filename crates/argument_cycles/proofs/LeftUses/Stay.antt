@@ -1,13 +1,13 @@
 -- Where changes leave what is called and the values of what is declared, what is around a use stays.
-use Rattle.std.proofs.Common.{◌≡◌, refl, ◌∙◌, ap, ℕ, true, false, List, [], ◌∷◌, ◌++◌, Some}
+use Rattle.std.proofs.Common.{◌≡◌, refl, ◌∙◌, ap, ℕ, true, false, List, [], ◌∷◌, ◌++◌, Some, None}
 use Rattle.std.specs.Prelude.{slice_get}
-use Rattle.go_tree.specs.Tree.{NameAt, Expr, call, func_lit, Exprs, Value, plain, Stmt, const_decl, var_decl, eval, define, return_, range_, no_stmts, stmt_and, RangeLeft, ValueSpecs, no_specs, spec, ident}
+use Rattle.go_tree.specs.Tree.{NameAt, Sig, Expr, call, func_lit, Exprs, Value, plain, Stmt, const_decl, var_decl, eval, define, return_, range_, Stmts, no_stmts, stmt_and, RangeLeft, ValueSpecs, no_specs, spec, ident}
 use Rattle.go_tree.specs.File.{Func, func}
 use Rattle.go_tree.specs.GoTypes.Declarations.{nothing_to_repeat}
 use Rattle.go_tree.specs.GoTypes.Entities.{Env}
 use Rattle.pkg_graph.specs.Package.{Package}
 use Rattle.constant_steps.proofs.StepLaws.SpansKept.{value-kept}
-use Rattle.run_rules.specs.FormTrees.{Form, keep_span}
+use Rattle.run_rules.specs.FormTrees.{Form, as_expr, as_dropped, as_block, as_type, keep_span}
 use Rattle.run_rules.specs.Places.{expr_seen, all_seen, written_seen, variables_seen, stmts_seen}
 use Rattle.run_rules.specs.Programs.{body_place}
 use Rattle.run_rules.specs.Quiet.{AllQuiet}
@@ -63,6 +63,15 @@ module _ (z : At) where
   left-same : (x : RangeLeft At) → left_with keep_span x ≡ x
   left-same x = ap (left_of x) (stmt-same (range_ z x (ident z []) z no_stmts))
 
+-- ---- a literal of a function
+
+-- what is made of it names nothing, as itself
+literal-unnamed : (z : At) (f : Form At) (ps : List (Package At)) (marks : List MarkRef) (v : Where At) (p q : Place At) (u : Use) (s y : At) (g : Sig At) (b : Stmts At) → called_mark ps marks v p (new_expr (changes_for same_here z f) q u (func_lit s g y b)) ≡ None
+literal-unnamed z (as_expr e) ps marks v p q u s y g b = refl
+literal-unnamed z (as_dropped e) ps marks v p q u s y g b = refl
+literal-unnamed z (as_block d) ps marks v p q u s y g b = refl
+literal-unnamed z (as_type t) ps marks v p q u s y g b = refl
+
 -- ---- one part
 
 module _ (z : At) (f : Form At) (ps : List (Package At)) (marks : List MarkRef) (v : Where At) (at : ℕ) (m : MarkRef) where
@@ -96,6 +105,7 @@ module _ (z : At) (f : Form At) (ps : List (Package At)) (marks : List MarkRef) 
   )
 
   callee-stays : (p : Place At) (u : Use) (y : Expr At) → LeavesPart c (seen p u y) → CalleeStays ps marks v at m c p y
+  callee-stays p u (call s (func_lit s1 g y b) xs r) h = literal-unnamed z f ps marks v p (callee_place (inner_slot p.slot (call s (func_lit s1 g y b) xs r) 7 true false) (func_lit s1 g y b) p) called s1 y g b
   callee-stays p u (call s g xs r) h = λ w. called_mark ps marks v p (expr-stays (callee_place (inner_slot p.slot (call s g xs r) 7 true false) g p) called g h w)
   callee-stays p u y h = tt
 

@@ -1,7 +1,7 @@
 -- Steps that leave what is called in the body around their use, and the values of what is declared there (Go
 -- specification, Calls; Selectors; Short variable declarations; Variable declarations; For statements).
 use Rattle.std.specs.Prelude.{◌≡◌, List, [], ◌∷◌, true, false, Some, slice_get}
-use Rattle.go_tree.specs.Tree.{call, const_decl, var_decl, define, range_}
+use Rattle.go_tree.specs.Tree.{call, func_lit, const_decl, var_decl, define, range_}
 use Rattle.go_tree.specs.File.{Func, func}
 use Rattle.go_tree.specs.GoTypes.Declarations.{nothing_to_repeat}
 use Rattle.run_rules.specs.Places.{expr_seen, all_seen, left_seen, constants_seen, variables_seen, stmts_seen}
@@ -17,9 +17,10 @@ use Rattle.order_runs.specs.CycleRuns.ImportCycles.ImportSteps.{file_added, pack
 use Rattle.literal_cycles.specs.FormCycles.Bodies.{changes_of}
 
 module _ (c : Changes At) where
-  -- Of a part that is a call, nothing changes in what is called; of one that declares names, nothing changes in their
-  -- values.
+  -- Of a part that is a call, nothing changes in what is called, unless that is a literal of a function; of one that
+  -- declares names, nothing changes in their values.
   abbrev pub LeavesPart : Seen At → Type 0
+  LeavesPart (seen p u (call s (func_lit z g y b) xs r)) = Unit {0}
   LeavesPart (seen p u (call s f xs r)) =
       AllQuiet c (expr_seen (callee_place (inner_slot p.slot (call s f xs r) 7 true false) f p) called f)
   LeavesPart (seen_stmt p (const_decl s g ss)) = AllQuiet c (constants_seen (plain_slot p) nothing_to_repeat 0 ss)
@@ -35,8 +36,8 @@ module _ (c : Changes At) where
   AllLeft (y ∷ ys) = LeavesPart y × AllLeft ys
 
 module _ {marks : List MarkRef} {st : Standing} {l : Logged} {after : Standing} (n : Next marks st l after) where
-  -- so of all parts of the function around the use: the use stands neither in what is called there nor among the values
-  -- of what is declared
+  -- so of all parts of the function around the use: the use stands neither in what is called there, but in literals of
+  -- functions, nor among the values of what is declared
   abbrev pub LeavesBody : Type 0
   LeavesBody =
       (g : Func At) → slice_get n.found.site.at.source.tree.decls n.found.site.decl ≡ Some (func g)

@@ -1,7 +1,6 @@
 -- A call and its literal use `_` alike: neither what is called nor the literal does, since both are typed and declare no constants.
 use Rattle.std.proofs.Common.{◌≡◌, refl, sym, ap, ◌∙◌, subst, ℕ, Bool, true, false, ◌||◌, List, [], ◌∷◌, ◌++◌, Option, Some, None, arith}
 use Rattle.go_tree.specs.declared.exprs.Rest.TheVariants.{Plain}
-use Rattle.go_tree.specs.declared.spans.Span.{Span}
 use Rattle.go_tree.specs.ScopeNames.FreeNames.{names_of, sig_names}
 use Rattle.go_tree.specs.ScopeNames.Means.{Environment, is_blank}
 use Rattle.go_tree.specs.ScopeNames.Scopes.{not_blank, param_names, sig_declares}
@@ -47,7 +46,7 @@ use Rattle.literals_in_place.proofs.Mentions.{literal, literal_body}
 use Rattle.literals_in_place.proofs.StepsInBodies.NoBlank.{expr_absent}
 use Rattle.literals_in_place.proofs.StepsInBodies.NoneWritten.{stmts_none}
 
-module _ (same : Span → Span → Bool) (commented : ℕ → ℕ → Span → Bool) (rs : List (Package Span)) (marks : List MarkRef) (x : Site Span) (u : LiteralUse same commented rs marks x) (v : PlainCall same commented rs marks x u) (ms : List (translated.Package Span)) (l : Linked rs ms x same commented marks u) where
+module _ {S : Type 0} (same : S → S → Bool) (commented : ℕ → ℕ → S → Bool) (rs : List (Package S)) (marks : List MarkRef) (x : Site S) (u : LiteralUse same commented rs marks x) (v : PlainCall same commented rs marks x u) (ms : List (translated.Package S)) (l : Linked rs ms x same commented marks u) where
   -- ---- the function's body is typed
 
   abbrev K : ℕ
@@ -56,7 +55,7 @@ module _ (same : Span → Span → Bool) (commented : ℕ → ℕ → Span → B
   abbrev top : Env
   top = top_env rs u.home.number u.home.of u.home.source.tree
 
-  abbrev header : Headed Span
+  abbrev header : Headed S
   header = (first same commented rs marks x u v ms l).header
 
   env_is : env_of (world rs) header None ≡ top
@@ -71,13 +70,13 @@ module _ (same : Span → Span → Bool) (commented : ℕ → ℕ → Span → B
   literal_start : begins ≡ extend (meant same commented rs marks x u v ms l).binds top
   literal_start = ap (λ o. extend (binds_or (sig_names u.callee.sig) (given o (body_binds [] u.callee.sig))) top) typed_top ∙ ap (λ o. extend (binds_or (sig_names u.callee.sig) o) top) (meant same commented rs marks x u v ms l).bound
 
-  body_start : (hd : Headed Span) → env_of (world rs) hd None ≡ top → body_env (world rs) hd u.callee ≡ begins
+  body_start : (hd : Headed S) → env_of (world rs) hd None ≡ top → body_env (world rs) hd u.callee ≡ begins
   body_start hd e =
       (λ i. extend (otherwise (given (func_type (in_block (e i)) u.callee.sig) (body_binds (receiver_of (world rs) hd u.callee.receiver) u.callee.sig)) []) (in_block (e i)))
       ∙ ap (λ r. extend (otherwise (given (func_type top u.callee.sig) (body_binds (receiver_of (world rs) hd r) u.callee.sig)) []) top) v.free
       ∙ ap (λ o. extend (otherwise (given o (body_binds [] u.callee.sig)) []) top) typed_top ∙ ap (λ o. extend (otherwise o []) top) (meant same commented rs marks x u v ms l).bound ∙ sym literal_start
 
-  abbrev start_place : Place Span
+  abbrev start_place : Place S
   start_place = start same rs (call_of same commented rs marks x u)
 
   start_env : start_place.env ≡ begins
@@ -105,12 +104,12 @@ module _ (same : Span → Span → Bool) (commented : ℕ → ℕ → Span → B
   bound_alike : (n : List ℕ) → is_among n (names_of start_place.bound) ≡ is_among n (names_of (sig_declares u.callee.sig))
   bound_alike n = ap (λ r. is_among n (names_of (not_blank (param_names u.callee.sig.results ++ param_names (with_receiver rs r u.callee.sig.params))))) v.free ∙ names_turned n (param_names u.callee.sig.results) (param_names u.callee.sig.params)
 
-  lists : Listing Span
+  lists : Listing S
   lists = listing
 
   start_values : LocalValues K start_place.env start_place.bound
   start_values =
-      let here : LocalValues {S = Span} K top [] = record { each = λ n e. absurd (grind (arith, e)); block = λ n e. absurd (grind (arith, e)); home_is = refl } in
+      let here : LocalValues {S = S} K top [] = record { each = λ n e. absurd (grind (arith, e)); block = λ n e. absurd (grind (arith, e)); home_is = refl } in
       let within : LocalValues K begins (sig_declares u.callee.sig ++ []) = extended (sig_declares u.callee.sig) (literal_binds top u.callee.sig) (lists.after_heads top u.callee.sig) (head_values top u.callee.sig) here in
       let values : LocalValues K begins (sig_declares u.callee.sig) = subst (LocalValues K begins) (append_none (sig_declares u.callee.sig)) within in
       subst (λ (a : Env). LocalValues K a start_place.bound) (sym start_env) (record { each = λ n e. values.each n (sym (bound_alike n) ∙ e); block = λ n e. bound_alike n ∙ values.block n e; home_is = values.home_is })
@@ -118,7 +117,7 @@ module _ (same : Span → Span → Bool) (commented : ℕ → ℕ → Span → B
   -- ---- at the place of the call
 
   module _ (more : Environment Entity) (d : Here) (h : CalledBeside rs ms x more d) (y : PackagesServe rs ms x same commented marks u d) where
-    plain_parts : (xs : List (Seen Span)) → AllServed rs u.home (names_of_form same commented rs marks x u) d.env.names (names_of x.place.bound) xs → AllWithoutConstants xs
+    plain_parts : (xs : List (Seen S)) → AllServed rs u.home (names_of_form same commented rs marks x u) d.env.names (names_of x.place.bound) xs → AllWithoutConstants xs
     plain_parts [] k = tt
     plain_parts (seen p w e ∷ xs) k = (tt, plain_parts xs k.1)
     plain_parts (seen_type p t ∷ xs) k = (tt, plain_parts xs k.1)
@@ -139,11 +138,11 @@ module _ (same : Span → Span → Bool) (commented : ℕ → ℕ → Span → B
     nothing_meant : (n : List ℕ) → is_blank n ≡ true → meaning d.env n ≡ None
     nothing_meant n b = h.outer n (h.blank n b) ∙ (file_beside rs x.at more h.besides (world rs) (top_env rs x.at.number x.at.of x.at.source.tree).names (file_meant rs x.at l.there_stands)).blank n b
 
-    none_called : (e : Expr Span) → NamesCallee same commented rs marks x u v.name e → NoneInExpr e
+    none_called : (e : Expr S) → NamesCallee same commented rs marks x u v.name e → NoneInExpr e
     none_called _ (plainly same_package) = tt
     none_called _ (by_import f is_public) = tt
 
-    abbrev its_literal : Expr Span
+    abbrev its_literal : Expr S
     its_literal = literal same commented rs marks x u v more d
 
     called_absent : (n : List ℕ) → is_blank n ≡ true → is_among n (used d.env v.called) ≡ false
@@ -152,9 +151,9 @@ module _ (same : Span → Span → Bool) (commented : ℕ → ℕ → Span → B
     literal_absent : (n : List ℕ) → is_blank n ≡ true → is_among n (used d.env its_literal) ≡ false
     literal_absent n b = (expr_absent n b d.env (nothing_meant n b) its_literal none_there (a_function (meant same commented rs marks x u v ms l).type) (filled_operand same commented rs marks x u v ms l more d h y)).none
 
-    pub blank_alike : (e : Expr Span) → u.form ≡ as_expr e → BlankAlike d.env u.tree e
+    pub blank_alike : (e : Expr S) → u.form ≡ as_expr e → BlankAlike d.env u.tree e
     blank_alike e q n b =
-        ap (λ (t : Expr Span). is_among n (used d.env t)) v.tree_is
+        ap (λ (t : Expr S). is_among n (used d.env t)) v.tree_is
         ∙ among_append n (used d.env v.called) (used_all d.env v.args)
         ∙ ap (λ (c : Bool). c || is_among n (used_all d.env v.args)) (called_absent n b ∙ sym (literal_absent n b))
         ∙ sym (among_append n (used d.env its_literal) (used_all d.env v.args))

@@ -37,31 +37,31 @@ module _ {S : Type 0} (same : S → S → Bool) (x : Site S) (tree e : Expr S) (
     pub on : Once xs → Clear xs → Put bound R
 
 module _ {S : Type 0} (same : S → S → Bool) (z : S) where
-  without_front : (xs ys : List (Seen S)) → NoneAt same z (xs ++ ys) → NoneAt same z xs
+  pub without_front : (xs ys : List (Seen S)) → NoneAt same z (xs ++ ys) → NoneAt same z xs
   without_front [] ys a = tt
   without_front (y ∷ xs) ys a = (a.0, without_front xs ys a.1)
 
-  without_back : (xs ys : List (Seen S)) → NoneAt same z (xs ++ ys) → NoneAt same z ys
+  pub without_back : (xs ys : List (Seen S)) → NoneAt same z (xs ++ ys) → NoneAt same z ys
   without_back [] ys a = a
   without_back (y ∷ xs) ys a = without_back xs ys a.1
 
 module _ {S : Type 0} (same : S → S → Bool) (x : Site S) (lower : Type 0) where
-  clear_front : (xs ys : List (Seen S)) → AllClear same x lower (xs ++ ys) → AllClear same x lower xs
+  pub clear_front : (xs ys : List (Seen S)) → AllClear same x lower (xs ++ ys) → AllClear same x lower xs
   clear_front [] ys a = tt
   clear_front (y ∷ xs) ys a = (a.0, clear_front xs ys a.1)
 
-  clear_back : (xs ys : List (Seen S)) → AllClear same x lower (xs ++ ys) → AllClear same x lower ys
+  pub clear_back : (xs ys : List (Seen S)) → AllClear same x lower (xs ++ ys) → AllClear same x lower ys
   clear_back [] ys a = a
   clear_back (y ∷ xs) ys a = clear_back xs ys a.1
 
 -- ---- in front or behind
 
 module _ {S : Type 0} (same : S → S → Bool) (x : Site S) (tree : Expr S) where
-  data Parted (xs ys : List (Seen S)) : Type 0 where
+  pub data Parted (xs ys : List (Seen S)) : Type 0 where
     in_front : StandsOnce same x tree xs → NoneAt same (part_span x.part) ys → Parted xs ys
     in_back : NoneAt same (part_span x.part) xs → StandsOnce same x tree ys → Parted xs ys
 
-  parted : (xs ys : List (Seen S)) → StandsOnce same x tree (xs ++ ys) → Parted xs ys
+  pub parted : (xs ys : List (Seen S)) → StandsOnce same x tree (xs ++ ys) → Parted xs ys
   parted [] ys o = in_back tt o
   parted (y ∷ xs) ys (inl q) = in_front (inl (q.0, without_front same (part_span x.part) xs ys q.1)) (without_back same (part_span x.part) xs ys q.1)
   parted (y ∷ xs) ys (inr q) = go (parted xs ys q.1)

@@ -117,7 +117,7 @@ module _ {S : Type 0} (same : S → S → Bool) (x : Site S) (tree e : Expr S) (
 
   -- ---- the facts at the place of the use
 
-  facts_at : (d : Here) → SamePlace paths d x.place.env x.place.bound → (ar : List (List ℕ)) → ((n : List ℕ) → is_blank n ≡ false → is_among n ar ≡ true → is_among n around ≡ true) → SameOperand ar d.env tree e
+  pub facts_at : (d : Here) → SamePlace paths d x.place.env x.place.bound → (ar : List (List ℕ)) → ((n : List ℕ) → is_blank n ≡ false → is_among n ar ≡ true → is_among n around ≡ true) → SameOperand ar d.env tree e
   facts_at d m ar k =
       spread around d.env tree e calls form (subst (λ (v : Env). SameOperand around v tree e) (sym m.names) facts) (subst (λ (v : Env). BlankAlike v tree e) (sym m.names) blank) ar k
 
@@ -298,7 +298,7 @@ module _ {S : Type 0} (same : S → S → Bool) (x : Site S) (tree e : Expr S) (
   -- ---- the walk
 
   mutual
-    expr_put : (h : Here) (p : Place S) (u : Use) (y : Expr S) → Same h p → Are (expr_seen p u y) p.bound (λ k d. St k d h y (new_expr C p u y))
+    pub expr_put : (h : Here) (p : Place S) (u : Use) (y : Expr S) → Same h p → Are (expr_seen p u y) p.bound (λ k d. St k d h y (new_expr C p u y))
     expr_put h p u (ident s n) al = use_put h p u (ident s n) al
     expr_put h p u (int_lit s n) al = use_put h p u (int_lit s n) al
     expr_put h p u (rune_lit s n) al = use_put h p u (rune_lit s n) al

@@ -1,7 +1,6 @@
 -- A use of a function that becomes a literal, in the body of a function of well-typed packages: what steps_in_bodies asks of it.
 use Rattle.std.proofs.Common.{◌≡◌, refl, ap, ◌∙◌, subst, inl, inr, ℕ, Bool, true, false, List, [], ◌∷◌, Option, Some, None, is_some, arith}
 use Rattle.go_tree.specs.declared.exprs.Rest.TheVariants.{Plain}
-use Rattle.go_tree.specs.declared.spans.Span.{Span}
 use Rattle.go_tree.specs.File.{Func}
 use Rattle.go_tree.specs.Tree.{Expr, call, defer}
 use Rattle.go_tree.specs.ScopeNames.Scopes.{expr_span}
@@ -70,11 +69,11 @@ operand_there a (Some nil_name) k o e = e
 operand_there a (Some iota_name) k o e = absurd (grind (arith, ap is_some e))
 operand_there a (Some refused) k o e = e
 
-module _ (same : Span → Span → Bool) (itself : (s : Span) → same s s ≡ true) (commented : ℕ → ℕ → Span → Bool) (rs : List (Package Span)) (marks : List MarkRef) (x : Site Span) (u : LiteralUse same commented rs marks x) (v : PlainCall same commented rs marks x u) (ms : List (translated.Package Span)) (l : Linked rs ms x same commented marks u) (no_import : NeedsNoImport same commented rs marks x u) (r : StandsInBody same x rs u.tree ms) where
-  abbrev f : Func Span
+module _ {S : Type 0} (same : S → S → Bool) (itself : (s : S) → same s s ≡ true) (commented : ℕ → ℕ → S → Bool) (rs : List (Package S)) (marks : List MarkRef) (x : Site S) (u : LiteralUse same commented rs marks x) (v : PlainCall same commented rs marks x u) (ms : List (translated.Package S)) (l : Linked rs ms x same commented marks u) (no_import : NeedsNoImport same commented rs marks x u) (r : StandsInBody same x rs u.tree ms) where
+  abbrev f : Func S
   f = r.function
 
-  abbrev start : Place Span
+  abbrev start : Place S
   start = body_place rs x.at.number x.at.of x.at.source.tree f
 
   package_at : PackageAt (linked_at rs x.at r.named_at) r.nth (sources ms)
@@ -117,19 +116,19 @@ module _ (same : Span → Span → Bool) (itself : (s : Span) → same s s ≡ t
       behind_dot q n (Some p) e = function_there x.place.env (exported x.place.env.world p n) T e
       behind_dot q n None e = operand_there x.place.env (meaning x.place.env q) (λ o. with_value o (selected (defined_in x.place.env) x.place.env.home n (named_place (meaning x.place.env q)))) (a_function T) e
 
-      go : (e : Expr Span) → NamesCallee same commented rs marks x u v.name e → parts (outside x.place.env) e ≡ Some (a_function T) → parts x.place.env e ≡ Some (a_function T)
+      go : (e : Expr S) → NamesCallee same commented rs marks x u v.name e → parts (outside x.place.env) e ≡ Some (a_function T) → parts x.place.env e ≡ Some (a_function T)
       go _ (plainly same_package) e = function_there x.place.env (meaning x.place.env v.name) T e
       go _ (by_import {q = q} k is_public) e = behind_dot q v.name (package_of (meaning x.place.env q)) e
 
   -- ---- the use stands clear, outside constants
 
   there : is_at same (part_span x.part) (call v.span v.called v.args Plain) ≡ true
-  there = ap (λ (w : Part Span). is_at same (part_span w) (call v.span v.called v.args Plain)) u.part ∙ ap (λ (w : Expr Span). same (expr_span w) v.span) v.tree_is ∙ itself v.span
+  there = ap (λ (w : Part S). is_at same (part_span w) (call v.span v.called v.args Plain)) u.part ∙ ap (λ (w : Expr S). same (expr_span w) v.span) v.tree_is ∙ itself v.span
 
   once : StandsOnce same x (call v.span v.called v.args Plain) (stmts_seen start f.body)
-  once = subst (λ (t : Expr Span). StandsOnce same x t (stmts_seen start f.body)) v.tree_is r.once
+  once = subst (λ (t : Expr S). StandsOnce same x t (stmts_seen start f.body)) v.tree_is r.once
 
-  abbrev Fit : List (Seen Span) → Type 0
+  abbrev Fit : List (Seen S) → Type 0
   Fit ys = AllFit same x v.span v.called v.args Plain (meant same commented rs marks x u v ms l).type function_is there ys
 
   fits : Fit (stmts_seen start f.body)
@@ -137,7 +136,7 @@ module _ (same : Span → Span → Bool) (itself : (s : Span) → same s s ≡ t
       (stmts_fit same x v.span v.called v.args Plain (meant same commented rs marks x u v ms l).type function_is there {i = None} start (body_ctx f.sig typed_body.type) false f.body typed_body.ends refl typed_body.typed_so).run
       (once_told same x v.span v.called v.args Plain (meant same commented rs marks x u v ms l).type function_is there (stmts_seen start f.body) once r.outside) (inl refl)
 
-  outside_constants : (ys : List (Seen Span)) → StandsOnce same x (call v.span v.called v.args Plain) ys → Fit ys → x.place.env.iota ≡ None
+  outside_constants : (ys : List (Seen S)) → StandsOnce same x (call v.span v.called v.args Plain) ys → Fit ys → x.place.env.iota ≡ None
   outside_constants [] o a = absurd o
   outside_constants (y ∷ ys) (inl q) a = a.0.1 q.0
   outside_constants (y ∷ ys) (inr q) a = outside_constants ys q.1 a.1
@@ -150,13 +149,13 @@ module _ (same : Span → Span → Bool) (itself : (s : Span) → same s s ≡ t
   serve_there = packages_serve same commented rs marks x u v ms l no_import (use_here ms x) called_there
 
   module _ (lower : Type 0) (low : lower) where
-    part_lower : (y : Seen Span) → DefersLower same x lower y
+    part_lower : (y : Seen S) → DefersLower same x lower y
     part_lower (seen p w y) = tt
     part_lower (seen_type p t) = tt
     part_lower (seen_stmt p (defer s y)) = λ q. low
     part_lower (seen_stmt p y) = tt
 
-    all_clear : (ys : List (Seen Span)) → Fit ys → AllClear same x lower ys
+    all_clear : (ys : List (Seen S)) → Fit ys → AllClear same x lower ys
     all_clear [] a = tt
     all_clear (y ∷ ys) a = ((a.0.0, part_lower y), all_clear ys a.1)
 
@@ -165,7 +164,7 @@ module _ (same : Span → Span → Bool) (itself : (s : Span) → same s s ≡ t
 
   -- ---- the function around
 
-  abbrev pub in_function : (e : Expr Span) → StandsInFunction same rs x u.tree e Anywhere ms
+  abbrev pub in_function : (e : Expr S) → StandsInFunction same rs x u.tree e Anywhere ms
   in_function e =
       record {
         nth = r.nth;

@@ -1,0 +1,2 @@
+pub mod NoMethods
+pub mod Led

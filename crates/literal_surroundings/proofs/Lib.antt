@@ -1,0 +1,5 @@
+pub mod Kept
+pub mod Walk
+pub mod LiteralSteps
+pub mod CallText
+mod CallExample

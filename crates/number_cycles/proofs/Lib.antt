@@ -1,0 +1,4 @@
+pub mod Back
+pub mod Owned
+pub mod Closed
+pub mod Flags
