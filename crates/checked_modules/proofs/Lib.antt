@@ -1,5 +1,4 @@
 pub mod OneLemmas
-pub mod WalkedLemmas
 pub mod BodyLemmas
 pub mod UseLemmas
 pub mod PackageLemmas

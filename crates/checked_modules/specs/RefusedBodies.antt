@@ -1,4 +1,3 @@
 pub mod Functions
 pub mod Worlds
 pub mod Laws
-pub mod PrintedPackages

@@ -12,4 +12,4 @@ mod uses;
 
 pub use collected::{RefusedPlace, read_values_are_spelled};
 pub use function_bodies::read_bodies_are_walked;
-pub use modules::{first_refused, refused_declaration, refused_place};
+pub use modules::{refused_declaration, refused_place};

@@ -1,6 +1,6 @@
 //! The first place of a module that is refused.
 
-ghost use Rattle.std.specs.Prelude.{◌≡◌, ◌<◌, ◌^◌, length, true, IfOk};
+ghost use Rattle.std.specs.Prelude.{◌≡◌, ◌<◌, ◌^◌, length, IfOk};
 ghost use Rattle.go_tree.specs.GoTypes.WellTyped.{refused_place};
 ghost use Rattle.declared_types.specs.Steps.{KnowsPlaces};
 ghost use Rattle.package_blocks.specs.Collected.{AreOrdered};
@@ -9,7 +9,6 @@ ghost use Rattle.package_blocks.specs.FuncHeaders.Functions.{program_of};
 ghost use Rattle.operand_modes.specs.CheckerTables.Ready.{AreReady};
 ghost use Rattle.collected.specs.Declarations.{refusal_of, refused_declaration};
 ghost use Rattle.collected.specs.ValueHeaders.SpelledDecls.{PackagesAreSpelled};
-ghost use Rattle.checked_modules.specs.RefusedBodies.PrintedPackages.Packages.{print_only};
 ghost use Rattle.checked_modules.specs.FunctionBodies.Walked.{PackagesAreWalked};
 ghost use Rattle.checked_modules.specs.Modules.{AreKnown};
 
@@ -106,20 +105,4 @@ pub fn refused_place(
         alloc, packages, order, tables, &blocks, &places, &files, &headers, &refused,
     )?;
     Ok(first_of_packages(packages, order, &blocks, &bodies, declaration))
-}
-
-/// That place, of packages whose files hold besides imports only constants and functions that print them: their bodies
-/// are walked.
-pub fn first_refused(
-    alloc: Global,
-    packages: &[Package],
-    order: &[u32],
-) -> Result<Option<RefusedPlace>, NoMemory>
-    requires few { length packages.now < 2 ^ 32 }
-    requires order { AreOrdered packages.now order.now }
-    requires spelled { PackagesAreSpelled (views packages.now) }
-    requires prints { print_only (views packages.now) ≡ true }
-    ensures { IfOk result (λ o. refusal_of o ≡ refused_place (program_of packages.now)) }
-{
-    refused_place(alloc, packages, order)
 }

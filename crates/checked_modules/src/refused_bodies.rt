@@ -1,7 +1,5 @@
-//! Which body of a package is refused first, file by file (Go specification, Function declarations; Packages), and the
-//! packages whose functions only print.
+//! Which body of a package is refused first, file by file (Go specification, Function declarations; Packages).
 
 mod laws;
-pub mod printed_packages;
 
-pub use laws::{first_bodies_by_files, short_decimals_are_literals};
+pub use laws::first_bodies_by_files;

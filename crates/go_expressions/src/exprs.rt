@@ -57,6 +57,7 @@ pub fn expr_list<'a, F: Fn(Cursor) -> Taken>(place: Place<'a, '_, F>) -> Reading
         };
         items.push(e)?;
         let Terminal::Comma = after.first() else {
+            items.shrink_to_fit();
             return Ok(Some((items, after)));
         };
         left = after.rest();
@@ -94,6 +95,7 @@ pub(crate) fn call_args<'a, F: Fn(Cursor) -> Taken>(place: Place<'a, '_, F>) -> 
             let Some(end) = args_end(after) else {
                 return Ok(None);
             };
+            items.shrink_to_fit();
             let args = Args {
                 list: ExprList::of(items),
                 rest: end.rest,

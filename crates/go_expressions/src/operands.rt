@@ -213,6 +213,7 @@ fn elem_list<'a, F: Fn(Cursor) -> Taken>(place: Place<'a, '_, F>) -> Reading<'a,
     let mut left = place.at;
     loop {
         if let Terminal::EndBrace = left.first() {
+            items.shrink_to_fit();
             return Ok(Some((ElemList::of(items), left)));
         }
         let Some((item, after)) = elem(Place { at: left, ..place })? else {
@@ -220,6 +221,7 @@ fn elem_list<'a, F: Fn(Cursor) -> Taken>(place: Place<'a, '_, F>) -> Reading<'a,
         };
         items.push(item)?;
         let Terminal::Comma = after.first() else {
+            items.shrink_to_fit();
             return Ok(Some((ElemList::of(items), after)));
         };
         left = after.rest();

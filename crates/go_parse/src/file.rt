@@ -76,6 +76,7 @@ fn decls<'a>(tokens: Cursor<'a>) -> Result<(DeclList, Cursor<'a>), NoMemory>
     let mut left = tokens;
     'decls: loop {
         let Some((decl, next)) = whole_decl(left)? else {
+            list.shrink_to_fit();
             return Ok((DeclList::of(list), left));
         };
         list.push(decl)?;

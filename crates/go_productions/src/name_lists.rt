@@ -32,6 +32,7 @@ pub fn names<'a>(tokens: Cursor<'a>) -> Reading<'a, NameAtList>
         names.push(name(left)?)?;
         left = left.rest();
         let Terminal::Comma = left.first() else {
+            names.shrink_to_fit();
             return Ok(Some((NameAtList::of(names), left)));
         };
         left = left.rest();

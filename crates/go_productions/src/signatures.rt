@@ -49,8 +49,7 @@ fn results<'a>(tokens: Cursor<'a>) -> Reading<'a, ParamList>
             let Some((of, left)) = type_expr(tokens)? else {
                 return Ok(None);
             };
-            let mut results = Vec::new(tokens.room.alloc);
-            results.push(without_name(of))?;
+            let results = vec![in tokens.room.alloc; without_name(of)]?;
             Ok(Some((ParamList::of(results), left)))
         }
     }
@@ -116,10 +115,14 @@ fn param_list<'a>(tokens: Cursor<'a>, named: bool, variadic: bool) -> Reading<'a
         left = after.rest();
         match after.first() {
             Terminal::Comma => {}
-            Terminal::EndParen => return Ok(Some((ParamList::of(params), left))),
+            Terminal::EndParen => {
+                params.shrink_to_fit();
+                return Ok(Some((ParamList::of(params), left)));
+            }
             _ => return Ok(None),
         }
         if let Terminal::EndParen = left.first() {
+            params.shrink_to_fit();
             return Ok(Some((ParamList::of(params), left.rest())));
         }
         if ends {

@@ -182,6 +182,7 @@ fn field_list<'a>(tokens: Cursor<'a>) -> Reading<'a, FieldSpecList>
     let mut left = tokens;
     loop {
         if let Terminal::EndBrace = left.first() {
+            fields.shrink_to_fit();
             return Ok(Some((FieldSpecList::of(fields), left)));
         }
         let Some((more, after)) = shared_fields(fields, left)? else {

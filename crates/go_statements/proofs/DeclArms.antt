@@ -74,9 +74,9 @@ single_given c ts r x k f n a =
     single_is c ts k f n ∙ (asks span_to {X = Bool × ValueSpecs Span} {k = λ x r. give (false, spec (span_to ts r) x.0 x.1 x.2 no_specs) r} q.1 (gives span_to)).is
     ∙ ap (λ (y : (Span × List (NameAt Span) × Option (TypeExpr Span) × Exprs Span) × Lexemes). Some ((false, spec_and y.0 no_specs), y.1)) q.2
 
-pub single_some : (c : Bool) (ts r : Lexemes) (xs ys : List source.VarSpec) (x : source.VarSpec) (k : Terminal) → first_of ts ≡ k → k ≢ code.Paren → spec_at c ts ≡ Some (var_spec_of x, r) → xs ≡ [] → ys ≡ xs ++ x ∷ [] → at span_to (read_decl c) ts ≡ Some ((false, specs_from (map var_spec_of ys)), r)
-single_some c ts r xs ys x k f n a e p =
-    single_given c ts r (var_spec_of x) k f n a ∙ ap (λ (zs : List source.VarSpec). Some ((false, specs_from (map var_spec_of zs)), r)) (sym (p ∙ ap (λ (zs : List source.VarSpec). zs ++ x ∷ []) e))
+pub single_some : (c : Bool) (ts r : Lexemes) (xs : List source.VarSpec) (x : source.VarSpec) (k : Terminal) → first_of ts ≡ k → k ≢ code.Paren → spec_at c ts ≡ Some (var_spec_of x, r) → xs ≡ x ∷ [] → at span_to (read_decl c) ts ≡ Some ((false, specs_from (map var_spec_of xs)), r)
+single_some c ts r xs x k f n a e =
+    single_given c ts r (var_spec_of x) k f n a ∙ ap (λ (zs : List source.VarSpec). Some ((false, specs_from (map var_spec_of zs)), r)) (sym e)
 
 pub group_none : (c : Bool) (ts us : Lexemes) → first_of ts ≡ code.Paren → us ≡ rest_of ts → at span_to (read_specs c) us ≡ None → at span_to (read_decl c) ts ≡ None
 unfolding decl_step

@@ -38,6 +38,7 @@ pub(crate) fn if_stmt<'a, F: Fn(Cursor) -> Taken>(place: Place<'a, '_, F>) -> Re
         arms.push(arm)?;
         let Terminal::Else = after.first() else {
             let span = place.at.span_to(after);
+            arms.shrink_to_fit();
             return Ok(Some((go_tree::if_stmt(span, ArmList::of(arms), None), after)));
         };
         left = after.rest();
@@ -46,6 +47,7 @@ pub(crate) fn if_stmt<'a, F: Fn(Cursor) -> Taken>(place: Place<'a, '_, F>) -> Re
                 return Ok(None);
             };
             let span = place.at.span_to(left);
+            arms.shrink_to_fit();
             return Ok(Some((go_tree::if_stmt(span, ArmList::of(arms), Some(last)), left)));
         };
     }
@@ -296,6 +298,7 @@ fn case_list<'a, F: Fn(Cursor) -> Taken>(place: Place<'a, '_, F>) -> Reading<'a,
         items.push(item)?;
         left = after;
     }
+    items.shrink_to_fit();
     Ok(Some((CaseList::of(items), left)))
 }
 

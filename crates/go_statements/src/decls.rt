@@ -135,7 +135,7 @@ fn variables(span: Span, group: Group) -> VarDecl
 fn constants(alloc: Global, span: Span, group: Group) -> Result<ConstDecl, NoMemory>
     ensures { IfOk result (λ d. const_decl_of d ≡ const_decl span group.grouped (group_of group).1) }
 {
-    let mut items = Vec::new(alloc);
+    let mut items = Vec::with_capacity(alloc, group.specs.len())?;
     for spec in group.specs {
         items.push(const_spec(spec))?;
     }
@@ -165,8 +165,7 @@ fn decl<'a, F: Fn(Cursor) -> Taken>(place: Place<'a, '_, F>, constant: bool) -> 
         let Some((one, left)) = spec(place, constant)? else {
             return Ok(None);
         };
-        let mut specs = Vec::new(place.at.room.alloc);
-        specs.push(one)?;
+        let specs = vec![in place.at.room.alloc; one]?;
         let group = Group {
             grouped: false,
             specs,

@@ -98,6 +98,7 @@ fn listed<'a, F: Fn(Cursor) -> Taken>(place: Place<'a, '_, F>) -> Reading<'a, St
             _ => return Ok(None),
         }
     }
+    items.shrink_to_fit();
     Ok(Some((StmtList::of(items), left)))
 }
 

@@ -1,6 +1,7 @@
 use Rattle.std.proofs.Common.{◌≡◌, ◌<◌, ◌+◌, true, false, Some, length, map, refl, sym, ap, ◌∙◌, arith, rules}
 use Rattle.go_tree.specs.declared.spans.Span.{Span}
 use Rattle.go_tree.specs.declared.exprs.Rest.TheVariants.{Plain}
+use Rattle.go_tree.specs.Lists.{exprs_from}
 use Rattle.go_tree.specs.Tree.{Expr, Exprs, NameAt, binary, selector}
 use Rattle.go_tree.specs.View.{boxed_expr_option_of, expr_of, name_at_of}
 use Rattle.go_read.specs.Spells.{is_func_lit}
@@ -66,7 +67,7 @@ exprs::call_args-returns-in_default-first-clause-gives g t c =
     let closed : args_end r ≡ Some (w, vs) = search rules in
     args_last c.loop-items.items.items c.push.new.self.items c.in-Some.e ts r vs w c.first.result c.first-in-loop-items.result (ahead c.args.place.at) c.loop-items.invariant.0 c.in_ok-push.ensures.items
     c.first.ensures.is c.in_default.not-EndParen read c.first-in-loop-items.ensures.is c.in_default-first.not-Comma closed
-    ∙ ap (λ (xs : Exprs Span). Some ((xs, w), vs)) (sym c.of-in_default-first.ensures.made)
+    ∙ ap (λ (xs : Exprs Span). Some ((xs, w), vs)) (sym (c.of-in_default-first.ensures.made ∙ ap (λ xs. exprs_from (map expr_of xs)) c.shrink_to_fit.ensures.items))
 
 pub exprs::unary_expr-returns-clause-gives : goal.exprs::unary_expr-returns-clause-gives
 exprs::unary_expr-returns-clause-gives g t c =

@@ -14,7 +14,7 @@ use Rattle.go_parse.proofs.file.decls.Goals as goal
 
 pub returns-in_default-clause-gives : goal.returns-in_default-clause-gives
 returns-in_default-clause-gives c =
-    row_ends tops_row (map decl_of c.decls.list.items) (ahead c.decls.left) _ _ c.decls.invariant.read (rw c.in_default.is at c.in_ok-decl.ensures.gives) (ap (map decl_of) c.of.ensures)
+    row_ends tops_row (map decl_of c.decls.list.items) (ahead c.decls.left) _ _ c.decls.invariant.read (rw c.in_default.is at c.in_ok-decl.ensures.gives) (ap (map decl_of) (c.of.ensures ∙ c.shrink_to_fit.ensures.items))
 
 pub decls-preserved : goal.decls-preserved
 decls-preserved c =

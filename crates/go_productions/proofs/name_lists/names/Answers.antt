@@ -29,7 +29,7 @@ returns-in_default-first c = record {
       ∙ ap (λ (n : NameAt Span). Some (n ∷ [], us)) (sym c.in_ok-name.ensures) in
       front_last (λ x xs. x ∷ xs) name_at_of c.loop-names.names.items c.push.new.self.items c.in_ok-name.field-0 [] us (at span_to read_names (ahead c.loop-names.left)) (at span_to read_names (ahead c.args.tokens)) c.in_ok-push.ensures.items c.loop-names.invariant.0 read
       ∙ ap (λ (ns : List (NameAt Span)). Some (ns, us)) (onto_list (map name_at_of c.push.new.self.items))
-      ∙ ap (λ (ns : List source.NameAt). Some (map name_at_of ns, us)) (sym c.of.ensures);
+      ∙ ap (λ (ns : List source.NameAt). Some (map name_at_of ns, us)) (sym (c.of.ensures ∙ c.shrink_to_fit.ensures.items));
   shorter = search rules;
 }
 

@@ -1,5 +1,6 @@
-use Rattle.std.proofs.Common.{◌≡◌, ◌<◌, length, Some, map, sym, ap, ◌∙◌, arith, rules}
+use Rattle.std.proofs.Common.{◌≡◌, ◌<◌, List, length, Some, map, sym, ap, ◌∙◌, arith, rules}
 use Rattle.go_tree.specs.declared.spans.Span.{Span}
+use Rattle.go_tree.specs.declared.stmts.Arm as source_arm
 use Rattle.go_tree.specs.Lists.{arms_from}
 use Rattle.go_tree.specs.Tree.{Arms, Stmt, if_, some_block}
 use Rattle.go_tree.specs.View.{arm_of, arms_of, block_of, stmt_of}
@@ -26,7 +27,7 @@ returns-in_default-first-2 g c = record {
       let built : stmt_of c.if_stmt-in_default-first-2.result ≡ if_ (span_to ts q) (arms_from (map arm_of c.push.new.self.items)) (some_block b.0 b.1) =
       c.if_stmt-in_default-first-2.ensures
       ∙ ap (λ (s : Span). if_ s (arms_of c.of-in_default-first-2.result) (some_block b.0 b.1)) c.span_to-span-in_default-first-2.ensures
-      ∙ ap (λ (l : Arms Span). if_ (span_to ts q) l (some_block b.0 b.1)) c.of-in_default-first-2.ensures.made in
+      ∙ ap (λ (l : Arms Span). if_ (span_to ts q) l (some_block b.0 b.1)) (c.of-in_default-first-2.ensures.made ∙ ap (λ (xs : List source_arm.Arm). arms_from (map arm_of xs)) c.shrink_to_fit-in_default-first-2.ensures.items) in
       if_else c.loop-arms.arms.items c.push.new.self.items c.in-Some.arm ts us r vs q c.first-in-loop-arms.result b
       c.requires.begins c.loop-arms.invariant.0 c.in_ok-push.ensures.items one c.in-Else.ensures.is c.rest-left.ensures.is c.first-in-loop-arms.ensures.is c.in_default-first-2.not-If last
       ∙ ap (λ (x : Stmt Span). Some (x, q)) (sym built);
