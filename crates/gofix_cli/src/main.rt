@@ -2,9 +2,6 @@
 //! `//go:fix inline`, or tells why it doesn't.
 #![tactic(auto)]
 
-#[cfg(test)]
-mod logged;
-
 use fix_io::{RealSink, RealTree};
 use fix_run::{Status, gofix};
 use std::env;
